@@ -1,0 +1,6 @@
+-- Bytes and numbers, tables of fields, ordered checks, answers and promises: what every rule of document 01 is written with.
+pub mod Numbers
+pub mod Tables
+pub mod Checks
+pub mod Answers
+pub mod Sizes

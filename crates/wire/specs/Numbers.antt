@@ -1,0 +1,29 @@
+-- "All numbers are big-endian."
+use Prim.Native.Nat.{ℕ, zero, suc, _+_, _*_, _/_, _%_, _<_}
+use mathlib.Core.List.{List, [], _∷_, _++_}
+use lib.Dec.{leb}
+use lib.ListN.{length, getD}
+use Rattle.wire.specs.Checks.{pick}
+
+-- the number in the w bytes from p on, the highest first
+unfoldable pub num : ℕ → List ℕ → ℕ → ℕ
+num zero b p = 0
+num (suc w) b p = num w b p * 256 + getD b (p + w) 0
+
+-- the same where all w bytes are there, else 0: what a fetch answers for every place
+unfoldable pub fetched : ℕ → List ℕ → ℕ → ℕ
+fetched w b p = pick (leb (p + w) (length b)) (num w b p) 0
+
+-- n numbers of w bytes each, one after the other from p on
+abbrev pub nums : ℕ → List ℕ → ℕ → ℕ → List ℕ
+nums w b p zero = []
+nums w b p (suc n) = num w b p ∷ nums w b (p + w) n
+
+-- n as w bytes, the highest first
+abbrev pub be : ℕ → ℕ → List ℕ
+be zero n = []
+be (suc w) n = be w (n / 256) ++ (n % 256 ∷ [])
+
+-- every element is a byte
+abbrev pub Octets : List ℕ → Type 0
+Octets b = (i : ℕ) → getD b i 0 < 256

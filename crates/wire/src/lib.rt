@@ -1,0 +1,81 @@
+// Bytes and numbers: the counts of bytes and of halfwords, the fetch of a number, and the refusals by name.
+ghost use mathlib.Core.Path.{_≡_};
+ghost use Prim.Native.Nat.{_+_, _<_, _≤_};
+ghost use lib.ListN.{length};
+ghost use Rattle.wire.specs.Numbers.{num, fetched};
+ghost use Rattle.wire.specs.Sizes.{halved};
+
+pub mod refusal;
+
+// A count of bytes, and a count of halfwords. Neither is taken for the other: `halfwords` is the one way between them.
+pub struct Bytes(pub u32);
+
+pub struct Halfwords(pub u32);
+
+pub fn to_halfwords(size: Bytes) -> Halfwords
+    ensures { λ r. ⌜ r ≡ halved size ⌝ }
+{
+    Halfwords(size.0 / 2)
+}
+
+fn wide16(x: u8) -> u16
+    ensures { λ r. ⌜ (r ≡ x) × (r < 256) ⌝ }
+{
+    x as u16
+}
+
+fn wide32(x: u8) -> u32
+    ensures { λ r. ⌜ (r ≡ x) × (r < 256) ⌝ }
+{
+    x as u32
+}
+
+fn whole16(b: &[u8], at: usize) -> u16
+    requires { ⌜ at + 2 ≤ length (now b) ⌝ }
+    ensures { λ r. ⌜ r ≡ num 2 (now (b .entry)) at ⌝ }
+{
+    wide16(b[at]) * 256 + wide16(b[at + 1])
+}
+
+fn whole32(b: &[u8], at: usize) -> u32
+    requires { ⌜ at + 4 ≤ length (now b) ⌝ }
+    ensures { λ r. ⌜ r ≡ num 4 (now (b .entry)) at ⌝ }
+{
+    wide32(b[at]) * 16777216
+        + wide32(b[at + 1]) * 65536
+        + wide32(b[at + 2]) * 256
+        + wide32(b[at + 3])
+}
+
+// The byte at a place, or 0 where there is none.
+pub fn fetch8(b: &[u8], at: u32) -> u8
+    ensures { λ r. ⌜ r ≡ fetched 1 (now (b .entry)) at ⌝ }
+{
+    let place = at as usize;
+    if place + 1 <= b.len() {
+        return b[place];
+    }
+    0
+}
+
+// The 16-bit number at a place, or 0 where its two bytes are not both there.
+pub fn fetch16(b: &[u8], at: u32) -> u16
+    ensures { λ r. ⌜ r ≡ fetched 2 (now (b .entry)) at ⌝ }
+{
+    let place = at as usize;
+    if place + 2 <= b.len() {
+        return whole16(b, place);
+    }
+    0
+}
+
+// The 32-bit number at a place, or 0 where its four bytes are not all there.
+pub fn fetch32(b: &[u8], at: u32) -> u32
+    ensures { λ r. ⌜ r ≡ fetched 4 (now (b .entry)) at ⌝ }
+{
+    let place = at as usize;
+    if place + 4 <= b.len() {
+        return whole32(b, place);
+    }
+    0
+}
