@@ -5,7 +5,7 @@ use mathlib.Core.Bool.{Bool, true, false}
 use mathlib.Core.Option.{Option, none, some}
 use mathlib.Core.List.{List, [], _∷_, _++_}
 use native.Mathlib.Omega.{arith}
-use Rattle.wire.specs.Checks.{pick, Check, first, decide, someBroken, AllHold}
+use Rattle.wire.specs.Checks.{pick, either, Check, first, decide, someBroken, AllHold}
 
 -- zero is not one, so anything follows: for two constructors that cannot meet, by `never (cc e)`
 pub never {ℓ} : {A : Type ℓ} → _≡_ {A = ℕ} 0 1 → A
@@ -13,6 +13,10 @@ never e = absurd (no-way e)
   where
     no-way : _≡_ {A = ℕ} 0 1 → ⊥
     no-way p = omega (arith, p)
+
+pub either-false : (t : Bool) → either t false ≡ t
+either-false true = refl
+either-false false = refl
 
 abbrev answered {ℓ} : {X : Type ℓ} → Option ℕ → (ℕ → X) → X → X
 answered none refused accepted = accepted

@@ -1,5 +1,7 @@
 -- The laws that every crate above cites.
+pub mod ListLaws
 pub mod NumberLaws
 pub mod TableLaws
+pub mod FiniteLaws
 pub mod CheckLaws
 pub mod AnswerLaws

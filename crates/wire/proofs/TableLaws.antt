@@ -35,6 +35,10 @@ spells (f ∷ fs) b p fit h =
     in
     (n, spells fs b (p + f .wide) (fit .1) (ap (λ (x : List ℕ). take (length r) x) d ∙ take-append-seam r t))
 
+-- the same of a table that begins what is read
+pub reads-back : (fs : List Field) (rest : List ℕ) → Fit fs → Spells (render fs ++ rest) 0 fs
+reads-back fs rest fit = spells fs (render fs ++ rest) 0 fit (take-append-seam (render fs) rest)
+
 -- and what is read, rendered, is what stood there
 pub spelt : (fs : List Field) (b : List ℕ) (p : ℕ) → Octets b → p + total fs ≤ length b → Spells b p fs → Holds b p (render fs)
 spelt [] b p o h s = refl

@@ -1,0 +1,3 @@
+-- What the crates above cite of frames.
+pub mod StreamLaws
+pub mod OneAnswer

@@ -1,0 +1,72 @@
+// The session frame: a stream is read from a place in a lent buffer.
+ghost use mathlib.Core.Path.{_≡_};
+ghost use Prim.Native.Nat.{_+_, _^_, _<_};
+ghost use lib.ListN.{length};
+ghost use Rattle.wire.specs.Answers.{Answer, refused, given, rule};
+ghost use Rattle.frame.specs.Session.{Stream, frame, frameChecks, frameIn, frameAt};
+ghost use Rattle.frame.specs.Promises.{tellFrame};
+use wire::Bytes;
+use wire::refusal;
+
+// A frame as it stands in the buffer: its body begins at `start`, the next frame at `next`.
+pub struct Frame {
+    pub kind: u32,
+    pub second: u32,
+    pub start: usize,
+    pub size: Bytes,
+    pub next: usize,
+}
+
+pub enum FrameAnswer {
+    End,
+    Read(Frame),
+    Refused(u8),
+}
+
+const HEAD: usize = 12;
+
+const LAST_KIND: u32 = 4;
+
+const SESSION_LIMIT: u32 = 131068;
+
+// What stands at a place of the stream. The place stays the caller's: a refused read leaves it where it was.
+pub fn frame_at(stream: &[u8], place: usize) -> FrameAnswer
+    ensures { λ r. ⌜ tellFrame r ≡ frameAt (now (stream .entry)) place ⌝ }
+{
+    if place == stream.len() {
+        return FrameAnswer::End;
+    }
+    if stream.len() < place {
+        return FrameAnswer::Refused(refusal::FRAME_CUT_OFF);
+    }
+    frame_in(&stream[place..], place)
+}
+
+fn frame_in(rest: &[u8], place: usize) -> FrameAnswer
+    requires { ⌜ place + length (now rest) < 2 ^ 63 ⌝ }
+    ensures { λ r. ⌜ tellFrame r ≡ rule (frameChecks (now (rest .entry))) (frame (frameIn (now (rest .entry)) place)) ⌝ }
+{
+    if rest.len() < HEAD {
+        return FrameAnswer::Refused(refusal::FRAME_CUT_OFF);
+    }
+    let kind = wire::fetch32(rest, 0);
+    if LAST_KIND < kind {
+        return FrameAnswer::Refused(refusal::SESSION_KIND);
+    }
+    let size = wire::fetch32(rest, 8);
+    if SESSION_LIMIT < size {
+        return FrameAnswer::Refused(refusal::SESSION_BODY);
+    }
+    let whole = HEAD + size as usize;
+    if rest.len() < whole {
+        return FrameAnswer::Refused(refusal::FRAME_CUT_OFF);
+    }
+    let second = wire::fetch32(rest, 4);
+    FrameAnswer::Read(Frame {
+        kind,
+        second,
+        start: place + HEAD,
+        size: Bytes(size),
+        next: place + whole,
+    })
+}

@@ -1,0 +1,3 @@
+-- What the crates above cite of headers.
+pub mod HeaderLaws
+pub mod OneAnswer

@@ -1,0 +1,18 @@
+use Rattle.wire.proofs.CheckLaws.{either-false}
+use borrow.Author.Tests.{lt-ltb, le-ltb}
+use borrow.Author.Needs.{needs}
+use Rattle.message.proofs.breaks_time.Statement.{statement}
+use Rattle.message.proofs.breaks_time.Tie as tie
+use Rattle.message.proofs.breaks_time.Reads as reads
+use Rattle.message.proofs.breaks_time.Lts as lts
+
+-- src/lib.rt:143:9
+returns : tie.Need-returns
+returns c = simp (lt-ltb _ _ (c .if1 .taken))
+
+-- src/lib.rt:139:1
+returns-2 : tie.Need-returns-2
+returns-2 c = simp (le-ltb _ _ (c .if1 .left), either-false)
+
+pub breaks-time-spec : {M : Type 1} → statement M
+breaks-time-spec = tie.close (tie.spec returns returns-2)

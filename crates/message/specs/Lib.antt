@@ -1,0 +1,3 @@
+-- The message header of document 01.
+pub mod Header
+pub mod Promises
