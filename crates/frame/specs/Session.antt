@@ -1,5 +1,6 @@
 -- "The session frame": what stands before each body, what is checked of it, and what a stream answers at a place.
 use Prim.Native.Nat.{ℕ, _+_}
+use mathlib.Core.Bool.{Bool}
 use mathlib.Core.List.{List, [], _∷_}
 use lib.Dec.{ltb, eqb}
 use lib.ListN.{length, take, drop}
@@ -46,14 +47,25 @@ bodyIn rest = take (sizeIn rest .0) (drop headSize rest)
 abbrev pub after : List ℕ → List ℕ
 after rest = drop (headSize + sizeIn rest .0) rest
 
+-- 1: "fewer than 12 bytes left"
+abbrev pub headCut : List ℕ → Bool
+headCut rest = ltb (length rest) headSize
+
+-- 2: "session kind above 4"
+abbrev pub kindUnknown : List ℕ → Bool
+kindUnknown rest = ltb lastKind (kindIn rest)
+
+-- 3: "session body above 131,068"
+abbrev pub bodyTooLong : List ℕ → Bool
+bodyTooLong rest = ltb (sessionLimit .0) (sizeIn rest .0)
+
+-- 1: "or frame body runs past the buffer"
+abbrev pub bodyCut : List ℕ → Bool
+bodyCut rest = ltb (length rest) (headSize + sizeIn rest .0)
+
 -- "Frame: 1 (header), 2, 3, 1 (body)."
 abbrev pub frameChecks : List ℕ → List Check
-frameChecks rest =
-    check 1 (ltb (length rest) headSize)
-    ∷ check 2 (ltb lastKind (kindIn rest))
-    ∷ check 3 (ltb (sessionLimit .0) (sizeIn rest .0))
-    ∷ check 1 (ltb (length rest) (headSize + sizeIn rest .0))
-    ∷ []
+frameChecks rest = check 1 (headCut rest) ∷ check 2 (kindUnknown rest) ∷ check 3 (bodyTooLong rest) ∷ check 1 (bodyCut rest) ∷ []
 
 -- what a stream says at a place: that it ends there, or the frame that begins there
 pub data Stream : Type 0 where

@@ -1,0 +1,5 @@
+# The commands of README.md.
+.PHONY: test
+
+test:
+	bash .ci/run

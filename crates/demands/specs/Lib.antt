@@ -1,0 +1,2 @@
+-- The demands of the order, and document 01's starred cases, stated over the definitions that the contracts cite.
+pub mod Cases

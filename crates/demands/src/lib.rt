@@ -1,0 +1,1 @@
+// No code: what the library promises as a whole, as theorems over the crates below.
