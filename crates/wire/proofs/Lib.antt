@@ -5,3 +5,4 @@ pub mod TableLaws
 pub mod FiniteLaws
 pub mod CheckLaws
 pub mod AnswerLaws
+pub mod FloatLaws

@@ -2,6 +2,7 @@
 ghost use mathlib.Core.Path.{_≡_};
 ghost use Prim.Native.Nat.{_+_, _<_, _≤_};
 ghost use lib.ListN.{length};
+ghost use lib.Ieee.{binary32, ofBits};
 ghost use Rattle.wire.specs.Numbers.{num, fetched};
 ghost use Rattle.wire.specs.Sizes.{halved};
 
@@ -78,4 +79,20 @@ pub fn fetch32(b: &[u8], at: u32) -> u32
         return whole32(b, place);
     }
     0
+}
+
+// An infinity's 32 bits without the sign; above them lie the patterns of NaN. The sign's weight.
+pub const INFINITE: u32 = 2139095040;
+
+pub const SIGN: u32 = 2147483648;
+
+// The float of 32 bits, for every pattern: those of NaN are all the one NaN.
+pub fn float_of(bits: u32) -> f32
+    ensures { λ r. ⌜ r ≡ ofBits binary32 bits ⌝ }
+{
+    if bits % SIGN <= INFINITE {
+        f32::from_bits(bits)
+    } else {
+        0.0f32 / 0.0f32
+    }
 }
