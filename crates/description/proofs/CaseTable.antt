@@ -1,0 +1,9 @@
+-- The starred cases, by computation of the rule. Assumes nothing.
+use mathlib.Core.Path.{_≡_, refl}
+use Rattle.wire.specs.Numbers.{num}
+use Rattle.description.specs.Refusal.{radialOf}
+use Rattle.description.specs.Cases.{Starred}
+
+pub starred : Starred
+unfolding radialOf num
+starred = (refl, (refl, (refl, (refl, (refl, tt)))))
