@@ -1,2 +1,5 @@
 -- The theorems of demand 3 with their laws, and the starred cases.
+pub mod Runs
+pub mod Pieces
+pub mod Blocks
 pub mod CaseTable
