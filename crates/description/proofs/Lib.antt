@@ -2,4 +2,5 @@
 pub mod Runs
 pub mod Pieces
 pub mod Blocks
+pub mod Accepted
 pub mod CaseTable
