@@ -3,4 +3,5 @@ pub mod Runs
 pub mod Pieces
 pub mod Blocks
 pub mod Accepted
+pub mod Naming
 pub mod CaseTable

@@ -26,9 +26,12 @@ InBlocks [] i = ⊥
 InBlocks (k ∷ ks) i = ((k .place ≤ i) × (i < k .place + k .size)) ⊎ InBlocks ks i
 
 -- "header bytes 0-31 but not 17, the used pointers, and every byte of every block"
+abbrev pub Listed : Description → ℕ → Type 0
+Listed d i = ((i ≤ 31) × (i ≢ 17)) ⊎ (((32 ≤ i) × (i < 32 + 4 * blockCount d)) ⊎ InBlocks (blocks d) i)
+
+-- these are named, and "nothing else"
 abbrev pub NamedExactly : Type 0
-NamedExactly = (d : Description) (i : ℕ) → Named d i
-    ↔ (((i ≤ 31) × (i ≢ 17)) ⊎ (((32 ≤ i) × (i < 32 + 4 * blockCount d)) ⊎ InBlocks (blocks d) i))
+NamedExactly = (d : Description) (i : ℕ) → Named d i ↔ Listed d i
 
 -- ---- two bodies give the same answers
 pub record SameAnswers (b b′ : List ℕ) : Type 0 where
