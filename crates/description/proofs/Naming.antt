@@ -16,7 +16,7 @@ use Rattle.wire.proofs.CheckLaws.{never}
 use Rattle.wire.proofs.TableLaws.{render-length}
 use Rattle.wire.proofs.AnswerLaws.{rule-given}
 use Rattle.description.specs.Description.{
-  RVOL, RELV, RRAD, momentHead, Piece, Block, Moment, Description, blockCount, gates, wordBytes, gateBytes, momentSize, momentPieces, pieces, InPieces,
+  constants, RVOL, RELV, RRAD, momentHead, Piece, Block, Moment, Description, blockCount, gates, wordBytes, gateBytes, momentSize, momentPieces, pieces, InPieces,
   Named, AllStand, Agrees, Layout
 }
 use Rattle.description.specs.Refusal.{pointer, part, momentAt, momentsAt, countIn, description, radialChecks, radialOf}
@@ -124,3 +124,36 @@ unnamed b b′ d o e given-d same =
       (same-bytes b b′ (g .value .place + momentHead) (gateBytes (g .value)) e
       (λ i lo hi. same i (inr (inr (inr (inr (inr (inr (found-named name (d .moments) (g .value) (rw x at (r .gave)) i (omega arith) (omega arith)))))))))); 
     }
+
+-- ---- a moment that is found was read at its place
+record ReadAt (b : List ℕ) (m : Moment) : Type 0 where
+  at : ℕ
+  reads : momentAt at (drop at b) ≡ m
+
+found-read : (b : List ℕ) (name q n : ℕ) (m : Moment) → momentNamed name (momentsAt b q n) ≡ given m → ReadAt b m
+found-read b name q zero m e = never (cc e)
+found-read b name q (suc n) m e = go (eqb (momentAt (pointer b q) (part b q) .name) name) e (λ k. found-read b name (q + 4) n m k)
+  where
+    go : (t : Bool) → pick t (given (momentAt (pointer b q) (part b q))) (momentNamed name (momentsAt b (q + 4) n)) ≡ given m
+        → (momentNamed name (momentsAt b (q + 4) n) ≡ given m → ReadAt b m) → ReadAt b m
+    go true k later = record { at = pointer b q; reads = cc k }
+    go false k later = later k
+
+-- code i of what is read at p
+read-code : (p : ℕ) (l : List ℕ) (i : ℕ) → i < gates (momentAt p l)
+    → getD (momentAt p l .codes) i 0 ≡ num (wordBytes (momentAt p l)) l (28 + i * wordBytes (momentAt p l))
+read-code p l i h =
+    nums-at (num 1 l 19 / 8) l 28 (num 2 l 8) i (omega (arith, h, nums-length (num 1 l 19 / 8) l 28 (num 2 l 8)))
+
+pub code-at : CodeAt
+unfolding momentOf radialOf
+code-at b name m i e h =
+    let r = onward-given (radialOf b) (λ x. momentNamed name (x .moments)) m e in
+    let d : description b ≡ r .value = rule-given (radialChecks b) (description b) (r .value) (r .was) .1 in
+    let f : momentNamed name (momentsAt b 44 (countIn b - constants)) ≡ given m =
+    ap (λ (x : Description). momentNamed name (x .moments)) d ∙ r .gave
+    in
+    let w = found-read b name 44 (countIn b - constants) m f in
+    subst
+    (λ (x : Moment). i < gates x → getD (x .codes) i 0 ≡ num (wordBytes x) (drop (x .place) b) (28 + i * wordBytes x)) (w .reads)
+    (λ k. read-code (w .at) (drop (w .at) b) i k) h
