@@ -15,20 +15,84 @@ use Rattle.wire.specs.Answers.{refused, given}
 use Rattle.wire.proofs.CheckLaws.{all-hold, none-broken, decide-none}
 use Rattle.wire.proofs.AnswerLaws.{rule-given}
 use Rattle.description.specs.Description.{
-  headerSize, constants, fewestBlocks, mostBlocks, firstPlace, RVOL, RELV, RRAD, volumeLeast, elevationLeast, radialLeast, constantHead, momentHead,
-  Block, Moment, Description, blockCount, wordBytes, blockSize, momentSize, blockFields, momentFields, momentPlaces, momentPieces, pieces, Agrees,
-  BlockLies, MomentLies, MomentsLie, Layout, blockEnd, momentEnd
+  headerSize,
+  constants,
+  fewestBlocks,
+  mostBlocks,
+  firstPlace,
+  RVOL,
+  RELV,
+  RRAD,
+  volumeLeast,
+  elevationLeast,
+  radialLeast,
+  constantHead,
+  momentHead,
+  Block,
+  Moment,
+  Description,
+  blockCount,
+  wordBytes,
+  blockSize,
+  momentSize,
+  blockFields,
+  momentFields,
+  momentPlaces,
+  momentPieces,
+  pieces,
+  Agrees,
+  BlockLies,
+  MomentLies,
+  MomentsLie,
+  Layout,
+  blockEnd,
+  momentEnd,
 }
 use Rattle.description.specs.Refusal.{
-  sizeIn, countIn, pointer, part, nameIn, blockAt, momentAt, momentsAt, description, blockSays, momentSays, headerChecks, blockChecks, momentChecks,
-  momentsChecks, constantChecks, endAt, constantsChecks, radialChecks, radialOf
+  sizeIn,
+  countIn,
+  pointer,
+  part,
+  nameIn,
+  blockAt,
+  momentAt,
+  momentsAt,
+  description,
+  blockSays,
+  momentSays,
+  headerChecks,
+  blockChecks,
+  momentChecks,
+  momentsChecks,
+  constantChecks,
+  endAt,
+  constantsChecks,
+  radialChecks,
+  radialOf,
 }
 use Rattle.description.specs.Demand3.{Exactly, Unique}
 use Rattle.description.proofs.Runs.{total-run}
 use Rattle.description.proofs.Pieces.{AllSpell, AllWithin, all-spell, all-stand, all-fit}
 use Rattle.description.proofs.Blocks.{
-  BlockReads, block-reads, block-holds, block-size, block-lies, block-spelt, block-end, block-is, block-read, MomentReads, moment-reads, moment-holds,
-  moment-size, moment-lies, moment-spelt, moment-name, moment-end, moment-is, moment-read
+  BlockReads,
+  block-reads,
+  block-holds,
+  block-size,
+  block-lies,
+  block-spelt,
+  block-end,
+  block-is,
+  block-read,
+  MomentReads,
+  moment-reads,
+  moment-holds,
+  moment-size,
+  moment-lies,
+  moment-spelt,
+  moment-name,
+  moment-end,
+  moment-is,
+  moment-read,
 }
 
 -- ---- read: the moments
@@ -73,12 +137,25 @@ pieces-within : (n : ℕ) (d : Description) → Layout n d → AllWithin n (piec
 pieces-within n d lay =
     let block : (name from least : ℕ) (k : Block) → BlockLies from least (d .size) k → k .place + total (blockFields name k) ≤ n =
     λ name from least k lies. omega (arith, block-total name k, lies .within, lay .most)
-    in
-    (omega (arith, lay .least, lay .most), (omega (arith, lay .least, lay .most),
-    (omega (arith, lay .least, lay .most, lay .few, places-total (d .moments)),
-    (block RVOL _ _ (d .volumeBlock) (lay .volume), (block RELV _ _ (d .elevationBlock) (lay .elevation),
-    (block RRAD _ _ (d .radialBlock) (lay .radial),
-    moments-within n (d .size) (blockEnd (d .radialBlock)) [] (d .moments) (lay .most) (lay .momentsLie)))))))
+    in (
+      omega (arith, lay .least, lay .most),
+      (
+        omega (arith, lay .least, lay .most),
+        (
+          omega (arith, lay .least, lay .most, lay .few, places-total (d .moments)),
+          (
+            block RVOL _ _ (d .volumeBlock) (lay .volume),
+            (
+              block RELV _ _ (d .elevationBlock) (lay .elevation),
+              (
+                block RRAD _ _ (d .radialBlock) (lay .radial),
+                moments-within n (d .size) (blockEnd (d .radialBlock)) [] (d .moments) (lay .most) (lay .momentsLie),
+              ),
+            ),
+          ),
+        ),
+      ),
+    )
 
 -- ---- read: every check holds, so what is read has the layout of a radial and agrees
 sound : (b : List ℕ) → Octets b → AllHold (radialChecks b) → Layout (length b) (description b) × Agrees b (description b)
@@ -98,14 +175,25 @@ sound b o h =
     let v-size : blockSize (d .volumeBlock) ≡ blockSays (part b 32) = block-size (pointer b 32) (part b 32) (omega (arith, v .0 .enough)) in
     let e-size : blockSize (d .elevationBlock) ≡ blockSays (part b 36) = block-size (pointer b 36) (part b 36) (omega (arith, e .0 .enough)) in
     let r-size : blockSize (d .radialBlock) ≡ blockSays (part b 40) = block-size (pointer b 40) (part b 40) (omega (arith, r .0 .enough)) in
-    let spelt : AllSpell b (pieces d) =
-    ((refl, (refl, (refl, (refl, (refl, (eqb-true (num 1 b 16) 0 (not-false _ (h .1 .0)), tt)))))),
-    ((refl, (refl, (refl, (refl, (refl, (refl, (refl, (refl, (counted, tt))))))))),
-    ((refl, (refl, (refl, places-spelt b 44 (countIn b - constants)))),
-    (block-spelt b z (firstPlace (countIn b)) (pointer b 32) RVOL volumeLeast (omega arith) (v .0),
-    (block-spelt b z (endAt b 32) (pointer b 36) RELV elevationLeast (omega arith) (e .0),
-    (block-spelt b z (endAt b 36) (pointer b 40) RRAD radialLeast (omega arith) (r .0),
-    moments-spelt b 44 (countIn b - constants)))))))
+    let spelt : AllSpell b (pieces d) = (
+      (refl, (refl, (refl, (refl, (refl, (eqb-true (num 1 b 16) 0 (not-false _ (h .1 .0)), tt)))))),
+      (
+        (refl, (refl, (refl, (refl, (refl, (refl, (refl, (refl, (counted, tt))))))))),
+        (
+          (refl, (refl, (refl, places-spelt b 44 (countIn b - constants)))),
+          (
+            block-spelt b z (firstPlace (countIn b)) (pointer b 32) RVOL volumeLeast (omega arith) (v .0),
+            (
+              block-spelt b z (endAt b 32) (pointer b 36) RELV elevationLeast (omega arith) (e .0),
+              (
+                block-spelt b z (endAt b 36) (pointer b 40) RRAD radialLeast (omega arith) (r .0),
+                moments-spelt b 44 (countIn b - constants),
+              ),
+            ),
+          ),
+        ),
+      ),
+    )
     in
     let lay : Layout (length b) d =
     record {
@@ -208,13 +296,22 @@ complete b d lay s =
     in
     let volume : AllHold (constantChecks b (firstPlace (countIn b)) 32 RVOL volumeLeast afterVolume) =
     constant-holds b 32 RVOL (d .volumeBlock) (p .0) v (firstPlace (countIn b)) volumeLeast afterVolume (rw size (lay .volume)) elevation
-    in
-    (le-ltb (length b) headerSize (omega (arith, lay .least, lay .most)),
-    (ap not (eq-eqb (num 1 b 16) 0 (s .0 .1 .1 .1 .1 .1 .0)),
-    (le-ltb (sizeIn b) headerSize (rw size (lay .least)),
-    (le-ltb (length b) (sizeIn b) (rw size (lay .most)),
-    (le-ltb (countIn b) fewestBlocks (rw counted (lay .some)),
-    (le-ltb mostBlocks (countIn b) (rw counted (lay .few)), volume))))))
+    in (
+      le-ltb (length b) headerSize (omega (arith, lay .least, lay .most)),
+      (
+        ap not (eq-eqb (num 1 b 16) 0 (s .0 .1 .1 .1 .1 .1 .0)),
+        (
+          le-ltb (sizeIn b) headerSize (rw size (lay .least)),
+          (
+            le-ltb (length b) (sizeIn b) (rw size (lay .most)),
+            (
+              le-ltb (countIn b) fewestBlocks (rw counted (lay .some)),
+              (le-ltb mostBlocks (countIn b) (rw counted (lay .few)), volume),
+            ),
+          ),
+        ),
+      ),
+    )
 
 -- a description that fits and agrees is what is read
 pub accepted : (b : List ℕ) (d : Description) → Layout (length b) d → Agrees b d → radialOf b ≡ given d

@@ -11,12 +11,38 @@ use Rattle.wire.specs.Numbers.{num, nums}
 use Rattle.wire.specs.Checks.{Check, among, AllHold}
 use Rattle.wire.specs.Tables.{field, total, Spells}
 use Rattle.description.specs.Description.{
-  permitted, mostGates, wordSizes, constantHead, momentHead, Block, Moment, gates, wordBytes, blockSize, momentSize, blockFields, momentFields, Member,
-  Absent, BlockLies, MomentLies, blockEnd, momentEnd
+  permitted,
+  mostGates,
+  wordSizes,
+  constantHead,
+  momentHead,
+  Block,
+  Moment,
+  gates,
+  wordBytes,
+  blockSize,
+  momentSize,
+  blockFields,
+  momentFields,
+  Member,
+  Absent,
+  BlockLies,
+  MomentLies,
+  blockEnd,
+  momentEnd,
 }
 use Rattle.description.specs.Refusal.{nameIn, blockAt, momentAt, blockSays, momentSays, blockChecks, momentChecks}
 use Rattle.description.proofs.Runs.{
-  nums-length, nums-spell, spell-nums, total-run, part-spells, part-spelt, among-member, member-among, among-absent, absent-among
+  nums-length,
+  nums-spell,
+  spell-nums,
+  total-run,
+  part-spells,
+  part-spelt,
+  among-member,
+  member-among,
+  among-absent,
+  absent-among,
 }
 
 -- ---- a constant block
@@ -30,20 +56,29 @@ pub record BlockReads (z from p : ℕ) (l : List ℕ) (name least : ℕ) : Type 
 
 pub block-reads : (q z from p : ℕ) (l : List ℕ) (name least : ℕ) (rest : List Check) → AllHold (blockChecks q z from p l name least rest)
     → BlockReads z from p l name least × AllHold rest
-block-reads q z from p l name least rest h =
-    (record {
-      after = ltb-false p from (h .0);
-      room = ltb-false z (p + constantHead) (h .1 .0);
-      named = eqb-true (nameIn l) name (not-false _ (h .1 .1 .0));
-      enough = ltb-false (blockSays l) least (h .1 .1 .1 .0);
-      within = ltb-false z (p + blockSays l) (h .1 .1 .1 .1 .0);
-    }, h .1 .1 .1 .1 .1)
+block-reads q z from p l name least rest h = (
+  record {
+    after = ltb-false p from (h .0);
+    room = ltb-false z (p + constantHead) (h .1 .0);
+    named = eqb-true (nameIn l) name (not-false _ (h .1 .1 .0));
+    enough = ltb-false (blockSays l) least (h .1 .1 .1 .0);
+    within = ltb-false z (p + blockSays l) (h .1 .1 .1 .1 .0);
+  },
+  h .1 .1 .1 .1 .1,
+)
 
 pub block-holds : (q z from p : ℕ) (l : List ℕ) (name least : ℕ) (rest : List Check) → BlockReads z from p l name least → AllHold rest
     → AllHold (blockChecks q z from p l name least rest)
-block-holds q z from p l name least rest r h =
-    (le-ltb p from (r .after), (le-ltb z (p + constantHead) (r .room), (ap not (eq-eqb (nameIn l) name (r .named)),
-    (le-ltb (blockSays l) least (r .enough), (le-ltb z (p + blockSays l) (r .within), h)))))
+block-holds q z from p l name least rest r h = (
+  le-ltb p from (r .after),
+  (
+    le-ltb z (p + constantHead) (r .room),
+    (
+      ap not (eq-eqb (nameIn l) name (r .named)),
+      (le-ltb (blockSays l) least (r .enough), (le-ltb z (p + blockSays l) (r .within), h)),
+    ),
+  ),
+)
 
 -- what is read of it has the length that it says
 pub block-size : (p : ℕ) (l : List ℕ) → constantHead ≤ blockSays l → blockSize (blockAt p l) ≡ blockSays l
@@ -100,23 +135,37 @@ pub record MomentReads (z from p : ℕ) (l seen : List ℕ) : Type 0 where
 
 pub moment-reads : (q z from p : ℕ) (l seen : List ℕ) (rest : List Check) → AllHold (momentChecks q z from p l seen rest)
     → MomentReads z from p l seen × AllHold rest
-moment-reads q z from p l seen rest h =
-    (record {
-      after = ltb-false p from (h .0);
-      room = ltb-false z (p + momentHead) (h .1 .0);
-      known = among-member (nameIn l) permitted (not-false _ (h .1 .1 .0));
-      once = among-absent (nameIn l) seen (h .1 .1 .1 .0);
-      few = ltb-false mostGates (num 2 l 8) (h .1 .1 .1 .1 .0);
-      words = among-member (num 1 l 19) wordSizes (not-false _ (h .1 .1 .1 .1 .1 .0));
-      within = ltb-false z (p + momentSays l) (h .1 .1 .1 .1 .1 .1 .0);
-    }, h .1 .1 .1 .1 .1 .1 .1)
+moment-reads q z from p l seen rest h = (
+  record {
+    after = ltb-false p from (h .0);
+    room = ltb-false z (p + momentHead) (h .1 .0);
+    known = among-member (nameIn l) permitted (not-false _ (h .1 .1 .0));
+    once = among-absent (nameIn l) seen (h .1 .1 .1 .0);
+    few = ltb-false mostGates (num 2 l 8) (h .1 .1 .1 .1 .0);
+    words = among-member (num 1 l 19) wordSizes (not-false _ (h .1 .1 .1 .1 .1 .0));
+    within = ltb-false z (p + momentSays l) (h .1 .1 .1 .1 .1 .1 .0);
+  },
+  h .1 .1 .1 .1 .1 .1 .1,
+)
 
 pub moment-holds : (q z from p : ℕ) (l seen : List ℕ) (rest : List Check) → MomentReads z from p l seen → AllHold rest
     → AllHold (momentChecks q z from p l seen rest)
-moment-holds q z from p l seen rest r h =
-    (le-ltb p from (r .after), (le-ltb z (p + momentHead) (r .room), (ap not (member-among (nameIn l) permitted (r .known)),
-    (absent-among (nameIn l) seen (r .once), (le-ltb mostGates (num 2 l 8) (r .few),
-    (ap not (member-among (num 1 l 19) wordSizes (r .words)), (le-ltb z (p + momentSays l) (r .within), h)))))))
+moment-holds q z from p l seen rest r h = (
+  le-ltb p from (r .after),
+  (
+    le-ltb z (p + momentHead) (r .room),
+    (
+      ap not (member-among (nameIn l) permitted (r .known)),
+      (
+        absent-among (nameIn l) seen (r .once),
+        (
+          le-ltb mostGates (num 2 l 8) (r .few),
+          (ap not (member-among (num 1 l 19) wordSizes (r .words)), (le-ltb z (p + momentSays l) (r .within), h)),
+        ),
+      ),
+    ),
+  ),
+)
 
 -- what is read of it has as many gates as it says
 moment-gates : (p : ℕ) (l : List ℕ) → gates (momentAt p l) ≡ num 2 l 8
@@ -140,9 +189,40 @@ moment-lies z from p l seen r =
 pub moment-spelt : (b : List ℕ) (p : ℕ) → Spells b p (momentFields (momentAt p (drop p b)))
 moment-spelt b p =
     let l = drop p b in
-    part-spelt (momentFields (momentAt p l)) b p
-    (refl, (refl, (sym (moment-gates p l), (refl, (refl, (refl, (refl, (refl, (refl, (refl, (refl,
-    nums-spell (num 1 l 19 / 8) l 28 (num 2 l 8))))))))))))
+    part-spelt (momentFields (momentAt p l)) b p (
+      refl,
+      (
+        refl,
+        (
+          sym (moment-gates p l),
+          (
+            refl,
+            (
+              refl,
+              (
+                refl,
+                (
+                  refl,
+                  (
+                    refl,
+                    (
+                      refl,
+                      (
+                        refl,
+                        (
+                          refl,
+                          nums-spell (num 1 l 19 / 8) l 28 (num 2 l 8),
+                        ),
+                      ),
+                    ),
+                  ),
+                ),
+              ),
+            ),
+          ),
+        ),
+      ),
+    )
 
 -- described: what is read there is the moment, and its checks hold
 module _ (b : List ℕ) (m : Moment) (s : Spells b (m .place) (momentFields m)) where

@@ -16,12 +16,44 @@ use Rattle.wire.proofs.CheckLaws.{never}
 use Rattle.wire.proofs.TableLaws.{render-length}
 use Rattle.wire.proofs.AnswerLaws.{rule-given}
 use Rattle.description.specs.Description.{
-  constants, RVOL, RELV, RRAD, momentHead, Piece, Block, Moment, Description, blockCount, gates, wordBytes, gateBytes, momentSize, momentPieces, pieces, InPieces,
-  Named, AllStand, Agrees, Layout
+  constants,
+  RVOL,
+  RELV,
+  RRAD,
+  momentHead,
+  Piece,
+  Block,
+  Moment,
+  Description,
+  blockCount,
+  gates,
+  wordBytes,
+  gateBytes,
+  momentSize,
+  momentPieces,
+  pieces,
+  InPieces,
+  Named,
+  AllStand,
+  Agrees,
+  Layout,
 }
 use Rattle.description.specs.Refusal.{pointer, part, momentAt, momentsAt, countIn, description, radialChecks, radialOf}
 use Rattle.description.specs.Lookups.{
-  onward, momentNamed, momentOf, Lying, momentLying, blocks, Asked, noSuch, lies, blockOf, Part, gatesIn, gatesOf, bytesIn
+  onward,
+  momentNamed,
+  momentOf,
+  Lying,
+  momentLying,
+  blocks,
+  Asked,
+  noSuch,
+  lies,
+  blockOf,
+  Part,
+  gatesIn,
+  gatesOf,
+  bytesIn,
 }
 use Rattle.description.specs.Demand3.{InBlocks, Listed, NamedExactly, SameAnswers, Unnamed, CodeAt}
 use Rattle.description.proofs.Runs.{nums-length, nums-at}
@@ -77,9 +109,10 @@ same-bytes b b′ p n e f =
 stand-same : (b b′ : List ℕ) (xs : List Piece) → length b′ ≡ length b → ((i : ℕ) → InPieces xs i → getD b′ i 0 ≡ getD b i 0) → AllStand b xs
     → AllStand b′ xs
 stand-same b b′ [] e f s = tt
-stand-same b b′ (x ∷ xs) e f s =
-    (same-bytes b b′ (x .place) (length (render (x .fields))) e (λ i lo hi. f i (inl (lo, omega (arith, hi, render-length (x .fields))))) ∙ s .0,
-    stand-same b b′ xs e (λ i h. f i (inr h)) (s .1))
+stand-same b b′ (x ∷ xs) e f s = (
+  same-bytes b b′ (x .place) (length (render (x .fields))) e (λ i lo hi. f i (inl (lo, omega (arith, hi, render-length (x .fields))))) ∙ s .0,
+  stand-same b b′ xs e (λ i h. f i (inr h)) (s .1),
+)
 
 -- ---- what a lookup found
 record Went {A B : Type 0} (a : Answer A) (f : A → Answer B) (w : B) : Type 0 where
@@ -116,13 +149,13 @@ unnamed b b′ d o e given-d same =
       block = λ k. rw again refl;
       gates = λ name. rw again refl;
       codes = λ name p k.
-      let g = onward-given (momentOf b name) (λ m. given (gatesIn m)) p k in
-      let r = onward-given (radialOf b) (λ x. momentNamed name (x .moments)) (g .value) (g .was) in
-      let x : r .value ≡ d = cc (r .was, given-d) in
-      let q : gatesIn (g .value) ≡ p = cc (g .gave) in
-      rw (← q)
-      (same-bytes b b′ (g .value .place + momentHead) (gateBytes (g .value)) e
-      (λ i lo hi. same i (inr (inr (inr (inr (inr (inr (found-named name (d .moments) (g .value) (rw x at (r .gave)) i (omega arith) (omega arith)))))))))); 
+          let g = onward-given (momentOf b name) (λ m. given (gatesIn m)) p k in
+          let r = onward-given (radialOf b) (λ x. momentNamed name (x .moments)) (g .value) (g .was) in
+          let x : r .value ≡ d = cc (r .was, given-d) in
+          let q : gatesIn (g .value) ≡ p = cc (g .gave) in
+          rw (← q)
+          (same-bytes b b′ (g .value .place + momentHead) (gateBytes (g .value)) e
+          (λ i lo hi. same i (inr (inr (inr (inr (inr (inr (found-named name (d .moments) (g .value) (rw x at (r .gave)) i (omega arith) (omega arith))))))))));
     }
 
 -- ---- a moment that is found was read at its place

@@ -1,5 +1,5 @@
--- The starred cases of document 01 on the radial, and what the rule answers to them.
-use Prim.Native.Nat.{ℕ, _-_, _*_}
+-- The starred cases of document 01 on the radial, its limits on either side, and what the rule answers to them.
+use Prim.Native.Nat.{ℕ, _-_, _*_, _/_}
 use mathlib.Core.Path.{_≡_}
 use mathlib.Core.Option.{Option, none, some}
 use mathlib.Core.List.{List, [], _∷_, _++_}
@@ -10,27 +10,34 @@ use Rattle.description.specs.Description.{Description, RVOL, RELV, RRAD}
 use Rattle.description.specs.Refusal.{radialOf}
 
 -- ---- bodies: every byte that a case leaves open is 0
-abbrev zeros : ℕ → List ℕ
+abbrev pub zeros : ℕ → List ℕ
 zeros n = replicate n 0
 
-abbrev words : List ℕ → List ℕ
+abbrev pub words : List ℕ → List ℕ
 words [] = []
 words (p ∷ ps) = be 4 p ++ words ps
 
--- a header with the radial length and the pointers
-abbrev pub header : ℕ → List ℕ → List ℕ
-header size ps = zeros 18 ++ (be 2 size ++ (zeros 10 ++ (be 2 (length ps) ++ (words ps ++ zeros (36 - 4 * length ps)))))
+-- a header with the compression, the radial length, the block count and the pointers
+abbrev pub headed : ℕ → ℕ → ℕ → List ℕ → List ℕ
+headed compression size count ps =
+    zeros 16 ++ (compression ∷ (0 ∷ (be 2 size ++ (zeros 10 ++ (be 2 count ++ (words ps ++ zeros (36 - 4 * length ps)))))))
 
--- the three constant blocks, of 44, 12 and 20 bytes
+abbrev pub header : ℕ → List ℕ → List ℕ
+header size ps = headed 0 size (length ps) ps
+
 abbrev pub constant : ℕ → ℕ → List ℕ
 constant name size = be 4 name ++ (be 2 size ++ zeros (size - 6))
 
-abbrev pub constantBlocks : List ℕ
-constantBlocks = constant RVOL 44 ++ (constant RELV 12 ++ constant RRAD 20)
+-- the three constant blocks, with these lengths
+abbrev pub constantBlocks : ℕ → ℕ → ℕ → List ℕ
+constantBlocks volume elevation radial = constant RVOL volume ++ (constant RELV elevation ++ constant RRAD radial)
 
--- "DREF" with no gates and words of 8 bits
-abbrev pub reflectivity : List ℕ
-reflectivity = be 4 0x44524546 ++ (zeros 15 ++ (8 ∷ zeros 8))
+abbrev pub moment : ℕ → ℕ → ℕ → List ℕ
+moment name gates word = be 4 name ++ (zeros 4 ++ (be 2 gates ++ (zeros 9 ++ (word ∷ (zeros 8 ++ zeros (gates * (word / 8)))))))
+
+-- "DREF"
+abbrev pub REF : ℕ
+REF = 0x44524546
 
 -- ---- a case: a body, and the number that refuses it, or none
 pub record Case : Type 0 where
@@ -44,21 +51,69 @@ abbrev pub numberOf : Answer Description → Option ℕ
 numberOf (refused n) = some n
 numberOf (given d) = none
 
--- "9. Blocks at 68, 112, 124, 144 with lengths 44, 12, 20 and no gates: radial length 172 accepted, 171 is 18."
--- "10. The moment at 143: 18. At 145, length 173: accepted." "11. REF twice: 19."
-abbrev pub cases : List Case
-cases =
-    case (header 172 (68 ∷ 112 ∷ 124 ∷ 144 ∷ []) ++ (constantBlocks ++ reflectivity)) none
-    ∷ case (header 171 (68 ∷ 112 ∷ 124 ∷ 144 ∷ []) ++ (constantBlocks ++ reflectivity)) (some 18)
-    ∷ case (header 172 (68 ∷ 112 ∷ 124 ∷ 143 ∷ []) ++ (constantBlocks ++ reflectivity)) (some 18)
-    ∷ case (header 173 (68 ∷ 112 ∷ 124 ∷ 145 ∷ []) ++ (constantBlocks ++ (0 ∷ reflectivity))) none
-    ∷ case (header 200 (68 ∷ 112 ∷ 124 ∷ 144 ∷ 172 ∷ []) ++ (constantBlocks ++ (reflectivity ++ reflectivity))) (some 19)
-    ∷ []
-
 abbrev pub AllAnswered : List Case → Type 0
 AllAnswered [] = Unit {0}
 AllAnswered (c ∷ cs) = (numberOf (radialOf (c .body)) ≡ c .number) × AllAnswered cs
 
+-- ---- "9. Blocks at 68, 112, 124, 144 with lengths 44, 12, 20 and no gates: radial length 172 accepted, 171 is 18."
+-- "10. The moment at 143: 18. At 145, length 173: accepted." "11. REF twice: 19."
+abbrev pub three : List ℕ
+three = constantBlocks 44 12 20
+
+abbrev pub starredCases : List Case
+starredCases =
+    case (header 172 (68 ∷ 112 ∷ 124 ∷ 144 ∷ []) ++ (three ++ moment REF 0 8)) none
+    ∷ case (header 171 (68 ∷ 112 ∷ 124 ∷ 144 ∷ []) ++ (three ++ moment REF 0 8)) (some 18)
+    ∷ case (header 172 (68 ∷ 112 ∷ 124 ∷ 143 ∷ []) ++ (three ++ moment REF 0 8)) (some 18)
+    ∷ case (header 173 (68 ∷ 112 ∷ 124 ∷ 145 ∷ []) ++ (three ++ (0 ∷ moment REF 0 8))) none
+    ∷ case (header 200 (68 ∷ 112 ∷ 124 ∷ 144 ∷ 172 ∷ []) ++ (three ++ (moment REF 0 8 ++ moment REF 0 8))) (some 19)
+    ∷ []
+
 -- one statement over the list
 abbrev pub Starred : Type 0
-Starred = AllAnswered cases
+Starred = AllAnswered starredCases
+
+-- ---- each limit on either side
+abbrev pub limitCases : List Case
+limitCases =
+    -- a body of 67 bytes, and of 68; compression 1
+    case (zeros 67) (some 14)
+    ∷ case (zeros 68) (some 16)
+    ∷ case (headed 1 172 4 (68 ∷ 112 ∷ 124 ∷ 144 ∷ []) ++ (three ++ moment REF 0 8)) (some 15)
+    -- radial length 67 and 68, and above the body; 5 bytes left and 6
+    ∷ case (header 67 (68 ∷ 112 ∷ 124 ∷ 144 ∷ []) ++ (three ++ moment REF 0 8)) (some 16)
+    ∷ case (header 68 (68 ∷ 112 ∷ 124 ∷ 144 ∷ []) ++ (three ++ moment REF 0 8)) (some 18)
+    ∷ case (header 173 (68 ∷ 112 ∷ 124 ∷ 144 ∷ []) ++ (three ++ moment REF 0 8)) (some 16)
+    ∷ case (header 73 (68 ∷ 112 ∷ 124 ∷ 144 ∷ []) ++ (three ++ moment REF 0 8)) (some 18)
+    ∷ case (header 74 (68 ∷ 112 ∷ 124 ∷ 144 ∷ []) ++ (three ++ moment REF 0 8)) (some 20)
+    -- 3 blocks and 10; 9 with every permitted name
+    ∷ case (header 144 (68 ∷ 112 ∷ 124 ∷ []) ++ three) (some 17)
+    ∷ case (headed 0 172 10 (68 ∷ 112 ∷ 124 ∷ 144 ∷ []) ++ (three ++ moment REF 0 8)) (some 17)
+    ∷ case
+    (header 312 (68 ∷ 112 ∷ 124 ∷ 144 ∷ 172 ∷ 200 ∷ 228 ∷ 256 ∷ 284 ∷ [])
+    ++ (three
+    ++ (moment 0x4452484F 0 8
+    ++ (moment 0x44504849 0 8 ++ (moment 0x445A4452 0 8 ++ (moment 0x44535720 0 8 ++ (moment 0x4456454C 0 8 ++ moment 0x44524546 0 8)))))))
+    none
+    -- the first block at 67; the second and the third before the end of the one before
+    ∷ case (header 172 (67 ∷ 112 ∷ 124 ∷ 144 ∷ []) ++ (three ++ moment REF 0 8)) (some 18)
+    ∷ case (header 172 (68 ∷ 111 ∷ 124 ∷ 144 ∷ []) ++ (three ++ moment REF 0 8)) (some 18)
+    ∷ case (header 172 (68 ∷ 112 ∷ 123 ∷ 144 ∷ []) ++ (three ++ moment REF 0 8)) (some 18)
+    -- the second constant block named as the first, a moment named "DCFP"
+    ∷ case (header 172 (68 ∷ 112 ∷ 124 ∷ 144 ∷ []) ++ (constant RVOL 44 ++ (constant RVOL 12 ++ (constant RRAD 20 ++ moment REF 0 8)))) (some 19)
+    ∷ case (header 172 (68 ∷ 112 ∷ 124 ∷ 144 ∷ []) ++ (three ++ moment 0x44434650 0 8)) (some 19)
+    -- lengths 43, 11 and 19; a longer block is accepted
+    ∷ case (header 171 (68 ∷ 111 ∷ 123 ∷ 143 ∷ []) ++ (constantBlocks 43 12 20 ++ moment REF 0 8)) (some 20)
+    ∷ case (header 171 (68 ∷ 112 ∷ 123 ∷ 143 ∷ []) ++ (constantBlocks 44 11 20 ++ moment REF 0 8)) (some 20)
+    ∷ case (header 171 (68 ∷ 112 ∷ 124 ∷ 143 ∷ []) ++ (constantBlocks 44 12 19 ++ moment REF 0 8)) (some 20)
+    ∷ case (header 180 (68 ∷ 112 ∷ 124 ∷ 152 ∷ []) ++ (constantBlocks 44 12 28 ++ moment REF 0 8)) none
+    -- 1,840 gates and 1,841; words of 12 bits; the last byte of a word of 16 bits past the radial length, and within
+    ∷ case (header 2012 (68 ∷ 112 ∷ 124 ∷ 144 ∷ []) ++ (three ++ moment REF 1840 8)) none
+    ∷ case (header 2013 (68 ∷ 112 ∷ 124 ∷ 144 ∷ []) ++ (three ++ moment REF 1841 8)) (some 20)
+    ∷ case (header 172 (68 ∷ 112 ∷ 124 ∷ 144 ∷ []) ++ (three ++ moment REF 0 12)) (some 20)
+    ∷ case (header 173 (68 ∷ 112 ∷ 124 ∷ 144 ∷ []) ++ (three ++ moment REF 1 16)) (some 20)
+    ∷ case (header 174 (68 ∷ 112 ∷ 124 ∷ 144 ∷ []) ++ (three ++ moment REF 1 16)) none
+    ∷ []
+
+abbrev pub Limits : Type 0
+Limits = AllAnswered limitCases
