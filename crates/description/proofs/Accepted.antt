@@ -14,86 +14,19 @@ use Rattle.wire.specs.Tables.{field, total, Spells}
 use Rattle.wire.specs.Answers.{refused, given}
 use Rattle.wire.proofs.CheckLaws.{all-hold, none-broken, decide-none}
 use Rattle.wire.proofs.AnswerLaws.{rule-given}
-use Rattle.description.specs.Description.{
-  headerSize,
-  constants,
-  fewestBlocks,
-  mostBlocks,
-  firstPlace,
-  RVOL,
-  RELV,
-  RRAD,
-  volumeLeast,
-  elevationLeast,
-  radialLeast,
-  constantHead,
-  momentHead,
-  Block,
-  Moment,
-  Description,
-  blockCount,
-  wordBytes,
-  blockSize,
-  momentSize,
-  blockFields,
-  momentFields,
-  momentPlaces,
-  momentPieces,
-  pieces,
-  Agrees,
-  BlockLies,
-  MomentLies,
-  MomentsLie,
-  Layout,
-  blockEnd,
-  momentEnd,
-}
-use Rattle.description.specs.Refusal.{
-  sizeIn,
-  countIn,
-  pointer,
-  part,
-  nameIn,
-  blockAt,
-  momentAt,
-  momentsAt,
-  description,
-  blockSays,
-  momentSays,
-  headerChecks,
-  blockChecks,
-  momentChecks,
-  momentsChecks,
-  constantChecks,
-  endAt,
-  constantsChecks,
-  radialChecks,
-  radialOf,
-}
+use Rattle.description.specs.Description.{headerSize, constants, fewestBlocks, mostBlocks, firstPlace, RVOL, RELV, RRAD, volumeLeast}
+use Rattle.description.specs.Description.{elevationLeast, radialLeast, constantHead, momentHead, Block, Moment, Description, blockCount}
+use Rattle.description.specs.Description.{wordBytes, blockSize, momentSize, blockFields, momentFields, momentPlaces, headerBefore, headerAfter, pointers, momentPieces, pieces}
+use Rattle.description.specs.Description.{Agrees, BlockLies, MomentLies, MomentsLie, Layout, blockEnd, momentEnd}
+use Rattle.description.specs.Refusal.{sizeIn, countIn, pointer, part, nameIn, blockAt, momentAt, momentsAt, description, blockSays, momentSays}
+use Rattle.description.specs.Refusal.{headerChecks, blockChecks, momentChecks, momentsChecks, constantChecks, endAt, constantsChecks}
+use Rattle.description.specs.Refusal.{radialChecks, radialOf}
 use Rattle.description.specs.Demand3.{Exactly, Unique}
 use Rattle.description.proofs.Runs.{total-run}
 use Rattle.description.proofs.Pieces.{AllSpell, AllWithin, all-spell, all-stand, all-fit}
-use Rattle.description.proofs.Blocks.{
-  BlockReads,
-  block-reads,
-  block-holds,
-  block-size,
-  block-lies,
-  block-spelt,
-  block-end,
-  block-is,
-  block-read,
-  MomentReads,
-  moment-reads,
-  moment-holds,
-  moment-size,
-  moment-lies,
-  moment-spelt,
-  moment-name,
-  moment-end,
-  moment-is,
-  moment-read,
-}
+use Rattle.description.proofs.Blocks.{BlockReads, block-reads, block-holds, block-size, block-lies, block-spelt, block-end, block-is}
+use Rattle.description.proofs.Blocks.{block-read, MomentReads, moment-reads, moment-holds, moment-size, moment-lies, moment-spelt, moment-name}
+use Rattle.description.proofs.Blocks.{moment-end, moment-is, moment-read}
 
 -- ---- read: the moments
 pub moments-length : (b : List ℕ) (q n : ℕ) → length (momentsAt b q n) ≡ n
@@ -133,29 +66,23 @@ moments-within n z from seen [] h lie = tt
 moments-within n z from seen (m ∷ ms) h lie =
     (omega (arith, moment-total m, lie .0 .within), moments-within n z (momentEnd m) (seen ++ (m .name ∷ [])) ms h (lie .1))
 
+-- the used pointers end before the first place
+slots : (count : ℕ) → count ≤ mostBlocks → 32 + 4 * count ≤ firstPlace count
+slots count h = omega arith
+
 pieces-within : (n : ℕ) (d : Description) → Layout n d → AllWithin n (pieces d)
 pieces-within n d lay =
     let block : (name from least : ℕ) (k : Block) → BlockLies from least (d .size) k → k .place + total (blockFields name k) ≤ n =
     λ name from least k lies. omega (arith, block-total name k, lies .within, lay .most)
-    in (
-      omega (arith, lay .least, lay .most),
-      (
-        omega (arith, lay .least, lay .most),
-        (
-          omega (arith, lay .least, lay .most, lay .few, places-total (d .moments)),
-          (
-            block RVOL _ _ (d .volumeBlock) (lay .volume),
-            (
-              block RELV _ _ (d .elevationBlock) (lay .elevation),
-              (
-                block RRAD _ _ (d .radialBlock) (lay .radial),
-                moments-within n (d .size) (blockEnd (d .radialBlock)) [] (d .moments) (lay .most) (lay .momentsLie),
-              ),
-            ),
-          ),
-        ),
-      ),
-    )
+    in
+    let header : 32 ≤ n = omega (arith, lay .least, lay .most) in
+    let first : firstPlace (blockCount d) ≤ n = omega (arith, lay .volume .after, lay .volume .within, lay .most) in
+    let used : 32 + total (pointers d) ≤ n = omega (arith, slots (blockCount d) (lay .few), places-total (d .moments)) in
+    let v = block RVOL _ _ (d .volumeBlock) (lay .volume) in
+    let e = block RELV _ _ (d .elevationBlock) (lay .elevation) in
+    let r = block RRAD _ _ (d .radialBlock) (lay .radial) in
+    let ms = moments-within n (d .size) (blockEnd (d .radialBlock)) [] (d .moments) (lay .most) (lay .momentsLie) in
+    (omega arith, (omega arith, (used, (v, (e, (r, ms))))))
 
 -- ---- read: every check holds, so what is read has the layout of a radial and agrees
 sound : (b : List ℕ) → Octets b → AllHold (radialChecks b) → Layout (length b) (description b) × Agrees b (description b)
@@ -175,26 +102,15 @@ sound b o h =
     let v-size : blockSize (d .volumeBlock) ≡ blockSays (part b 32) = block-size (pointer b 32) (part b 32) (omega (arith, v .0 .enough)) in
     let e-size : blockSize (d .elevationBlock) ≡ blockSays (part b 36) = block-size (pointer b 36) (part b 36) (omega (arith, e .0 .enough)) in
     let r-size : blockSize (d .radialBlock) ≡ blockSays (part b 40) = block-size (pointer b 40) (part b 40) (omega (arith, r .0 .enough)) in
-    let spelt : AllSpell b (pieces d) = (
-      (refl, (refl, (refl, (refl, (refl, (eqb-true (num 1 b 16) 0 (not-false _ (h .1 .0)), tt)))))),
-      (
-        (refl, (refl, (refl, (refl, (refl, (refl, (refl, (refl, (counted, tt))))))))),
-        (
-          (refl, (refl, (refl, places-spelt b 44 (countIn b - constants)))),
-          (
-            block-spelt b z (firstPlace (countIn b)) (pointer b 32) RVOL volumeLeast (omega arith) (v .0),
-            (
-              block-spelt b z (endAt b 32) (pointer b 36) RELV elevationLeast (omega arith) (e .0),
-              (
-                block-spelt b z (endAt b 36) (pointer b 40) RRAD radialLeast (omega arith) (r .0),
-                moments-spelt b 44 (countIn b - constants),
-              ),
-            ),
-          ),
-        ),
-      ),
-    )
-    in
+    let uncompressed : num 1 b 16 ≡ 0 = eqb-true (num 1 b 16) 0 (not-false _ (h .1 .0)) in
+    let before : Spells b 0 (headerBefore d) = (refl, (refl, (refl, (refl, (refl, (uncompressed, tt)))))) in
+    let after : Spells b 18 (headerAfter d) = (refl, (refl, (refl, (refl, (refl, (refl, (refl, (refl, (counted, tt))))))))) in
+    let used : Spells b 32 (pointers d) = (refl, (refl, (refl, places-spelt b 44 (countIn b - constants)))) in
+    let v-spelt = block-spelt b z (firstPlace (countIn b)) (pointer b 32) RVOL volumeLeast (omega arith) (v .0) in
+    let e-spelt = block-spelt b z (endAt b 32) (pointer b 36) RELV elevationLeast (omega arith) (e .0) in
+    let r-spelt = block-spelt b z (endAt b 36) (pointer b 40) RRAD radialLeast (omega arith) (r .0) in
+    let m-spelt = moments-spelt b 44 (countIn b - constants) in
+    let spelt : AllSpell b (pieces d) = (before, (after, (used, (v-spelt, (e-spelt, (r-spelt, m-spelt)))))) in
     let lay : Layout (length b) d =
     record {
       fit = all-fit b (pieces d) o spelt;
@@ -202,7 +118,10 @@ sound b o h =
       most = ltb-false (length b) z (h .1 .1 .1 .0);
       some = rw (← counted) count-least;
       few = rw (← counted) count-most;
-      volume = block-lies z (firstPlace (countIn b)) (pointer b 32) (part b 32) RVOL volumeLeast (omega arith) (v .0);
+      volume =
+          subst
+          (λ (n : ℕ). BlockLies (firstPlace n) volumeLeast z (d .volumeBlock)) counted
+          (block-lies z (firstPlace (countIn b)) (pointer b 32) (part b 32) RVOL volumeLeast (omega arith) (v .0));
       elevation = rw v-size (block-lies z (endAt b 32) (pointer b 36) (part b 36) RELV elevationLeast (omega arith) (e .0));
       radial = rw e-size (block-lies z (endAt b 36) (pointer b 40) (part b 40) RRAD radialLeast (omega arith) (r .0));
       momentsLie = rw r-size (moments-lie b z (endAt b 40) 44 [] (countIn b - constants) (r .1));
@@ -295,7 +214,8 @@ complete b d lay s =
     (rw (constant-end b 32 RVOL (d .volumeBlock) (p .0) v, size) (lay .elevation)) radial
     in
     let volume : AllHold (constantChecks b (firstPlace (countIn b)) 32 RVOL volumeLeast afterVolume) =
-    constant-holds b 32 RVOL (d .volumeBlock) (p .0) v (firstPlace (countIn b)) volumeLeast afterVolume (rw size (lay .volume)) elevation
+    constant-holds b 32 RVOL (d .volumeBlock) (p .0) v (firstPlace (countIn b)) volumeLeast afterVolume
+    (subst (λ (n : ℕ). BlockLies (firstPlace n) volumeLeast (sizeIn b) (d .volumeBlock)) (sym counted) (rw size (lay .volume))) elevation
     in (
       le-ltb (length b) headerSize (omega (arith, lay .least, lay .most)),
       (

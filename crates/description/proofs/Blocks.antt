@@ -10,40 +10,11 @@ use borrow.Author.Tests.{ltb-false, eqb-true, not-false, le-ltb, eq-eqb}
 use Rattle.wire.specs.Numbers.{num, nums}
 use Rattle.wire.specs.Checks.{Check, among, AllHold}
 use Rattle.wire.specs.Tables.{field, total, Spells}
-use Rattle.description.specs.Description.{
-  permitted,
-  mostGates,
-  wordSizes,
-  constantHead,
-  momentHead,
-  Block,
-  Moment,
-  gates,
-  wordBytes,
-  blockSize,
-  momentSize,
-  blockFields,
-  momentFields,
-  Member,
-  Absent,
-  BlockLies,
-  MomentLies,
-  blockEnd,
-  momentEnd,
-}
+use Rattle.description.specs.Description.{permitted, mostGates, wordSizes, constantHead, momentHead, Block, Moment, gates, wordBytes, blockSize}
+use Rattle.description.specs.Description.{momentSize, blockFields, momentFields, Member, Absent, BlockLies, MomentLies, blockEnd, momentEnd}
 use Rattle.description.specs.Refusal.{nameIn, blockAt, momentAt, blockSays, momentSays, blockChecks, momentChecks}
-use Rattle.description.proofs.Runs.{
-  nums-length,
-  nums-spell,
-  spell-nums,
-  total-run,
-  part-spells,
-  part-spelt,
-  among-member,
-  member-among,
-  among-absent,
-  absent-among,
-}
+use Rattle.description.proofs.Runs.{nums-length, nums-spell, spell-nums, total-run, part-spells, part-spelt, among-member, member-among}
+use Rattle.description.proofs.Runs.{among-absent, absent-among}
 
 -- ---- a constant block
 -- what its checks say

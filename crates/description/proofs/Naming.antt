@@ -4,59 +4,24 @@ use native.Mathlib.Omega.{arith}
 use mathlib.Core.Path.{_≡_, refl, sym, ap, subst, _∙_}
 use mathlib.Core.Bool.{Bool, true, false}
 use mathlib.Core.Logic.{_⊎_, inl, inr, _≢_, _↔_}
-use mathlib.Core.List.{List, [], _∷_, map}
+use mathlib.Core.List.{List, [], _∷_, _++_, map}
 use lib.Dec.{eqb}
 use lib.ListN.{length, getD, take, drop, length-take, length-drop}
 use lib.Seq.{ext-getD, getD-take, getD-drop}
 use Rattle.wire.specs.Numbers.{num, nums, Octets}
 use Rattle.wire.specs.Checks.{pick}
-use Rattle.wire.specs.Tables.{render, total, Holds}
+use Rattle.wire.specs.Tables.{field, render, total, Spells, Holds}
 use Rattle.wire.specs.Answers.{Answer, refused, given}
 use Rattle.wire.proofs.CheckLaws.{never}
-use Rattle.wire.proofs.TableLaws.{render-length}
+use Rattle.wire.proofs.TableLaws.{render-length, spelt}
 use Rattle.wire.proofs.AnswerLaws.{rule-given}
-use Rattle.description.specs.Description.{
-  constants,
-  RVOL,
-  RELV,
-  RRAD,
-  momentHead,
-  Piece,
-  Block,
-  Moment,
-  Description,
-  blockCount,
-  gates,
-  wordBytes,
-  gateBytes,
-  momentSize,
-  momentPieces,
-  pieces,
-  InPieces,
-  Named,
-  AllStand,
-  Agrees,
-  Layout,
-}
-use Rattle.description.specs.Refusal.{pointer, part, momentAt, momentsAt, countIn, description, radialChecks, radialOf}
-use Rattle.description.specs.Lookups.{
-  onward,
-  momentNamed,
-  momentOf,
-  Lying,
-  momentLying,
-  blocks,
-  Asked,
-  noSuch,
-  lies,
-  blockOf,
-  Part,
-  gatesIn,
-  gatesOf,
-  bytesIn,
-}
-use Rattle.description.specs.Demand3.{InBlocks, Listed, NamedExactly, SameAnswers, Unnamed, CodeAt}
-use Rattle.description.proofs.Runs.{nums-length, nums-at}
+use Rattle.description.specs.Description.{constants, RVOL, RELV, RRAD, momentHead, Piece, Block, Moment, Description, blockCount, gates}
+use Rattle.description.specs.Description.{wordBytes, gateBytes, momentSize, momentPieces, pieces, InPieces, Named, AllStand, Agrees, Layout, MomentsLie, blockEnd, momentEnd}
+use Rattle.description.specs.Refusal.{sizeIn, pointer, part, momentAt, momentsAt, countIn, description, radialChecks, radialOf}
+use Rattle.description.specs.Lookups.{onward, momentNamed, momentOf, Lying, momentLying, blocks, Asked, noSuch, lies, blockOf, Part, gatesIn}
+use Rattle.description.specs.Lookups.{gatesOf, bytesIn}
+use Rattle.description.specs.Demand3.{InBlocks, Listed, NamedExactly, SameAnswers, Unnamed, CodeAt, GateWords}
+use Rattle.description.proofs.Runs.{nums-length, nums-at, nums-spell, total-run, part-spelt-from}
 use Rattle.description.proofs.Accepted.{block-total, moment-total, places-total, accepted, agreed}
 
 -- ---- the bytes that are named
@@ -178,15 +143,45 @@ read-code : (p : ℕ) (l : List ℕ) (i : ℕ) → i < gates (momentAt p l)
 read-code p l i h =
     nums-at (num 1 l 19 / 8) l 28 (num 2 l 8) i (omega (arith, h, nums-length (num 1 l 19 / 8) l 28 (num 2 l 8)))
 
-pub code-at : CodeAt
+-- a moment that a radial answers with, by the moments that are read
+moment-of : (b : List ℕ) (name : ℕ) (m : Moment) → momentOf b name ≡ given m → (radialOf b ≡ given (description b)) × (momentNamed name (description b .moments) ≡ given m)
 unfolding momentOf radialOf
-code-at b name m i e h =
+moment-of b name m e =
     let r = onward-given (radialOf b) (λ x. momentNamed name (x .moments)) m e in
     let d : description b ≡ r .value = rule-given (radialChecks b) (description b) (r .value) (r .was) .1 in
-    let f : momentNamed name (momentsAt b 44 (countIn b - constants)) ≡ given m =
-    ap (λ (x : Description). momentNamed name (x .moments)) d ∙ r .gave
-    in
-    let w = found-read b name 44 (countIn b - constants) m f in
+    (r .was ∙ ap given (sym d), ap (λ (x : Description). momentNamed name (x .moments)) d ∙ r .gave)
+
+pub code-at : CodeAt
+code-at b name m i e h =
+    let w = found-read b name 44 (countIn b - constants) m (moment-of b name m e .1) in
     subst
     (λ (x : Moment). i < gates x → getD (x .codes) i 0 ≡ num (wordBytes x) (drop (x .place) b) (28 + i * wordBytes x)) (w .reads)
     (λ k. read-code (w .at) (drop (w .at) b) i k) h
+
+-- it ends within the radial length
+found-within : (name z from : ℕ) (seen : List ℕ) (ms : List Moment) (m : Moment) → momentNamed name ms ≡ given m → MomentsLie from z seen ms
+    → momentEnd m ≤ z
+found-within name z from seen [] m e lie = never (cc e)
+found-within name z from seen (x ∷ ms) m e lie =
+    go (eqb (x .name) name) e (λ k. found-within name z (momentEnd x) (seen ++ (x .name ∷ [])) ms m k (lie .1))
+  where
+    go : (t : Bool) → pick t (given x) (momentNamed name ms) ≡ given m → (momentNamed name ms ≡ given m → momentEnd m ≤ z) → momentEnd m ≤ z
+    go true k later = let q : x ≡ m = cc k in rw (← q) (lie .0 .within)
+    go false k later = later k
+
+pub gate-words : GateWords
+gate-words b name m o e =
+    let f = moment-of b name m e in
+    let lay = agreed b (description b) o (f .0) .0 in
+    let end = found-within name (sizeIn b) (blockEnd (description b .radialBlock)) [] (description b .moments) m (f .1) (lay .momentsLie) in
+    let within : gatesIn m .place + gatesIn m .size ≤ length b = omega (arith, end, lay .most) in
+    let w = found-read b name 44 (countIn b - constants) m (f .1) in
+    let run = map (field (wordBytes m)) (m .codes) in
+    let s : Spells b (m .place + momentHead) run =
+    subst
+    (λ (x : Moment). Spells b (x .place + momentHead) (map (field (wordBytes x)) (x .codes))) (w .reads)
+    (part-spelt-from (map (field (wordBytes (momentAt (w .at) (drop (w .at) b)))) (momentAt (w .at) (drop (w .at) b) .codes)) b (w .at) 28
+    (nums-spell (num 1 (drop (w .at) b) 19 / 8) (drop (w .at) b) 28 (num 2 (drop (w .at) b) 8)))
+    in
+    let long : length (render run) ≡ gateBytes m = render-length run ∙ total-run (wordBytes m) (m .codes) in
+    (within, rw (← long) (spelt run b (m .place + momentHead) o (omega (arith, total-run (wordBytes m) (m .codes))) s))

@@ -45,7 +45,7 @@ part-spells-from : (fs : List Field) (b : List ℕ) (p q : ℕ) → Spells b (p 
 part-spells-from [] b p q s = tt
 part-spells-from (f ∷ fs) b p q s = (num-drop (f .wide) b p q ∙ s .0, part-spells-from fs b p (q + f .wide) (rw add-assoc at (s .1)))
 
-part-spelt-from : (fs : List Field) (b : List ℕ) (p q : ℕ) → Spells (drop p b) q fs → Spells b (p + q) fs
+pub part-spelt-from : (fs : List Field) (b : List ℕ) (p q : ℕ) → Spells (drop p b) q fs → Spells b (p + q) fs
 part-spelt-from [] b p q s = tt
 part-spelt-from (f ∷ fs) b p q s = (sym (num-drop (f .wide) b p q) ∙ s .0, rw add-assoc (part-spelt-from fs b p (q + f .wide) (s .1)))
 

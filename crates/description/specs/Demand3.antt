@@ -3,13 +3,14 @@
 use Prim.Native.Nat.{ℕ, _+_, _*_, _≤_, _<_}
 use mathlib.Core.Path.{_≡_}
 use mathlib.Core.Logic.{_⊎_, _≢_, _↔_}
-use mathlib.Core.List.{List, [], _∷_}
+use mathlib.Core.List.{List, [], _∷_, map}
 use lib.ListN.{length, getD, drop}
 use Rattle.wire.specs.Numbers.{num, Octets}
+use Rattle.wire.specs.Tables.{field, render}
 use Rattle.wire.specs.Answers.{given}
 use Rattle.description.specs.Description.{Moment, Description, blockCount, gates, wordBytes, Named, Agrees, Layout}
 use Rattle.description.specs.Refusal.{radialOf}
-use Rattle.description.specs.Lookups.{momentOf, Lying, blocks, blockOf, Part, gatesOf, bytesIn}
+use Rattle.description.specs.Lookups.{momentOf, Lying, blocks, blockOf, Part, gatesIn, gatesOf, bytesIn}
 
 -- a body of bytes is accepted with d exactly if d has the layout of a radial in it and agrees with it
 abbrev pub Exactly : Type 0
@@ -46,7 +47,13 @@ abbrev pub Unnamed : Type 0
 Unnamed = (b b′ : List ℕ) (d : Description) → Octets b → length b′ ≡ length b → radialOf b ≡ given d
     → ((i : ℕ) → Named d i → getD b′ i 0 ≡ getD b i 0) → SameAnswers b b′
 
+-- ---- a moment's gates
 -- "The 8- and 16-bit gates share one fact over the word width": code i of a moment is the number in its word of the block
 abbrev pub CodeAt : Type 0
 CodeAt = (b : List ℕ) (name : ℕ) (m : Moment) (i : ℕ) → momentOf b name ≡ given m → i < gates m
     → getD (m .codes) i 0 ≡ num (wordBytes m) (drop (m .place) b) (28 + i * wordBytes m)
+
+-- "holding exactly that moment's gate words": the part of the body is inside it, and is the moment's codes, one word each
+abbrev pub GateWords : Type 0
+GateWords = (b : List ℕ) (name : ℕ) (m : Moment) → Octets b → momentOf b name ≡ given m
+    → (gatesIn m .place + gatesIn m .size ≤ length b) × (bytesIn b (gatesIn m) ≡ render (map (field (wordBytes m)) (m .codes)))

@@ -6,18 +6,7 @@ use lib.Dec.{eqb}
 use lib.ListN.{length, getD, take, drop}
 use Rattle.wire.specs.Checks.{pick}
 use Rattle.wire.specs.Answers.{Answer, refused, given}
-use Rattle.description.specs.Description.{
-  RVOL,
-  RELV,
-  RRAD,
-  momentHead,
-  Block,
-  Moment,
-  Description,
-  gateBytes,
-  blockSize,
-  momentSize,
-}
+use Rattle.description.specs.Description.{RVOL, RELV, RRAD, momentHead, Block, Moment, Description, gateBytes, blockSize, momentSize}
 use Rattle.description.specs.Refusal.{radialOf}
 
 -- a refusal stays; of what was given, what f answers

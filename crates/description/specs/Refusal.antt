@@ -7,27 +7,9 @@ use lib.ListN.{length, drop}
 use Rattle.wire.specs.Numbers.{num, nums}
 use Rattle.wire.specs.Checks.{Check, check, among}
 use Rattle.wire.specs.Answers.{Answer, rule}
-use Rattle.description.specs.Description.{
-  headerSize,
-  constants,
-  fewestBlocks,
-  mostBlocks,
-  firstPlace,
-  RVOL,
-  RELV,
-  RRAD,
-  volumeLeast,
-  elevationLeast,
-  radialLeast,
-  permitted,
-  mostGates,
-  wordSizes,
-  constantHead,
-  momentHead,
-  Block,
-  Moment,
-  Description,
-}
+use Rattle.description.specs.Description.{headerSize, constants, fewestBlocks, mostBlocks, firstPlace, RVOL, RELV, RRAD, volumeLeast}
+use Rattle.description.specs.Description.{elevationLeast, radialLeast, permitted, mostGates, wordSizes, constantHead, momentHead, Block, Moment}
+use Rattle.description.specs.Description.{Description}
 
 -- ---- what is read, of the body b, and of the part l of it that begins at a block's place p
 abbrev pub sizeIn : List ℕ → ℕ
