@@ -1,31 +1,30 @@
 -- `exactly` and `unique`: every check holds exactly if a description has its layout in the body and agrees with it. Assumes nothing.
-use Prim.Native.Nat.{ℕ, zero, suc, _+_, _-_, _*_, _/_, _≤_, _<_}
+use Prim.Native.Nat.{ℕ, zero, suc, _+_, _-_, _*_, _≤_}
 use native.Mathlib.Omega.{arith}
 use mathlib.Core.Path.{_≡_, refl, sym, ap, subst, _∙_}
-use mathlib.Core.Bool.{true, false, not}
-use mathlib.Core.Option.{none}
-use mathlib.Core.List.{List, [], _∷_, _++_, map}
+use mathlib.Core.Bool.{false, not}
+use mathlib.Core.List.{List, [], _∷_, _++_}
 use lib.Dec.{ltb, eqb}
-use lib.ListN.{length, drop}
+use lib.ListN.{length}
 use borrow.Author.Tests.{ltb-false, eqb-true, not-false, le-ltb, eq-eqb}
-use Rattle.wire.specs.Numbers.{num, nums, Octets}
+use Rattle.wire.specs.Numbers.{num, Octets}
 use Rattle.wire.specs.Checks.{Check, first, AllHold}
-use Rattle.wire.specs.Tables.{field, total, Spells}
+use Rattle.wire.specs.Tables.{total, Spells}
 use Rattle.wire.specs.Answers.{refused, given}
 use Rattle.wire.proofs.CheckLaws.{all-hold, none-broken, decide-none}
 use Rattle.wire.proofs.AnswerLaws.{rule-given}
 use Rattle.description.specs.Description.{headerSize, constants, fewestBlocks, mostBlocks, firstPlace, RVOL, RELV, RRAD, volumeLeast}
-use Rattle.description.specs.Description.{elevationLeast, radialLeast, constantHead, momentHead, Block, Moment, Description, blockCount}
+use Rattle.description.specs.Description.{elevationLeast, radialLeast, Block, Moment, Description, blockCount}
 use Rattle.description.specs.Description.{wordBytes, blockSize, momentSize, blockFields, momentFields, momentPlaces, headerBefore, headerAfter, pointers, momentPieces, pieces}
-use Rattle.description.specs.Description.{Agrees, BlockLies, MomentLies, MomentsLie, Layout, blockEnd, momentEnd}
+use Rattle.description.specs.Description.{Agrees, BlockLies, MomentsLie, Layout, blockEnd, momentEnd}
 use Rattle.description.specs.Refusal.{sizeIn, countIn, pointer, part, nameIn, blockAt, momentAt, momentsAt, description, blockSays, momentSays}
-use Rattle.description.specs.Refusal.{headerChecks, blockChecks, momentChecks, momentsChecks, constantChecks, endAt, constantsChecks}
+use Rattle.description.specs.Refusal.{momentsChecks, constantChecks, endAt}
 use Rattle.description.specs.Refusal.{radialChecks, radialOf}
 use Rattle.description.specs.Demand3.{Exactly, Unique}
 use Rattle.description.proofs.Runs.{total-run}
 use Rattle.description.proofs.Pieces.{AllSpell, AllWithin, all-spell, all-stand, all-fit}
-use Rattle.description.proofs.Blocks.{BlockReads, block-reads, block-holds, block-size, block-lies, block-spelt, block-end, block-is}
-use Rattle.description.proofs.Blocks.{block-read, MomentReads, moment-reads, moment-holds, moment-size, moment-lies, moment-spelt, moment-name}
+use Rattle.description.proofs.Blocks.{block-reads, block-holds, block-size, block-lies, block-spelt, block-end, block-is}
+use Rattle.description.proofs.Blocks.{block-read, moment-reads, moment-holds, moment-size, moment-lies, moment-spelt, moment-name}
 use Rattle.description.proofs.Blocks.{moment-end, moment-is, moment-read}
 
 -- ---- read: the moments
@@ -216,22 +215,14 @@ complete b d lay s =
     let volume : AllHold (constantChecks b (firstPlace (countIn b)) 32 RVOL volumeLeast afterVolume) =
     constant-holds b 32 RVOL (d .volumeBlock) (p .0) v (firstPlace (countIn b)) volumeLeast afterVolume
     (subst (λ (n : ℕ). BlockLies (firstPlace n) volumeLeast (sizeIn b) (d .volumeBlock)) (sym counted) (rw size (lay .volume))) elevation
-    in (
-      le-ltb (length b) headerSize (omega (arith, lay .least, lay .most)),
-      (
-        ap not (eq-eqb (num 1 b 16) 0 (s .0 .1 .1 .1 .1 .1 .0)),
-        (
-          le-ltb (sizeIn b) headerSize (rw size (lay .least)),
-          (
-            le-ltb (length b) (sizeIn b) (rw size (lay .most)),
-            (
-              le-ltb (countIn b) fewestBlocks (rw counted (lay .some)),
-              (le-ltb mostBlocks (countIn b) (rw counted (lay .few)), volume),
-            ),
-          ),
-        ),
-      ),
-    )
+    in
+    let c14 : ltb (length b) headerSize ≡ false = le-ltb (length b) headerSize (omega (arith, lay .least, lay .most)) in
+    let c15 : not (eqb (num 1 b 16) 0) ≡ false = ap not (eq-eqb (num 1 b 16) 0 (s .0 .1 .1 .1 .1 .1 .0)) in
+    let c16 : ltb (sizeIn b) headerSize ≡ false = le-ltb (sizeIn b) headerSize (rw size (lay .least)) in
+    let c16′ : ltb (length b) (sizeIn b) ≡ false = le-ltb (length b) (sizeIn b) (rw size (lay .most)) in
+    let c17 : ltb (countIn b) fewestBlocks ≡ false = le-ltb (countIn b) fewestBlocks (rw counted (lay .some)) in
+    let c17′ : ltb mostBlocks (countIn b) ≡ false = le-ltb mostBlocks (countIn b) (rw counted (lay .few)) in
+    (c14, (c15, (c16, (c16′, (c17, (c17′, volume))))))
 
 -- a description that fits and agrees is what is read
 pub accepted : (b : List ℕ) (d : Description) → Layout (length b) d → Agrees b d → radialOf b ≡ given d

@@ -1,19 +1,19 @@
 -- One block: its checks hold exactly if its bytes and its description lie as the layout says. Assumes nothing.
-use Prim.Native.Nat.{ℕ, zero, suc, _+_, _-_, _*_, _/_, _≤_, _<_}
+use Prim.Native.Nat.{ℕ, _+_, _-_, _*_, _/_, _≤_}
 use native.Mathlib.Omega.{arith}
-use mathlib.Core.Path.{_≡_, refl, sym, ap, _∙_}
-use mathlib.Core.Bool.{true, false, not}
-use mathlib.Core.List.{List, [], _∷_, _++_, map}
+use mathlib.Core.Path.{_≡_, refl, sym, ap}
+use mathlib.Core.Bool.{false, not}
+use mathlib.Core.List.{List}
 use lib.Dec.{ltb, eqb}
 use lib.ListN.{length, drop}
 use borrow.Author.Tests.{ltb-false, eqb-true, not-false, le-ltb, eq-eqb}
 use Rattle.wire.specs.Numbers.{num, nums}
 use Rattle.wire.specs.Checks.{Check, among, AllHold}
-use Rattle.wire.specs.Tables.{field, total, Spells}
+use Rattle.wire.specs.Tables.{Spells}
 use Rattle.description.specs.Description.{permitted, mostGates, wordSizes, constantHead, momentHead, Block, Moment, gates, wordBytes, blockSize}
 use Rattle.description.specs.Description.{momentSize, blockFields, momentFields, Member, Absent, BlockLies, MomentLies, blockEnd, momentEnd}
 use Rattle.description.specs.Refusal.{nameIn, blockAt, momentAt, blockSays, momentSays, blockChecks, momentChecks}
-use Rattle.description.proofs.Runs.{nums-length, nums-spell, spell-nums, total-run, part-spells, part-spelt, among-member, member-among}
+use Rattle.description.proofs.Runs.{nums-length, nums-spell, spell-nums, part-spells, part-spelt, among-member, member-among}
 use Rattle.description.proofs.Runs.{among-absent, absent-among}
 
 -- ---- a constant block
@@ -40,16 +40,13 @@ block-reads q z from p l name least rest h = (
 
 pub block-holds : (q z from p : ℕ) (l : List ℕ) (name least : ℕ) (rest : List Check) → BlockReads z from p l name least → AllHold rest
     → AllHold (blockChecks q z from p l name least rest)
-block-holds q z from p l name least rest r h = (
-  le-ltb p from (r .after),
-  (
-    le-ltb z (p + constantHead) (r .room),
-    (
-      ap not (eq-eqb (nameIn l) name (r .named)),
-      (le-ltb (blockSays l) least (r .enough), (le-ltb z (p + blockSays l) (r .within), h)),
-    ),
-  ),
-)
+block-holds q z from p l name least rest r h =
+    let early : ltb p from ≡ false = le-ltb p from (r .after) in
+    let left : ltb z (p + constantHead) ≡ false = le-ltb z (p + constantHead) (r .room) in
+    let wrong : not (eqb (nameIn l) name) ≡ false = ap not (eq-eqb (nameIn l) name (r .named)) in
+    let short : ltb (blockSays l) least ≡ false = le-ltb (blockSays l) least (r .enough) in
+    let past : ltb z (p + blockSays l) ≡ false = le-ltb z (p + blockSays l) (r .within) in
+    (early, (left, (wrong, (short, (past, h)))))
 
 -- what is read of it has the length that it says
 pub block-size : (p : ℕ) (l : List ℕ) → constantHead ≤ blockSays l → blockSize (blockAt p l) ≡ blockSays l
@@ -121,22 +118,15 @@ moment-reads q z from p l seen rest h = (
 
 pub moment-holds : (q z from p : ℕ) (l seen : List ℕ) (rest : List Check) → MomentReads z from p l seen → AllHold rest
     → AllHold (momentChecks q z from p l seen rest)
-moment-holds q z from p l seen rest r h = (
-  le-ltb p from (r .after),
-  (
-    le-ltb z (p + momentHead) (r .room),
-    (
-      ap not (member-among (nameIn l) permitted (r .known)),
-      (
-        absent-among (nameIn l) seen (r .once),
-        (
-          le-ltb mostGates (num 2 l 8) (r .few),
-          (ap not (member-among (num 1 l 19) wordSizes (r .words)), (le-ltb z (p + momentSays l) (r .within), h)),
-        ),
-      ),
-    ),
-  ),
-)
+moment-holds q z from p l seen rest r h =
+    let early : ltb p from ≡ false = le-ltb p from (r .after) in
+    let left : ltb z (p + momentHead) ≡ false = le-ltb z (p + momentHead) (r .room) in
+    let unknown : not (among (nameIn l) permitted) ≡ false = ap not (member-among (nameIn l) permitted (r .known)) in
+    let repeated : among (nameIn l) seen ≡ false = absent-among (nameIn l) seen (r .once) in
+    let many : ltb mostGates (num 2 l 8) ≡ false = le-ltb mostGates (num 2 l 8) (r .few) in
+    let sized : not (among (num 1 l 19) wordSizes) ≡ false = ap not (member-among (num 1 l 19) wordSizes (r .words)) in
+    let past : ltb z (p + momentSays l) ≡ false = le-ltb z (p + momentSays l) (r .within) in
+    (early, (left, (unknown, (repeated, (many, (sized, (past, h)))))))
 
 -- what is read of it has as many gates as it says
 moment-gates : (p : ℕ) (l : List ℕ) → gates (momentAt p l) ≡ num 2 l 8
@@ -160,40 +150,10 @@ moment-lies z from p l seen r =
 pub moment-spelt : (b : List ℕ) (p : ℕ) → Spells b p (momentFields (momentAt p (drop p b)))
 moment-spelt b p =
     let l = drop p b in
-    part-spelt (momentFields (momentAt p l)) b p (
-      refl,
-      (
-        refl,
-        (
-          sym (moment-gates p l),
-          (
-            refl,
-            (
-              refl,
-              (
-                refl,
-                (
-                  refl,
-                  (
-                    refl,
-                    (
-                      refl,
-                      (
-                        refl,
-                        (
-                          refl,
-                          nums-spell (num 1 l 19 / 8) l 28 (num 2 l 8),
-                        ),
-                      ),
-                    ),
-                  ),
-                ),
-              ),
-            ),
-          ),
-        ),
-      ),
-    )
+    let g : num 2 l 8 ≡ gates (momentAt p l) = sym (moment-gates p l) in
+    let run = nums-spell (num 1 l 19 / 8) l 28 (num 2 l 8) in
+    part-spelt (momentFields (momentAt p l)) b p
+    (refl, (refl, (g, (refl, (refl, (refl, (refl, (refl, (refl, (refl, (refl, run)))))))))))
 
 -- described: what is read there is the moment, and its checks hold
 module _ (b : List ℕ) (m : Moment) (s : Spells b (m .place) (momentFields m)) where

@@ -1,5 +1,5 @@
 -- The starred cases and the limits, by computation of the rule. Assumes nothing.
-use mathlib.Core.Path.{_≡_, refl}
+use mathlib.Core.Path.{refl}
 use Rattle.wire.specs.Numbers.{num}
 use Rattle.description.specs.Refusal.{radialOf}
 use Rattle.description.specs.Cases.{Starred, Limits}

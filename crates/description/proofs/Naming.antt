@@ -3,24 +3,24 @@ use Prim.Native.Nat.{ℕ, zero, suc, _+_, _-_, _*_, _/_, _≤_, _<_}
 use native.Mathlib.Omega.{arith}
 use mathlib.Core.Path.{_≡_, refl, sym, ap, subst, _∙_}
 use mathlib.Core.Bool.{Bool, true, false}
-use mathlib.Core.Logic.{_⊎_, inl, inr, _≢_, _↔_}
+use mathlib.Core.Logic.{inl, inr}
 use mathlib.Core.List.{List, [], _∷_, _++_, map}
 use lib.Dec.{eqb}
 use lib.ListN.{length, getD, take, drop, length-take, length-drop}
 use lib.Seq.{ext-getD, getD-take, getD-drop}
-use Rattle.wire.specs.Numbers.{num, nums, Octets}
+use Rattle.wire.specs.Numbers.{num}
 use Rattle.wire.specs.Checks.{pick}
-use Rattle.wire.specs.Tables.{field, render, total, Spells, Holds}
+use Rattle.wire.specs.Tables.{field, render, Spells}
 use Rattle.wire.specs.Answers.{Answer, refused, given}
 use Rattle.wire.proofs.CheckLaws.{never}
 use Rattle.wire.proofs.TableLaws.{render-length, spelt}
 use Rattle.wire.proofs.AnswerLaws.{rule-given}
-use Rattle.description.specs.Description.{constants, RVOL, RELV, RRAD, momentHead, Piece, Block, Moment, Description, blockCount, gates}
-use Rattle.description.specs.Description.{wordBytes, gateBytes, momentSize, momentPieces, pieces, InPieces, Named, AllStand, Agrees, Layout, MomentsLie, blockEnd, momentEnd}
+use Rattle.description.specs.Description.{constants, RVOL, RELV, RRAD, momentHead, Piece, Moment, Description, gates}
+use Rattle.description.specs.Description.{wordBytes, gateBytes, momentSize, momentPieces, pieces, InPieces, Named, AllStand, Layout, MomentsLie, blockEnd, momentEnd}
 use Rattle.description.specs.Refusal.{sizeIn, pointer, part, momentAt, momentsAt, countIn, description, radialChecks, radialOf}
-use Rattle.description.specs.Lookups.{onward, momentNamed, momentOf, Lying, momentLying, blocks, Asked, noSuch, lies, blockOf, Part, gatesIn}
-use Rattle.description.specs.Lookups.{gatesOf, bytesIn}
-use Rattle.description.specs.Demand3.{InBlocks, Listed, NamedExactly, SameAnswers, Unnamed, CodeAt, GateWords}
+use Rattle.description.specs.Lookups.{onward, momentNamed, momentOf, momentLying, blockOf, gatesIn}
+use Rattle.description.specs.Lookups.{gatesOf}
+use Rattle.description.specs.Demand3.{InBlocks, Listed, NamedExactly, Unnamed, CodeAt, GateWords}
 use Rattle.description.proofs.Runs.{nums-length, nums-at, nums-spell, total-run, part-spelt-from}
 use Rattle.description.proofs.Accepted.{block-total, moment-total, places-total, accepted, agreed}
 
