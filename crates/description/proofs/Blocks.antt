@@ -25,18 +25,25 @@ pub record BlockReads (z from p : ℕ) (l : List ℕ) (name least : ℕ) : Type 
   pub enough : least ≤ blockSays l
   pub within : p + blockSays l ≤ z
 
-pub block-reads : (q z from p : ℕ) (l : List ℕ) (name least : ℕ) (rest : List Check) → AllHold (blockChecks q z from p l name least rest)
-    → BlockReads z from p l name least × AllHold rest
-block-reads q z from p l name least rest h = (
-  record {
-    after = ltb-false p from (h .0);
-    room = ltb-false z (p + constantHead) (h .1 .0);
-    named = eqb-true (nameIn l) name (not-false _ (h .1 .1 .0));
-    enough = ltb-false (blockSays l) least (h .1 .1 .1 .0);
-    within = ltb-false z (p + blockSays l) (h .1 .1 .1 .1 .0);
-  },
-  h .1 .1 .1 .1 .1,
-)
+-- its checks hold, and R of the rest
+abbrev pub BlockHeld : ℕ → ℕ → ℕ → List ℕ → ℕ → ℕ → Type 0 → Type 0
+BlockHeld z from p l name least R =
+    (ltb p from ≡ false) × ((ltb z (p + constantHead) ≡ false)
+    × ((not (eqb (nameIn l) name) ≡ false) × ((ltb (blockSays l) least ≡ false) × ((ltb z (p + blockSays l) ≡ false) × R))))
+
+pub block-reads : {R : Type 0} (z from p : ℕ) (l : List ℕ) (name least : ℕ) → BlockHeld z from p l name least R
+    → BlockReads z from p l name least × R
+block-reads z from p l name least h =
+    let reads : BlockReads z from p l name least =
+    record {
+      after = ltb-false p from (h .0);
+      room = ltb-false z (p + constantHead) (h .1 .0);
+      named = eqb-true (nameIn l) name (not-false _ (h .1 .1 .0));
+      enough = ltb-false (blockSays l) least (h .1 .1 .1 .0);
+      within = ltb-false z (p + blockSays l) (h .1 .1 .1 .1 .0);
+    }
+    in
+    (reads, h .1 .1 .1 .1 .1)
 
 pub block-holds : (q z from p : ℕ) (l : List ℕ) (name least : ℕ) (rest : List Check) → BlockReads z from p l name least → AllHold rest
     → AllHold (blockChecks q z from p l name least rest)
@@ -101,20 +108,26 @@ pub record MomentReads (z from p : ℕ) (l seen : List ℕ) : Type 0 where
   pub words : Member (num 1 l 19) wordSizes
   pub within : p + momentSays l ≤ z
 
-pub moment-reads : (q z from p : ℕ) (l seen : List ℕ) (rest : List Check) → AllHold (momentChecks q z from p l seen rest)
-    → MomentReads z from p l seen × AllHold rest
-moment-reads q z from p l seen rest h = (
-  record {
-    after = ltb-false p from (h .0);
-    room = ltb-false z (p + momentHead) (h .1 .0);
-    known = among-member (nameIn l) permitted (not-false _ (h .1 .1 .0));
-    once = among-absent (nameIn l) seen (h .1 .1 .1 .0);
-    few = ltb-false mostGates (num 2 l 8) (h .1 .1 .1 .1 .0);
-    words = among-member (num 1 l 19) wordSizes (not-false _ (h .1 .1 .1 .1 .1 .0));
-    within = ltb-false z (p + momentSays l) (h .1 .1 .1 .1 .1 .1 .0);
-  },
-  h .1 .1 .1 .1 .1 .1 .1,
-)
+abbrev pub MomentHeld : ℕ → ℕ → ℕ → List ℕ → List ℕ → Type 0 → Type 0
+MomentHeld z from p l seen R =
+    (ltb p from ≡ false) × ((ltb z (p + momentHead) ≡ false)
+    × ((not (among (nameIn l) permitted) ≡ false) × ((among (nameIn l) seen ≡ false)
+    × ((ltb mostGates (num 2 l 8) ≡ false) × ((not (among (num 1 l 19) wordSizes) ≡ false) × ((ltb z (p + momentSays l) ≡ false) × R))))))
+
+pub moment-reads : {R : Type 0} (z from p : ℕ) (l seen : List ℕ) → MomentHeld z from p l seen R → MomentReads z from p l seen × R
+moment-reads z from p l seen h =
+    let reads : MomentReads z from p l seen =
+    record {
+      after = ltb-false p from (h .0);
+      room = ltb-false z (p + momentHead) (h .1 .0);
+      known = among-member (nameIn l) permitted (not-false _ (h .1 .1 .0));
+      once = among-absent (nameIn l) seen (h .1 .1 .1 .0);
+      few = ltb-false mostGates (num 2 l 8) (h .1 .1 .1 .1 .0);
+      words = among-member (num 1 l 19) wordSizes (not-false _ (h .1 .1 .1 .1 .1 .0));
+      within = ltb-false z (p + momentSays l) (h .1 .1 .1 .1 .1 .1 .0);
+    }
+    in
+    (reads, h .1 .1 .1 .1 .1 .1 .1)
 
 pub moment-holds : (q z from p : ℕ) (l seen : List ℕ) (rest : List Check) → MomentReads z from p l seen → AllHold rest
     → AllHold (momentChecks q z from p l seen rest)
@@ -142,7 +155,7 @@ moment-lies z from p l seen r =
       after = r .after;
       known = r .known;
       once = r .once;
-      few = rw (moment-gates p l) (r .few);
+      few = rw (moment-gates p l) (omega (arith, r .few));
       words = r .words;
       within = rw (moment-size p l) (r .within);
     }
@@ -201,7 +214,7 @@ module _ (b : List ℕ) (m : Moment) (s : Spells b (m .place) (momentFields m)) 
         room = omega (arith, h .within);
         known = rw moment-name (h .known);
         once = rw moment-name (h .once);
-        few = rw (moment-part .1 .1 .0) (h .few);
+        few = rw (moment-part .1 .1 .0) (omega (arith, h .few));
         words = rw moment-word (h .words);
         within = rw moment-says (h .within);
       }
