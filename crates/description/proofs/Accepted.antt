@@ -38,7 +38,7 @@ moments-lie b z from q seen zero h = tt
 moments-lie b z from q seen (suc n) h =
     let p = pointer b q in
     let l = part b q in
-    let r = moment-reads z from p l seen h in
+    let r = moment-reads q z from p l seen h in
     (moment-lies z from p l seen (r .0), rw (moment-size p l) (moments-lie b z (p + momentSays l) (q + 4) (seen ++ (nameIn l ∷ [])) n (r .1)))
 
 moments-spelt : (b : List ℕ) (q n : ℕ) → AllSpell b (momentPieces (momentsAt b q n))
@@ -92,9 +92,9 @@ sound b o h =
     let count-least : fewestBlocks ≤ countIn b = ltb-false (countIn b) fewestBlocks (h .1 .1 .1 .1 .0) in
     let count-most : countIn b ≤ mostBlocks = ltb-false mostBlocks (countIn b) (h .1 .1 .1 .1 .1 .0) in
     let counted : countIn b ≡ blockCount d = omega (arith, moments-length b 44 (countIn b - constants)) in
-    let v = block-reads z (firstPlace (countIn b)) (pointer b 32) (part b 32) RVOL volumeLeast (h .1 .1 .1 .1 .1 .1) in
-    let e = block-reads z (endAt b 32) (pointer b 36) (part b 36) RELV elevationLeast (v .1) in
-    let r = block-reads z (endAt b 36) (pointer b 40) (part b 40) RRAD radialLeast (e .1) in
+    let v = block-reads 32 z (firstPlace (countIn b)) (pointer b 32) (part b 32) RVOL volumeLeast (h .1 .1 .1 .1 .1 .1) in
+    let e = block-reads 36 z (endAt b 32) (pointer b 36) (part b 36) RELV elevationLeast (v .1) in
+    let r = block-reads 40 z (endAt b 36) (pointer b 40) (part b 40) RRAD radialLeast (e .1) in
     let v-size : blockSize (d .volumeBlock) ≡ blockSays (part b 32) = block-size (pointer b 32) (part b 32) (omega (arith, v .0 .enough)) in
     let e-size : blockSize (d .elevationBlock) ≡ blockSays (part b 36) = block-size (pointer b 36) (part b 36) (omega (arith, e .0 .enough)) in
     let r-size : blockSize (d .radialBlock) ≡ blockSays (part b 40) = block-size (pointer b 40) (part b 40) (omega (arith, r .0 .enough)) in

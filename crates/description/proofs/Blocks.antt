@@ -3,7 +3,7 @@ use Prim.Native.Nat.{ℕ, _+_, _-_, _*_, _/_, _≤_}
 use native.Mathlib.Omega.{arith}
 use mathlib.Core.Path.{_≡_, refl, sym, ap}
 use mathlib.Core.Bool.{false, not}
-use mathlib.Core.List.{List}
+use mathlib.Core.List.{List, [], _∷_}
 use lib.Dec.{ltb, eqb}
 use lib.ListN.{length, drop}
 use borrow.Author.Tests.{ltb-false, eqb-true, not-false, le-ltb, eq-eqb}
@@ -16,6 +16,11 @@ use Rattle.description.specs.Refusal.{nameIn, blockAt, momentAt, blockSa
 use Rattle.description.proofs.Runs.{nums-length, nums-spell, spell-nums, part-spells, part-spelt, among-member, member-among}
 use Rattle.description.proofs.Runs.{among-absent, absent-among}
 
+-- each check of the list holds, and R: what the checks after them say is left open
+abbrev pub HeldThen : List Check → Type 0 → Type 0
+HeldThen [] R = R
+HeldThen (k ∷ ks) R = (k .broken ≡ false) × HeldThen ks R
+
 -- ---- a constant block
 -- what its checks say
 pub record BlockReads (z from p : ℕ) (l : List ℕ) (name least : ℕ) : Type 0 where
@@ -25,15 +30,9 @@ pub record BlockReads (z from p : ℕ) (l : List ℕ) (name least : ℕ) : Type 
   pub enough : least ≤ blockSays l
   pub within : p + blockSays l ≤ z
 
--- its checks hold, and R of the rest
-abbrev pub BlockHeld : ℕ → ℕ → ℕ → List ℕ → ℕ → ℕ → Type 0 → Type 0
-BlockHeld z from p l name least R =
-    (ltb p from ≡ false) × ((ltb z (p + constantHead) ≡ false)
-    × ((not (eqb (nameIn l) name) ≡ false) × ((ltb (blockSays l) least ≡ false) × ((ltb z (p + blockSays l) ≡ false) × R))))
-
-pub block-reads : {R : Type 0} (z from p : ℕ) (l : List ℕ) (name least : ℕ) → BlockHeld z from p l name least R
+pub block-reads : {R : Type 0} (q z from p : ℕ) (l : List ℕ) (name least : ℕ) → HeldThen (blockChecks q z from p l name least []) R
     → BlockReads z from p l name least × R
-block-reads z from p l name least h =
+block-reads q z from p l name least h =
     let reads : BlockReads z from p l name least =
     record {
       after = ltb-false p from (h .0);
@@ -108,14 +107,9 @@ pub record MomentReads (z from p : ℕ) (l seen : List ℕ) : Type 0 where
   pub words : Member (num 1 l 19) wordSizes
   pub within : p + momentSays l ≤ z
 
-abbrev pub MomentHeld : ℕ → ℕ → ℕ → List ℕ → List ℕ → Type 0 → Type 0
-MomentHeld z from p l seen R =
-    (ltb p from ≡ false) × ((ltb z (p + momentHead) ≡ false)
-    × ((not (among (nameIn l) permitted) ≡ false) × ((among (nameIn l) seen ≡ false)
-    × ((ltb mostGates (num 2 l 8) ≡ false) × ((not (among (num 1 l 19) wordSizes) ≡ false) × ((ltb z (p + momentSays l) ≡ false) × R))))))
-
-pub moment-reads : {R : Type 0} (z from p : ℕ) (l seen : List ℕ) → MomentHeld z from p l seen R → MomentReads z from p l seen × R
-moment-reads z from p l seen h =
+pub moment-reads : {R : Type 0} (q z from p : ℕ) (l seen : List ℕ) → HeldThen (momentChecks q z from p l seen []) R
+    → MomentReads z from p l seen × R
+moment-reads q z from p l seen h =
     let reads : MomentReads z from p l seen =
     record {
       after = ltb-false p from (h .0);
