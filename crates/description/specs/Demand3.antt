@@ -1,5 +1,5 @@
--- Demand 3: a radial is accepted exactly if a description fits the body and agrees with it; that description is the only one and is what is
--- handed over; and what it does not name changes no answer.
+-- Demand 3: a radial is accepted exactly if a description has its layout in the body and agrees with it, no two descriptions do, and what the
+-- description does not name changes no answer.
 use Prim.Native.Nat.{ℕ, _+_, _*_, _≤_, _<_}
 use mathlib.Core.Path.{_≡_}
 use mathlib.Core.Logic.{_⊎_, _≢_, _↔_}
@@ -34,7 +34,8 @@ Listed d i = ((i ≤ 31) × (i ≢ 17)) ⊎ (((32 ≤ i) × (i < 32 + 4 * blockC
 abbrev pub NamedExactly : Type 0
 NamedExactly = (d : Description) (i : ℕ) → Named d i ↔ Listed d i
 
--- ---- two bodies give the same answers
+-- ---- what is not named
+-- two bodies have the same answers
 pub record SameAnswers (b b′ : List ℕ) : Type 0 where
   pub radial : radialOf b′ ≡ radialOf b
   pub moment : (name : ℕ) → momentOf b′ name ≡ momentOf b name
@@ -42,7 +43,7 @@ pub record SameAnswers (b b′ : List ℕ) : Type 0 where
   pub gates : (name : ℕ) → gatesOf b′ name ≡ gatesOf b name
   pub codes : (name : ℕ) (p : Part) → gatesOf b name ≡ given p → bytesIn b′ p ≡ bytesIn b p
 
--- bodies of one length that are equal at every byte that d names
+-- bodies of one length do that are equal at every byte that d names
 abbrev pub Unnamed : Type 0
 Unnamed = (b b′ : List ℕ) (d : Description) → Octets b → length b′ ≡ length b → radialOf b ≡ given d
     → ((i : ℕ) → Named d i → getD b′ i 0 ≡ getD b i 0) → SameAnswers b b′

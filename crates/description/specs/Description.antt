@@ -172,12 +172,12 @@ pointers d =
     ∷ field 4 (d .radialBlock .place)
     ∷ momentPlaces (d .moments)
 
--- a constant block: its name, "bytes 4-5 hold the block's length", and it is "kept whole"
+-- a constant block: its name, its length, and the rest of it: "kept whole"
 abbrev pub blockFields : ℕ → Block → List Field
 blockFields name k = field 4 name ∷ field 2 (blockSize k) ∷ map (field 1) (k .rest)
 
--- "name 0-3, reserved 4-7, gates 8-9, first range 10-11, interval 12-13, overlay threshold 14-15, noise threshold 16-17, flags 18,
--- word size 19, scale 20-23, offset 24-27 (32-bit floats). Then the gates, one word each."
+-- "A moment's first 28 bytes are name 0-3, reserved 4-7, gates 8-9 (0 to 1,840), first range 10-11, interval 12-13, overlay threshold 14-15,
+-- noise threshold 16-17, flags 18, word size 19 (8 or 16 bits), scale 20-23, offset 24-27 (32-bit floats). Then the gates, one word each."
 abbrev pub momentFields : Moment → List Field
 momentFields m =
     field 4 (m .name)

@@ -15,7 +15,7 @@ onward (refused n) f = refused n
 onward (given v) f = f v
 
 -- ---- a moment by its name
--- "21 moment asked for doesn't exist"
+-- 21: the moment "asked for doesn't exist"
 abbrev pub momentNamed : ℕ → List Moment → Answer Moment
 momentNamed name [] = refused 21
 momentNamed name (m ∷ ms) = pick (eqb (m .name) name) (given m) (momentNamed name ms)

@@ -81,7 +81,7 @@ abbrev pub momentSays : List ℕ → ℕ
 momentSays l = momentHead + num 2 l 8 * (num 1 l 19 / 8)
 
 -- ---- the checks, one comparison each, and after them the `rest` of the checks
--- "14 radial body under 68 bytes, 15 compression byte not 0, 16 radial length under 68 or above the body, 17 block count not 4 to 9"
+-- 14 "radial body under 68 bytes", 15 "compression byte not 0", 16 "radial length under 68 or above the body", 17 "block count not 4 to 9"
 abbrev pub headerChecks : List ℕ → List Check → List Check
 headerChecks b rest =
     check 14 (ltb (length b) headerSize)
@@ -92,9 +92,9 @@ headerChecks b rest =
     ∷ check 17 (ltb mostBlocks (countIn b))
     ∷ rest
 
--- a constant block at p with the part l, in a radial of z bytes, after one that ends at `from`; q is where its pointer stands.
--- "18 pointer too early, or fewer than 6 bytes left within the radial length, 19 wrong name, 20 block length under its minimum, or block past
--- the radial length"
+-- 18 "pointer too early, or fewer than 6 bytes (constant) or 28 (moment) left within the radial length", 19 "wrong, unknown or repeated name",
+-- 20 "block length under its minimum, gates, word size, or block past the radial length".
+-- A constant block at p, with the part l, in a radial of z bytes, after what ends at `from`. q, where its pointer stands, says which block it is
 abbrev pub blockChecks : ℕ → ℕ → ℕ → ℕ → List ℕ → ℕ → ℕ → List Check → List Check
 blockChecks q z from p l name least rest =
     check 18 (ltb p from)
@@ -104,9 +104,7 @@ blockChecks q z from p l name least rest =
     ∷ check 20 (ltb z (p + blockSays l))
     ∷ rest
 
--- a moment, after those with the names `seen`.
--- "18 pointer too early, or fewer than 28 bytes left within the radial length, 19 unknown or repeated name, 20 gates, word size, or block past
--- the radial length"
+-- a moment, after those with the names `seen`
 abbrev pub momentChecks : ℕ → ℕ → ℕ → ℕ → List ℕ → List ℕ → List Check → List Check
 momentChecks q z from p l seen rest =
     check 18 (ltb p from)
