@@ -1,0 +1,5 @@
+-- The value of a gate.
+pub mod Value
+pub mod Promises
+pub mod Laws
+pub mod Cases
