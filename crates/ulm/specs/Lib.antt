@@ -1,0 +1,3 @@
+-- Each answer of the library as the struct that C receives.
+pub mod Frames
+pub mod Radials
