@@ -1,0 +1,3 @@
+-- What the reader hands back, and what its private functions promise each other.
+pub mod Shown
+pub mod Steps
