@@ -4,3 +4,4 @@ pub mod StepLaws
 pub mod PartLaws
 pub mod ChainLaws
 pub mod LoopLaws
+pub mod WholeLaws

@@ -93,16 +93,16 @@ module _ (b : List ℕ) (z first n : ℕ) (names : List ℕ) (heads : List Momen
       long = length-set names i (h .name) ∙ g .long;
       place = omega (arith, g .place);
       same =
-        ap (λ (s : List ℕ). rule (momentsChecks z b end (q + 4) s (n - (i + 1))) all) names-are
-        ∙ ap (λ (m : MomentHead × ℕ). rule (momentsChecks z b (m .1) (q + 4) (seen ++ (m .0 .name ∷ [])) (n - (i + 1))) all) is
-        ∙ goes these met (h, end) (rule rest all) e
-        ∙ split;
+          ap (λ (s : List ℕ). rule (momentsChecks z b end (q + 4) s (n - (i + 1))) all) names-are
+          ∙ ap (λ (m : MomentHead × ℕ). rule (momentsChecks z b (m .1) (q + 4) (seen ++ (m .0 .name ∷ [])) (n - (i + 1))) all) is
+          ∙ goes these met (h, end) (rule rest all) e
+          ∙ split;
       filled =
-        ap (λ (x : List MomentHead). set x i h) (g .filled)
-        ∙ ap (λ (k : ℕ). set (map headOf (momentsAt b 44 i) ++ replicate k noHead) i h) one-left
-        ∙ set-at (map headOf (momentsAt b 44 i)) noHead (replicate (room - (i + 1)) noHead) h i (map-length (momentsAt b 44 i) ∙ moments-length b 44 i)
-        ∙ sym (append-assoc (map headOf (momentsAt b 44 i)) (h ∷ []) (replicate (room - (i + 1)) noHead))
-        ∙ ap (λ (x : List MomentHead). x ++ replicate (room - (i + 1)) noHead) snoc;
+          ap (λ (x : List MomentHead). set x i h) (g .filled)
+          ∙ ap (λ (k : ℕ). set (map headOf (momentsAt b 44 i) ++ replicate k noHead) i h) one-left
+          ∙ set-at (map headOf (momentsAt b 44 i)) noHead (replicate (room - (i + 1)) noHead) h i (map-length (momentsAt b 44 i) ∙ moments-length b 44 i)
+          ∙ sym (append-assoc (map headOf (momentsAt b 44 i)) (h ∷ []) (replicate (room - (i + 1)) noHead))
+          ∙ ap (λ (x : List MomentHead). x ++ replicate (room - (i + 1)) noHead) snoc;
     }
       where
         is : (h, end) ≡ met

@@ -10,8 +10,21 @@ use Rattle.wire.specs.Checks.{Check, check, among, pick}
 use Rattle.wire.specs.Answers.{Answer, refused, given, rule}
 use Rattle.description.specs.Description.{permitted, mostGates, wordSizes, constantHead, momentHead}
 use Rattle.description.specs.Refusal.{
-  sizeIn, countIn, pointer, part, nameIn, momentAt, momentsAt, blockSays, momentSays, headerChecks, blockChecks, momentChecks, momentsChecks, endAt,
-  constantsChecks
+  sizeIn,
+  countIn,
+  pointer,
+  part,
+  nameIn,
+  momentAt,
+  momentsAt,
+  blockSays,
+  momentSays,
+  headerChecks,
+  blockChecks,
+  momentChecks,
+  momentsChecks,
+  endAt,
+  constantsChecks,
 }
 use Rattle.radial.specs.Shown.{headOf, headsOf}
 use Rattle.radial.specs.declared.Span.{Span}

@@ -11,7 +11,6 @@ ghost use Rattle.description.specs.Description.{permitted as permittedNames, wo
 ghost use Rattle.description.specs.Refusal.{nameIn, sizeIn, description, radialOf};
 ghost use Rattle.radial.specs.Shown.{room, headerOf, noHeader, noHead, shown};
 ghost use Rattle.radial.specs.Steps.{tellStart, tellFound, tellConstants, tellGot, tellHeads, headIn, startOf, constantIn, constantAt, constantsOf, momentIn, nextOf, momentsOf};
-
 use wire::refusal;
 
 // "The header takes bytes 0 to 67": the first block begins there or later.
@@ -345,7 +344,14 @@ fn all_constants(body: &[u8], size: u32, first: u32) -> Constants
         Found::Refused(number) => Constants::Refused(number),
         Found::Constant(volume, from) => match constant_at(body, size, from, 36, b"RELV", 12) {
             Found::Refused(number) => Constants::Refused(number),
-            Found::Constant(elevation, next) => match constant_at(body, size, next, 40, b"RRAD", 20) {
+            Found::Constant(elevation, next) => match constant_at(
+                body,
+                size,
+                next,
+                40,
+                b"RRAD",
+                20,
+            ) {
                 Found::Refused(number) => Constants::Refused(number),
                 Found::Constant(radial, end) => Constants::Blocks(volume, elevation, radial, end),
             },
