@@ -17,7 +17,7 @@ use Rattle.radial.specs.Shown.{room, headOf, noHead, headsOf}
 use Rattle.radial.specs.Steps.{nextOf, momentsOf}
 use Rattle.radial.proofs.ChainLaws.{stops, goes, given-is}
 
-map-length : (ms : List Moment) → length (map headOf ms) ≡ length ms
+pub map-length : (ms : List Moment) → length (map headOf ms) ≡ length ms
 map-length [] = refl
 map-length (m ∷ ms) = ap suc (map-length ms)
 

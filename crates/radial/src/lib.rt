@@ -108,7 +108,7 @@ struct Heads {
     heads: [MomentHead; ROOM],
 }
 
-fn float_of(bits: u32) -> f32
+pub fn float_of(bits: u32) -> f32
     ensures { λ r. ⌜ r ≡ ofBits binary32 bits ⌝ }
 {
     if bits % 2147483648 <= 2139095040 {
@@ -370,7 +370,7 @@ fn sized(word: u8) -> bool
 }
 
 // How many bytes a moment has with its gates, one word each.
-fn moment_size(gates: u16, word: u8) -> u32
+pub fn moment_size(gates: u16, word: u8) -> u32
     ensures { λ r. ⌜ r ≡ momentHead + gates * (word / 8) ⌝ }
 {
     28 + gates as u32 * (word as u32 / 8)

@@ -1,0 +1,2 @@
+-- What the lookups promise.
+pub mod Told
