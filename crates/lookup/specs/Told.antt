@@ -2,19 +2,18 @@
 use Prim.Native.Nat.{ℕ, _+_}
 use mathlib.Core.Path.{_≡_}
 use mathlib.Core.Option.{Option, none, some}
-use mathlib.Core.List.{List, []}
+use mathlib.Core.List.{List}
 use lib.ListN.{length}
 use denote.Ref.{RefT, now}
 use Rattle.wire.specs.Answers.{Answer, refused, given}
 use Rattle.description.specs.Description.{Moment, gates}
-use Rattle.description.specs.Lookups.{onward, Asked, noSuch, lies, Lying as Block, Part, gatesIn, bytesIn}
+use Rattle.description.specs.Lookups.{Asked, noSuch, lies, Part, bytesIn}
 use Rattle.radial.specs.declared.MomentHead.{MomentHead}
 use Rattle.radial.specs.Shown.{headOf}
 use Rattle.lookup.specs.declared.MomentAnswer.{MomentAnswer}
 use Rattle.lookup.specs.declared.MomentAnswer.the-variants.{Moment as Found, Refused as NotFound}
 use Rattle.lookup.specs.declared.BlockAnswer.{BlockAnswer}
 use Rattle.lookup.specs.declared.BlockAnswer.the-variants.{Constant, Moment as MomentBlock, NoSuch, Refused as NoBlock}
-use Rattle.lookup.specs.declared.Located.{Located}
 
 -- ---- a moment: its head and its place, or the number of refusal
 abbrev pub tellMoment : MomentAnswer → Answer MomentHead
@@ -70,12 +69,3 @@ pub record LiesAt (body r : RefT (List ℕ)) (p : Part) : Type 0 where
   pub place : r .ptr .1 ≡ body .ptr .1 + p .place
   pub size : length (now r) ≡ p .size
   pub bytes : now r ≡ bytesIn (now body) p
-
--- the same as numbers, before the part is cut
-abbrev pub located : Answer Moment → Located
-located a = record {
-  number = numberOf a;
-  gates = countOf a;
-  start = partOf (onward a (λ m. given (gatesIn m))) .place;
-  size = partOf (onward a (λ m. given (gatesIn m))) .size;
-}

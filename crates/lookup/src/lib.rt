@@ -1,20 +1,20 @@
 // What is asked of a radial: a moment by its name, a block by its number, a moment's gates where they lie in the lent body.
 ghost use mathlib.Core.Path.{_≡_};
 ghost use Prim.Native.Nat.{_+_, _≤_};
-ghost use lib.ListN.{length};
-ghost use Rattle.wire.specs.Numbers.{num};
+ghost use mathlib.Core.Option.{some};
+ghost use lib.ListN.{length, take};
+ghost use Rattle.wire.specs.Numbers.{num, fetched};
+ghost use Rattle.wire.specs.Answers.{given};
 ghost use Rattle.description.specs.Lookups.{momentOf, blockOf, gatesOf};
-ghost use Rattle.lookup.specs.Told.{tellMoment, headShown, tellBlock, blockShown, LiesAt, partOf, located};
+ghost use Rattle.radial.specs.Shown.{room};
+ghost use Rattle.lookup.specs.Told.{tellMoment, headShown, tellBlock, blockShown, LiesAt, partOf};
+ghost use Rattle.lookup.specs.Steps.{headNamed, constantTold, momentTold, located};
 use radial::MomentHead;
-use radial::Radial;
 use radial::Span;
 use wire::refusal;
 
-// "The first block" is number 1.
-const CONSTANTS: u32 = 3;
-
-// Bytes of a moment before its gates.
-const MOMENT_HEAD: u32 = 28;
+// The blocks that are no moments.
+const CONSTANTS: u16 = 3;
 
 pub enum MomentAnswer {
     Moment(MomentHead),
@@ -40,12 +40,15 @@ pub enum BlockAnswer {
 struct Located {
     number: u8,
     gates: u16,
-    start: u32,
-    size: u32,
+    start: usize,
+    size: usize,
 }
 
 // The moment with a name, among the first `count`.
-fn find(heads: [MomentHead; radial::ROOM], count: usize, name: u32) -> MomentAnswer {
+fn find(heads: [MomentHead; radial::ROOM], count: usize, name: u32) -> MomentAnswer
+    requires { ⌜ count ≤ room ⌝ }
+    ensures { λ r. ⌜ tellMoment r ≡ headNamed name (take count heads) ⌝ }
+{
     let mut i = 0;
     while i < count {
         let head = heads[i];
@@ -57,17 +60,21 @@ fn find(heads: [MomentHead; radial::ROOM], count: usize, name: u32) -> MomentAns
     MomentAnswer::Refused(refusal::ASKED_FOR)
 }
 
-pub fn moment(body: &[u8], name: [u8; 4]) -> MomentAnswer {
+pub fn moment(body: &[u8], name: [u8; 4]) -> MomentAnswer
+    ensures { λ r. ⌜ tellMoment r ≡ headShown (momentOf (now (body .entry)) (num 4 name 0)) ⌝ }
+{
     let wanted = wire::fetch32(&name, 0);
     let read = radial::read_radial(body);
     if read.refusal != 0 {
         return MomentAnswer::Refused(read.refusal);
     }
     let heads = read.moments;
-    find(heads, (read.count - 3) as usize, wanted)
+    find(heads, (read.count - CONSTANTS) as usize, wanted)
 }
 
-fn constant(name: &[u8], span: Span) -> BlockAnswer {
+fn constant(name: &[u8], span: Span) -> BlockAnswer
+    ensures { λ r. ⌜ tellBlock r ≡ given (some (constantTold (fetched 4 (now (name .entry)) 0) span)) ⌝ }
+{
     BlockAnswer::Constant(Lying {
         name: wire::fetch32(name, 0),
         place: span.place,
@@ -75,11 +82,17 @@ fn constant(name: &[u8], span: Span) -> BlockAnswer {
     })
 }
 
-fn block_in(read: Radial, k: u32) -> BlockAnswer {
-    if k == 0 {
-        return BlockAnswer::NoSuch;
+pub fn block(body: &[u8], k: u32) -> BlockAnswer
+    ensures { λ r. ⌜ tellBlock r ≡ blockShown (blockOf (now (body .entry)) k) ⌝ }
+{
+    let read = radial::read_radial(body);
+    if read.refusal != 0 {
+        return BlockAnswer::Refused(read.refusal);
     }
     if (read.count as u32) < k {
+        return BlockAnswer::NoSuch;
+    }
+    if k == 0 {
         return BlockAnswer::NoSuch;
     }
     if k == 1 {
@@ -95,7 +108,13 @@ fn block_in(read: Radial, k: u32) -> BlockAnswer {
         return constant(b"RRAD", span);
     }
     let heads = read.moments;
-    let head = heads[(k - 4) as usize];
+    let i = (k - 4) as usize;
+    moment_block(heads[i])
+}
+
+fn moment_block(head: MomentHead) -> BlockAnswer
+    ensures { λ r. ⌜ tellBlock r ≡ given (some (momentTold head)) ⌝ }
+{
     let lying = Lying {
         name: head.name,
         place: head.place,
@@ -104,15 +123,9 @@ fn block_in(read: Radial, k: u32) -> BlockAnswer {
     BlockAnswer::Moment(lying, head)
 }
 
-pub fn block(body: &[u8], k: u32) -> BlockAnswer {
-    let read = radial::read_radial(body);
-    if read.refusal != 0 {
-        return BlockAnswer::Refused(read.refusal);
-    }
-    block_in(read, k)
-}
-
-fn locate(body: &[u8], name: [u8; 4]) -> Located {
+fn locate(body: &[u8], name: [u8; 4]) -> Located
+    ensures { λ r. ⌜ r ≡ located (momentOf (now (body .entry)) (num 4 name 0)) ⌝ }
+{
     match moment(body, name) {
         MomentAnswer::Refused(number) => Located {
             number: number,
@@ -123,19 +136,23 @@ fn locate(body: &[u8], name: [u8; 4]) -> Located {
         MomentAnswer::Moment(head) => Located {
             number: 0,
             gates: head.gates,
-            start: head.place + MOMENT_HEAD,
-            size: radial::moment_size(head.gates, head.word) - MOMENT_HEAD,
+            start: head.place as usize + 28,
+            size: radial::moment_size(head.gates, head.word) as usize - 28,
         },
     }
 }
 
-fn part(body: &[u8], start: u32, size: u32) -> &[u8] {
-    let from = start as usize;
-    let to = from + size as usize;
-    &body[from..to]
+fn part(body: &[u8], start: usize, size: usize) -> &[u8]
+    requires { ⌜ start + size ≤ length (now body) ⌝ }
+    ensures { λ r. ⌜ LiesAt (body .entry) r (record { place = start; size = size }) ⌝ }
+{
+    let end = start + size;
+    &body[start..end]
 }
 
-pub fn gates(body: &[u8], name: [u8; 4]) -> &[u8] {
+pub fn gates(body: &[u8], name: [u8; 4]) -> &[u8]
+    ensures { λ r. ⌜ LiesAt (body .entry) r (partOf (gatesOf (now (body .entry)) (num 4 name 0))) ⌝ }
+{
     let found = locate(body, name);
     part(body, found.start, found.size)
 }
