@@ -1,0 +1,3 @@
+-- The laws between the lookups' code and the rule.
+pub mod FindLaws
+pub mod LookupLaws

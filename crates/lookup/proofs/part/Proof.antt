@@ -1,0 +1,43 @@
+use Prim.Native.Nat.{ℕ, _+_, _-_}
+use mathlib.Core.Path.{_≡_, refl, ap, _∙_}
+use native.Mathlib.Omega.{arith}
+use lib.ListN.{length, take, drop, length-drop}
+use lib.Seq.{length-take-le}
+use denote.Ref.{now}
+use borrow.Author.Needs.{needs}
+use Rattle.lookup.proofs.part.Statement.{statement}
+use Rattle.lookup.proofs.part.Tie as tie
+use Rattle.lookup.proofs.part.Reads as reads
+use Rattle.lookup.proofs.part.Lts as lts
+
+-- src/lib.rt:149:15
+add-end : tie.Need-add-end
+add-end c = search needs
+
+-- src/lib.rt:150:5
+sub-result : tie.Need-sub-result
+sub-result c = search needs
+
+-- src/lib.rt:150:5
+part-result-start : tie.Need-part-result-start
+part-result-start c = search needs
+
+-- src/lib.rt:150:5
+part-result-end : tie.Need-part-result-end
+part-result-end c = search needs
+
+-- src/lib.rt:145:1
+returns : tie.Need-returns
+returns c =
+    let a = c .before .args in
+    let e : a .start + a .size - a .start ≡ a .size = omega arith in
+    let bytes : take (a .start + a .size - a .start) (drop (a .start) (now (a .body))) ≡ take (a .size) (drop (a .start) (now (a .body))) = ap (λ (n : ℕ). take n (drop (a .start) (now (a .body)))) e in
+    record {
+      memory = refl;
+      place = omega arith;
+      size = ap length bytes ∙ length-take-le (a .size) (drop (a .start) (now (a .body))) (rw length-drop (omega (arith, c .before .pre)));
+      bytes = bytes;
+    }
+
+pub part-spec : {M : Type 1} → statement M
+part-spec = tie.close (tie.spec add-end sub-result part-result-start part-result-end returns)

@@ -1,0 +1,3 @@
+-- What the lookups promise, and what their private functions promise each other.
+pub mod Told
+pub mod Steps

@@ -1,0 +1,34 @@
+-- What the private functions promise each other. No public promise cites this file.
+use Prim.Native.Nat.{ℕ, _+_, _*_, _/_}
+use mathlib.Core.Option.{none, some}
+use mathlib.Core.List.{List, [], _∷_}
+use lib.Dec.{eqb}
+use Rattle.wire.specs.Checks.{pick}
+use Rattle.wire.specs.Answers.{Answer, refused, given}
+use Rattle.description.specs.Description.{momentHead, Moment}
+use Rattle.description.specs.Lookups.{onward, gatesIn}
+use Rattle.radial.specs.declared.MomentHead.{MomentHead}
+use Rattle.radial.specs.declared.Span.{Span}
+use Rattle.lookup.specs.declared.Located.{Located}
+use Rattle.lookup.specs.Told.{Told, numberOf, countOf, partOf}
+
+-- the first head with a name
+abbrev pub headNamed : ℕ → List MomentHead → Answer MomentHead
+headNamed name [] = refused 21
+headNamed name (h ∷ hs) = pick (eqb (h .name) name) (given h) (headNamed name hs)
+
+-- a block by the reader's struct
+abbrev pub constantTold : ℕ → Span → Told
+constantTold name s = record { name = name; place = s .place; size = s .length; head = none }
+
+abbrev pub momentTold : MomentHead → Told
+momentTold h = record { name = h .name; place = h .place; size = momentHead + h .gates * (h .word / 8); head = some h }
+
+-- the number, the gate count and the part's place and size, before the part is cut
+abbrev pub located : Answer Moment → Located
+located a = record {
+  number = numberOf a;
+  gates = countOf a;
+  start = partOf (onward a (λ m. given (gatesIn m))) .place;
+  size = partOf (onward a (λ m. given (gatesIn m))) .size;
+}

@@ -1,0 +1,158 @@
+// What is asked of a radial: a moment by its name, a block by its number, a moment's gates where they lie in the lent body.
+ghost use mathlib.Core.Path.{_≡_};
+ghost use Prim.Native.Nat.{_+_, _≤_};
+ghost use mathlib.Core.Option.{some};
+ghost use lib.ListN.{length, take};
+ghost use Rattle.wire.specs.Numbers.{num, fetched};
+ghost use Rattle.wire.specs.Answers.{given};
+ghost use Rattle.description.specs.Lookups.{momentOf, blockOf, gatesOf};
+ghost use Rattle.radial.specs.Shown.{room};
+ghost use Rattle.lookup.specs.Told.{tellMoment, headShown, tellBlock, blockShown, LiesAt, partOf};
+ghost use Rattle.lookup.specs.Steps.{headNamed, constantTold, momentTold, located};
+use radial::MomentHead;
+use radial::Span;
+use wire::refusal;
+
+// The blocks that are no moments.
+const CONSTANTS: u16 = 3;
+
+pub enum MomentAnswer {
+    Moment(MomentHead),
+    Refused(u8),
+}
+
+// A block's name, place and length.
+pub struct Lying {
+    pub name: u32,
+    pub place: u32,
+    pub size: u32,
+}
+
+// That there is no such block is no refusal: no number covers it.
+pub enum BlockAnswer {
+    Constant(Lying),
+    Moment(Lying, MomentHead),
+    NoSuch,
+    Refused(u8),
+}
+
+// A refusal's number or 0, the gate count, and where the gates lie.
+struct Located {
+    number: u8,
+    gates: u16,
+    start: usize,
+    size: usize,
+}
+
+// The moment with a name, among the first `count`.
+fn find(heads: [MomentHead; radial::ROOM], count: usize, name: u32) -> MomentAnswer
+    requires { ⌜ count ≤ room ⌝ }
+    ensures { λ r. ⌜ tellMoment r ≡ headNamed name (take count heads) ⌝ }
+{
+    let mut i = 0;
+    while i < count {
+        let head = heads[i];
+        if head.name == name {
+            return MomentAnswer::Moment(head);
+        }
+        i += 1;
+    }
+    MomentAnswer::Refused(refusal::ASKED_FOR)
+}
+
+pub fn moment(body: &[u8], name: [u8; 4]) -> MomentAnswer
+    ensures { λ r. ⌜ tellMoment r ≡ headShown (momentOf (now (body .entry)) (num 4 name 0)) ⌝ }
+{
+    let wanted = wire::fetch32(&name, 0);
+    let read = radial::read_radial(body);
+    if read.refusal != 0 {
+        return MomentAnswer::Refused(read.refusal);
+    }
+    let heads = read.moments;
+    find(heads, (read.count - CONSTANTS) as usize, wanted)
+}
+
+fn constant(name: &[u8], span: Span) -> BlockAnswer
+    ensures { λ r. ⌜ tellBlock r ≡ given (some (constantTold (fetched 4 (now (name .entry)) 0) span)) ⌝ }
+{
+    BlockAnswer::Constant(Lying {
+        name: wire::fetch32(name, 0),
+        place: span.place,
+        size: span.length as u32,
+    })
+}
+
+pub fn block(body: &[u8], k: u32) -> BlockAnswer
+    ensures { λ r. ⌜ tellBlock r ≡ blockShown (blockOf (now (body .entry)) k) ⌝ }
+{
+    let read = radial::read_radial(body);
+    if read.refusal != 0 {
+        return BlockAnswer::Refused(read.refusal);
+    }
+    if (read.count as u32) < k {
+        return BlockAnswer::NoSuch;
+    }
+    if k == 0 {
+        return BlockAnswer::NoSuch;
+    }
+    if k == 1 {
+        let span = read.volume;
+        return constant(b"RVOL", span);
+    }
+    if k == 2 {
+        let span = read.elevation;
+        return constant(b"RELV", span);
+    }
+    if k == 3 {
+        let span = read.radial;
+        return constant(b"RRAD", span);
+    }
+    let heads = read.moments;
+    let i = (k - 4) as usize;
+    moment_block(heads[i])
+}
+
+fn moment_block(head: MomentHead) -> BlockAnswer
+    ensures { λ r. ⌜ tellBlock r ≡ given (some (momentTold head)) ⌝ }
+{
+    let lying = Lying {
+        name: head.name,
+        place: head.place,
+        size: radial::moment_size(head.gates, head.word),
+    };
+    BlockAnswer::Moment(lying, head)
+}
+
+fn locate(body: &[u8], name: [u8; 4]) -> Located
+    ensures { λ r. ⌜ r ≡ located (momentOf (now (body .entry)) (num 4 name 0)) ⌝ }
+{
+    match moment(body, name) {
+        MomentAnswer::Refused(number) => Located {
+            number: number,
+            gates: 0,
+            start: 0,
+            size: 0,
+        },
+        MomentAnswer::Moment(head) => Located {
+            number: 0,
+            gates: head.gates,
+            start: head.place as usize + 28,
+            size: radial::moment_size(head.gates, head.word) as usize - 28,
+        },
+    }
+}
+
+fn part(body: &[u8], start: usize, size: usize) -> &[u8]
+    requires { ⌜ start + size ≤ length (now body) ⌝ }
+    ensures { λ r. ⌜ LiesAt (body .entry) r (record { place = start; size = size }) ⌝ }
+{
+    let end = start + size;
+    &body[start..end]
+}
+
+pub fn gates(body: &[u8], name: [u8; 4]) -> &[u8]
+    ensures { λ r. ⌜ LiesAt (body .entry) r (partOf (gatesOf (now (body .entry)) (num 4 name 0))) ⌝ }
+{
+    let found = locate(body, name);
+    part(body, found.start, found.size)
+}

@@ -1,0 +1,8 @@
+-- The laws between the reader's code and the rule.
+pub mod FloatLaws
+pub mod StepLaws
+pub mod PartLaws
+pub mod ChainLaws
+pub mod LoopLaws
+pub mod WholeLaws
+pub mod HandedLaws
