@@ -1,0 +1,50 @@
+-- Message 9 on either side of each limit.
+use Prim.Native.Nat.{ℕ}
+use mathlib.Core.Path.{_≡_}
+use mathlib.Core.List.{List, [], _∷_}
+use Rattle.wire.specs.Answers.{Answer, refused, given, Outcome, refusal}
+use Rattle.request.specs.Request.{requestOf, requestWritten}
+
+-- a body and the reader's answer; a list, the output before, and the writer's outcome
+pub data Case : Type 0 where
+  read : List ℕ → Answer ℕ → Case
+  write : List ℕ → List ℕ → Outcome ℕ → Case
+
+abbrev pub Shows : Case → Type 0
+Shows (read body answer) = requestOf body ≡ answer
+Shows (write list out right) = requestWritten list out ≡ right
+
+abbrev pub All : List Case → Type 0
+All [] = Unit {0}
+All (c ∷ cs) = Shows c × All cs
+
+abbrev pub cases : List Case
+cases =
+    read [] (refused 23)
+    ∷ read (129 ∷ []) (refused 23)
+    ∷ read (0 ∷ 129 ∷ 0 ∷ []) (refused 23)
+    ∷ read (0 ∷ 0 ∷ []) (refused 24)
+    ∷ read (0 ∷ 128 ∷ []) (refused 24)
+    ∷ read (0 ∷ 129 ∷ []) (given 129)
+    ∷ read (0 ∷ 130 ∷ []) (given 130)
+    ∷ read (0 ∷ 131 ∷ []) (refused 24)
+    ∷ read (0 ∷ 132 ∷ []) (given 132)
+    ∷ read (0 ∷ 133 ∷ []) (refused 24)
+    ∷ read (0 ∷ 135 ∷ []) (refused 24)
+    ∷ read (0 ∷ 136 ∷ []) (given 136)
+    ∷ read (0 ∷ 137 ∷ []) (refused 24)
+    ∷ read (0 ∷ 143 ∷ []) (refused 24)
+    ∷ read (0 ∷ 144 ∷ []) (given 144)
+    ∷ read (0 ∷ 145 ∷ []) (refused 24)
+    ∷ read (0 ∷ 159 ∷ []) (refused 24)
+    ∷ read (0 ∷ 160 ∷ []) (given 160)
+    ∷ read (0 ∷ 161 ∷ []) (refused 24)
+    ∷ read (1 ∷ 129 ∷ []) (refused 24)
+    ∷ read (129 ∷ 0 ∷ []) (refused 24)
+    ∷ write [] (7 ∷ 7 ∷ []) (refusal (7 ∷ 7 ∷ []) 23)
+    ∷ write (129 ∷ 129 ∷ []) (7 ∷ 7 ∷ []) (refusal (7 ∷ 7 ∷ []) 23)
+    ∷ write (128 ∷ []) (7 ∷ []) (refusal (7 ∷ []) 24)
+    ∷ write (160 ∷ []) (7 ∷ []) (refusal (7 ∷ []) 13)
+    ∷ write (160 ∷ []) (7 ∷ 7 ∷ []) (record { answer = given 2; output = 0 ∷ 160 ∷ [] })
+    ∷ write (160 ∷ []) (7 ∷ 7 ∷ 7 ∷ []) (record { answer = given 2; output = 0 ∷ 160 ∷ 7 ∷ [] })
+    ∷ []
