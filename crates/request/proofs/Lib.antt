@@ -1,4 +1,4 @@
--- The laws of message 9, its cases, and that no two answers satisfy one promise.
+-- The laws of message 9, its cases, and that each promise has one answer.
 pub mod Steps
 pub mod Trips
 pub mod Table

@@ -1,6 +1,5 @@
 -- Each promise of message 9 has one answer. Assumes nothing.
 use mathlib.Core.Path.{_≡_}
-use mathlib.Core.List.{List}
 use Rattle.wire.proofs.CheckLaws.{never}
 use Rattle.wire.proofs.AnswerLaws.{only, only-answer}
 use Rattle.request.specs.declared.RequestAnswer.{RequestAnswer}

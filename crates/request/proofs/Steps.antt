@@ -2,15 +2,15 @@
 use Prim.Native.Nat.{ℕ, _/_, _%_, _≤_, _<_}
 use native.Mathlib.Omega.{arith}
 use mathlib.Core.Path.{_≡_, refl, sym, ap, _∙_}
-use mathlib.Core.Bool.{Bool, true, false, not}
+use mathlib.Core.Bool.{Bool, true, false}
 use mathlib.Core.List.{List, [], _∷_}
 use borrow.Author.Tests.{eq-eqb, ne-eqb, lt-ltb, le-ltb}
 use lib.Dec.{eqb}
 use lib.ListN.{length, getD, drop, set}
 use Rattle.wire.specs.Numbers.{num, be}
-use Rattle.wire.specs.Checks.{pick, among}
+use Rattle.wire.specs.Checks.{pick}
 use Rattle.wire.specs.Answers.{Answer, refused, given, Outcome, refusal, Promise}
-use Rattle.request.specs.Request.{permitted, isPermitted, requestOf, requestWritten}
+use Rattle.request.specs.Request.{isPermitted, requestOf, requestWritten}
 
 last-is : (t : Bool) → t ≡ pick t true false
 last-is true = refl

@@ -6,6 +6,4 @@ use Rattle.request.specs.Cases.{All, cases}
 
 pub table : All cases
 unfolding num isPermitted requestOf requestWritten
-table =
-    (refl, (refl, (refl, (refl, (refl, (refl, (refl, (refl, (refl, (refl, (refl, (refl, (refl, (refl,
-    (refl, (refl, (refl, (refl, (refl, (refl, (refl, (refl, (refl, (refl, (refl, (refl, (refl, tt)))))))))))))))))))))))))))
+table = refl

@@ -1,22 +1,30 @@
 -- Message 9 on either side of each limit.
 use Prim.Native.Nat.{ℕ}
 use mathlib.Core.Path.{_≡_}
-use mathlib.Core.List.{List, [], _∷_}
+use mathlib.Core.List.{List, [], _∷_, map}
 use Rattle.wire.specs.Answers.{Answer, refused, given, Outcome, refusal}
 use Rattle.request.specs.Request.{requestOf, requestWritten}
 
--- a body and the reader's answer; a list, the output before, and the writer's outcome
+-- a body with the reader's right answer; a list and the output before, with the writer's right outcome
 pub data Case : Type 0 where
   read : List ℕ → Answer ℕ → Case
   write : List ℕ → List ℕ → Outcome ℕ → Case
 
-abbrev pub Shows : Case → Type 0
-Shows (read body answer) = requestOf body ≡ answer
-Shows (write list out right) = requestWritten list out ≡ right
+pub data Result : Type 0 where
+  answered : Answer ℕ → Result
+  wrote : Outcome ℕ → Result
 
+abbrev pub found : Case → Result
+found (read body answer) = answered (requestOf body)
+found (write list out outcome) = wrote (requestWritten list out)
+
+abbrev pub right : Case → Result
+right (read body answer) = answered answer
+right (write list out outcome) = wrote outcome
+
+-- of every case the rules say what is right
 abbrev pub All : List Case → Type 0
-All [] = Unit {0}
-All (c ∷ cs) = Shows c × All cs
+All cs = map found cs ≡ map right cs
 
 abbrev pub cases : List Case
 cases =

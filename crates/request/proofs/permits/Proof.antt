@@ -1,48 +1,41 @@
-use Rattle.request.proofs.Steps.{at-last}
 use borrow.Author.Tests.{eq-eqb, ne-eqb}
-use borrow.Author.Needs.{needs}
 use Rattle.request.specs.Request.{isPermitted}
+use Rattle.request.proofs.Steps.{at-last}
 use Rattle.request.proofs.permits.Statement.{statement}
 use Rattle.request.proofs.permits.Tie as tie
-use Rattle.request.proofs.permits.Reads as reads
-use Rattle.request.proofs.permits.Lts as lts
-
 
 returns : tie.Need-returns
 unfolding isPermitted
 returns c = simp (eq-eqb _ _ (c .if1 .taken))
 
-
 returns-2 : tie.Need-returns-2
 unfolding isPermitted
 returns-2 c = simp (ne-eqb _ _ (c .before .if1 .left), eq-eqb _ _ (c .if2 .taken))
-
 
 returns-3 : tie.Need-returns-3
 unfolding isPermitted
 returns-3 c = simp (ne-eqb _ _ (c .before .before .if1 .left), ne-eqb _ _ (c .before .if2 .left), eq-eqb _ _ (c .if3 .taken))
 
-
 returns-4 : tie.Need-returns-4
 unfolding isPermitted
 returns-4 c =
-    simp
-    (ne-eqb _ _ (c .before .before .before .if1 .left),
-    ne-eqb _ _ (c .before .before .if2 .left),
-    ne-eqb _ _ (c .before .if3 .left),
-    eq-eqb _ _ (c .if4 .taken))
-
+    simp (
+      ne-eqb _ _ (c .before .before .before .if1 .left),
+      ne-eqb _ _ (c .before .before .if2 .left),
+      ne-eqb _ _ (c .before .if3 .left),
+      eq-eqb _ _ (c .if4 .taken),
+    )
 
 returns-5 : tie.Need-returns-5
 unfolding isPermitted
 returns-5 c =
-    simp
-    (ne-eqb _ _ (c .before .before .before .before .if1 .left),
-    ne-eqb _ _ (c .before .before .before .if2 .left),
-    ne-eqb _ _ (c .before .before .if3 .left),
-    ne-eqb _ _ (c .before .if4 .left),
-    eq-eqb _ _ (c .if5 .taken))
-
+    simp (
+      ne-eqb _ _ (c .before .before .before .before .if1 .left),
+      ne-eqb _ _ (c .before .before .before .if2 .left),
+      ne-eqb _ _ (c .before .before .if3 .left),
+      ne-eqb _ _ (c .before .if4 .left),
+      eq-eqb _ _ (c .if5 .taken),
+    )
 
 returns-6 : tie.Need-returns-6
 returns-6 c =

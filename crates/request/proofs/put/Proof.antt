@@ -1,23 +1,19 @@
+use native.Mathlib.Omega.{arith}
 use denote.Ref.{now}
-use Rattle.request.proofs.Steps.{two-stored}
 use borrow.Author.Needs.{needs}
+use lib.ListN.{length-set}
+use Rattle.request.proofs.Steps.{two-stored}
 use Rattle.request.proofs.put.Statement.{statement}
 use Rattle.request.proofs.put.Tie as tie
-use Rattle.request.proofs.put.Reads as reads
-use Rattle.request.proofs.put.Lts as lts
-
 
 slice-write-out : tie.Need-slice-write-out
 slice-write-out c = search needs
 
-
 slice-write-out-2 : tie.Need-slice-write-out-2
-slice-write-out-2 c = search needs
-
+slice-write-out-2 c = simp length-set (omega arith)
 
 same-length : tie.Need-same-length
 same-length c = search needs
-
 
 returns : tie.Need-returns
 returns c = two-stored (now (c .args .out)) _ _ (c .pre)

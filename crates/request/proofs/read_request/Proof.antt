@@ -1,22 +1,15 @@
-use Rattle.request.specs.Request.{isPermitted}
-use Rattle.wire.specs.Answers.{given}
 use Prim.Native.Nat.{ℕ}
-use mathlib.Core.Bool.{Bool}
 use mathlib.Core.Path.{_≡_, _∙_, sym, ap}
-use Rattle.request.proofs.Steps.{body-long, body-code, body-fine}
-use Rattle.wire.specs.Numbers.{num}
 use denote.Ref.{now}
-use mathlib.Core.Path.{_≡_, _∙_, sym}
-use Rattle.wire.proofs.NumberLaws.{fetched-whole}
-use borrow.Author.Tests.{eq-eqb, ne-eqb, not-true, not-false}
-use mathlib.Core.Path.{_∙_, sym}
+use borrow.Author.Tests.{not-true, not-false}
 use borrow.Author.Needs.{needs}
+use Rattle.wire.specs.Answers.{given}
+use Rattle.wire.specs.Numbers.{num}
+use Rattle.wire.proofs.NumberLaws.{fetched-whole}
+use Rattle.request.specs.Request.{isPermitted}
+use Rattle.request.proofs.Steps.{body-long, body-code, body-fine}
 use Rattle.request.proofs.read_request.Statement.{statement}
 use Rattle.request.proofs.read_request.Tie as tie
-use Rattle.request.proofs.read_request.Reads as reads
-use Rattle.request.proofs.read_request.Lts as lts
-use Rattle.request.proofs.permits.Reads as permits-reads
-use Rattle.wire.proofs.fetch16.Reads as fetch16-reads
 
 -- the code is the halfword of the body's two bytes
 code-is : (c : tie.After-fetch16) → c .fetch16 .result ≡ num 2 (now (c .before .before .before .args .body)) 0
