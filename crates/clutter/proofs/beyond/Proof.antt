@@ -1,0 +1,16 @@
+use borrow.Author.Needs.{needs}
+use Rattle.clutter.proofs.beyond.Statement.{statement}
+use Rattle.clutter.proofs.beyond.Tie as tie
+use Rattle.clutter.proofs.beyond.Reads as reads
+use Rattle.clutter.proofs.beyond.Lts as lts
+
+-- src/lib.rt:41:9
+returns : tie.Need-returns
+returns c = ?
+
+-- src/lib.rt:37:1
+returns-2 : tie.Need-returns-2
+returns-2 c = ?
+
+pub beyond-spec : {M : Type 1} → statement M
+beyond-spec = tie.close (tie.spec returns returns-2)
