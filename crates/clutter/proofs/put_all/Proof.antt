@@ -1,3 +1,15 @@
+use Rattle.clutter.proofs.Halfwords.{written-more}
+use lib.Seq.{take-all}
+use mathlib.Core.List.{List}
+use mathlib.Core.Path.{refl}
+use Prim.Native.Nat.{ℕ, _+_}
+use denote.Ref.{now}
+use native.Mathlib.Omega.{arith}
+use Rattle.clutter.specs.Censor.{bodyOf}
+use lib.ListN.{length, take, drop}
+use mathlib.Core.List.{_++_}
+use mathlib.Core.Path.{_≡_, sym, _∙_, ap}
+use Prim.Native.Nat.{_≤_, _*_, _-_}
 use borrow.Author.Needs.{needs}
 use Rattle.clutter.proofs.put_all.Statement.{statement}
 use Rattle.clutter.proofs.put_all.Tie as tie
@@ -6,58 +18,70 @@ use Rattle.clutter.proofs.put_all.Lts as lts
 use Rattle.clutter.proofs.put.Reads as put-reads
 
 abbrev Inv-loop : tie.InvT-loop
-Inv-loop list out₀ i₀ out i = ?
+Inv-loop list out₀ i₀ out i = (i ≤ length list) × (out ≡ bodyOf (take i list) ++ drop (2 * i) out₀) × (length out ≡ length out₀)
 
 abbrev μ-loop : tie.MeasureT-loop
-μ-loop list out₀ i₀ out i = ?
+μ-loop list out₀ i₀ out i = length list - i
 
 -- src/lib.rt:147:5
 loop-holds : tie.Need-loop-holds Inv-loop μ-loop
-loop-holds c = ?
+loop-holds c = (omega arith, refl, refl)
 
 -- src/lib.rt:148:17
 mul-x : tie.Need-mul-x Inv-loop μ-loop
-mul-x c = ?
+mul-x c = search needs
 
 -- src/lib.rt:148:17
 shared-slice-read-x : tie.Need-shared-slice-read-x Inv-loop μ-loop
-shared-slice-read-x c = ?
+shared-slice-read-x c = search needs
 
 -- src/lib.rt:149:20
 cast-high : tie.Need-cast-high Inv-loop μ-loop
-cast-high c = ?
+cast-high c = omega (arith, c .shared-slice-known2 .given (c .before .before .loop .i))
 
 -- src/lib.rt:150:19
 cast-low : tie.Need-cast-low Inv-loop μ-loop
-cast-low c = ?
+cast-low c = search needs
 
 -- src/lib.rt:151:18
 mul-put : tie.Need-mul-put Inv-loop μ-loop
-mul-put c = ?
+mul-put c = search needs
 
 -- src/lib.rt:151:9
 put-requires : tie.Need-put-requires Inv-loop μ-loop
-put-requires c κs = ?
+put-requires c κs = search needs
 
 -- src/lib.rt:152:9
 add-i : tie.Need-add-i Inv-loop μ-loop
-add-i c = ?
+add-i c = search needs
 
 -- src/lib.rt:147:5
 loop-less : tie.Need-loop-less Inv-loop μ-loop
-loop-less c = ?
+loop-less c = search needs
 
 -- src/lib.rt:147:5
 loop-again : tie.Need-loop-again Inv-loop μ-loop
-loop-again c = ?
+loop-again c =
+    let l = c .before .before .before .before .before .before .loop in
+    let a = c .before .before .before .before .before .before .before .before .before .args in
+    (search needs,
+    c .before .before .put .ensures
+    ∙ written-more (now (a .list)) (now (a .out)) (l .out) (l .i) (search needs) (c .before .before .before .before .shared-slice-known2 .given (l .i) .fits) (l .inv .1),
+    c .before .before .put .kept .0 ∙ l .inv .2)
 
 -- src/lib.rt:142:1
 same-length : tie.Need-same-length Inv-loop μ-loop
-same-length c = ?
+same-length c = c .before .loop .inv .2
 
 -- src/lib.rt:142:1
 returns : tie.Need-returns Inv-loop μ-loop
-returns c = ?
+returns c =
+    let l = c .before .loop in
+    let a = c .before .before .before .before .args in
+    let e : l .i ≡ length (now (a .list)) = omega arith in
+    l .inv .1
+    ∙ ap (λ (k : ℕ). bodyOf (take k (now (a .list))) ++ drop (2 * k) (now (a .out))) e
+    ∙ ap (λ (x : List ℕ). bodyOf x ++ drop (2 * length (now (a .list))) (now (a .out))) (take-all (length (now (a .list))) (now (a .list)) (omega arith))
 
 pub put-all-spec : {M : Type 1} → statement M
 put-all-spec =

@@ -1,3 +1,10 @@
+use Rattle.clutter.specs.Censor.{range, outside}
+use lib.ListN.{getD}
+use denote.Ref.{now}
+use mathlib.Core.Bool.{false}
+use mathlib.Core.Path.{_≡_}
+use Rattle.clutter.proofs.Regions.{hit, miss, last}
+use mathlib.Core.Path.{sym, _∙_}
 use borrow.Author.Needs.{needs}
 use Rattle.clutter.proofs.region_broken.Statement.{statement}
 use Rattle.clutter.proofs.region_broken.Tie as tie
@@ -5,77 +12,75 @@ use Rattle.clutter.proofs.region_broken.Reads as reads
 use Rattle.clutter.proofs.region_broken.Lts as lts
 use Rattle.clutter.proofs.beyond.Reads as beyond-reads
 
--- src/lib.rt:51:15
+-- field k of the part is within its range, where its test was left
+within1 : (c : tie.Else1) → outside (range 0 511) (getD (now (c .before .before .before .before .args .part)) 0 0) ≡ false
+within1 c = sym (c .before .beyond .ensures) ∙ c .if1 .left
+
+within2 : (c : tie.Else2) → outside (range 0 511) (getD (now (c .before .before .before .before .before .before .before .args .part)) 1 0) ≡ false
+within2 c = sym (c .before .beyond2 .ensures) ∙ c .if2 .left
+
+within3 : (c : tie.Else3) → outside (range 0 360) (getD (now (c .before .before .before .before .before .before .before .before .before .before .args .part)) 2 0) ≡ false
+within3 c = sym (c .before .beyond3 .ensures) ∙ c .if3 .left
+
+within4 : (c : tie.Else4) → outside (range 0 360) (getD (now (c .before .before .before .before .before .before .before .before .before .before .before .before .before .args .part)) 3 0) ≡ false
+within4 c = sym (c .before .beyond4 .ensures) ∙ c .if4 .left
+
+within5 : (c : tie.Else5) → outside (range 1 5) (getD (now (c .before .before .before .before .before .before .before .before .before .before .before .before .before .before .before .before .args .part)) 4 0) ≡ false
+within5 c = sym (c .before .beyond5 .ensures) ∙ c .if5 .left
+
 shared-slice-read-beyond : tie.Need-shared-slice-read-beyond
 shared-slice-read-beyond c = search needs
 
--- src/lib.rt:51:8
 beyond-requires : tie.Need-beyond-requires
 beyond-requires c κs = search needs
 
--- src/lib.rt:52:9
 returns : tie.Need-returns
-returns c = ?
+returns c = hit _ _ (sym (c .before .beyond .ensures) ∙ c .if1 .taken)
 
--- src/lib.rt:54:15
 shared-slice-read-beyond-2 : tie.Need-shared-slice-read-beyond-2
 shared-slice-read-beyond-2 c = search needs
 
--- src/lib.rt:54:8
 beyond-requires-2 : tie.Need-beyond-requires-2
 beyond-requires-2 c κs = search needs
 
--- src/lib.rt:55:9
 returns-2 : tie.Need-returns-2
-returns-2 c = ?
+returns-2 c = miss _ _ _ (within1 (c .before .before .before)) (hit _ _ (sym (c .before .beyond2 .ensures) ∙ c .if2 .taken))
 
--- src/lib.rt:57:15
 shared-slice-read-beyond-3 : tie.Need-shared-slice-read-beyond-3
 shared-slice-read-beyond-3 c = search needs
 
--- src/lib.rt:57:8
 beyond-requires-3 : tie.Need-beyond-requires-3
 beyond-requires-3 c κs = search needs
 
--- src/lib.rt:58:9
 returns-3 : tie.Need-returns-3
-returns-3 c = ?
+returns-3 c = miss _ _ _ (within1 (c .before .before .before .before .before .before)) (miss _ _ _ (within2 (c .before .before .before)) (hit _ _ (sym (c .before .beyond3 .ensures) ∙ c .if3 .taken)))
 
--- src/lib.rt:60:15
 shared-slice-read-beyond-4 : tie.Need-shared-slice-read-beyond-4
 shared-slice-read-beyond-4 c = search needs
 
--- src/lib.rt:60:8
 beyond-requires-4 : tie.Need-beyond-requires-4
 beyond-requires-4 c κs = search needs
 
--- src/lib.rt:61:9
 returns-4 : tie.Need-returns-4
-returns-4 c = ?
+returns-4 c = miss _ _ _ (within1 (c .before .before .before .before .before .before .before .before .before)) (miss _ _ _ (within2 (c .before .before .before .before .before .before)) (miss _ _ _ (within3 (c .before .before .before)) (hit _ _ (sym (c .before .beyond4 .ensures) ∙ c .if4 .taken))))
 
--- src/lib.rt:63:15
 shared-slice-read-beyond-5 : tie.Need-shared-slice-read-beyond-5
 shared-slice-read-beyond-5 c = search needs
 
--- src/lib.rt:63:8
 beyond-requires-5 : tie.Need-beyond-requires-5
 beyond-requires-5 c κs = search needs
 
--- src/lib.rt:64:9
 returns-5 : tie.Need-returns-5
-returns-5 c = ?
+returns-5 c = miss _ _ _ (within1 (c .before .before .before .before .before .before .before .before .before .before .before .before)) (miss _ _ _ (within2 (c .before .before .before .before .before .before .before .before .before)) (miss _ _ _ (within3 (c .before .before .before .before .before .before)) (miss _ _ _ (within4 (c .before .before .before)) (hit _ _ (sym (c .before .beyond5 .ensures) ∙ c .if5 .taken)))))
 
--- src/lib.rt:66:12
 shared-slice-read-beyond-6 : tie.Need-shared-slice-read-beyond-6
 shared-slice-read-beyond-6 c = search needs
 
--- src/lib.rt:66:5
 beyond-requires-6 : tie.Need-beyond-requires-6
 beyond-requires-6 c κs = search needs
 
--- src/lib.rt:47:1
 returns-6 : tie.Need-returns-6
-returns-6 c = ?
+returns-6 c = miss _ _ _ (within1 (c .before .before .before .before .before .before .before .before .before .before .before .before .before .before)) (miss _ _ _ (within2 (c .before .before .before .before .before .before .before .before .before .before .before)) (miss _ _ _ (within3 (c .before .before .before .before .before .before .before .before)) (miss _ _ _ (within4 (c .before .before .before .before .before)) (miss _ _ _ (within5 (c .before .before)) (last _ _ (c .beyond6 .ensures))))))
 
 pub region-broken-spec : {M : Type 1} → statement M
 region-broken-spec =

@@ -1,3 +1,16 @@
+use Rattle.clutter.proofs.Regions.{hit, miss, one-more, no-more, all-left, part-is}
+use Rattle.clutter.specs.Censor.{region, fieldChecks}
+use Rattle.wire.specs.Checks.{either}
+use mathlib.Core.List.{List}
+use mathlib.Core.Path.{refl}
+use Prim.Native.Nat.{ℕ, _+_}
+use denote.Ref.{now}
+use native.Mathlib.Omega.{arith}
+use Rattle.clutter.specs.Censor.{regionsChecks}
+use Rattle.wire.specs.Checks.{someBroken}
+use lib.ListN.{length, drop}
+use mathlib.Core.Path.{_≡_, sym, _∙_, ap}
+use Prim.Native.Nat.{_≤_, _*_, _-_}
 use borrow.Author.Needs.{needs}
 use Rattle.clutter.proofs.regions_broken.Statement.{statement}
 use Rattle.clutter.proofs.regions_broken.Tie as tie
@@ -6,58 +19,80 @@ use Rattle.clutter.proofs.regions_broken.Lts as lts
 use Rattle.clutter.proofs.region_broken.Reads as region-broken-reads
 
 abbrev Inv-loop : tie.InvT-loop
-Inv-loop fields n i₀ i = ?
+Inv-loop fields n i₀ i = (i ≤ n) × (someBroken (regionsChecks (n - i) (drop (6 * i) fields)) ≡ someBroken (regionsChecks n fields))
 
 abbrev μ-loop : tie.MeasureT-loop
-μ-loop fields n i₀ i = ?
+μ-loop fields n i₀ i = n - i
+
+-- the region from place 6 * i on
+turn : (c : tie.After-region-broken Inv-loop μ-loop)
+    → c .region-broken .result ≡ someBroken (fieldChecks region 0 (drop (6 * c .before .before .before .loop .i) (now (c .before .before .before .before .before .args .fields))))
+turn c =
+    c .region-broken .ensures
+    ∙ ap (λ (l : List ℕ). someBroken (fieldChecks region 0 l))
+    (part-is (6 * c .before .before .before .loop .i) (now (c .before .before .before .before .before .args .fields)))
+
+-- the regions from number i on answer as all do
+whole : (c : tie.In-loop Inv-loop μ-loop)
+    → either
+    (someBroken (fieldChecks region 0 (drop (6 * c .before .loop .i) (now (c .before .before .before .args .fields)))))
+    (someBroken
+    (regionsChecks (c .before .before .before .args .n - (c .before .loop .i + 1))
+    (drop (6 * (c .before .loop .i + 1)) (now (c .before .before .before .args .fields)))))
+    ≡ someBroken (regionsChecks (c .before .before .before .args .n) (now (c .before .before .before .args .fields)))
+whole c =
+    sym (one-more (c .before .before .before .args .n) (c .before .loop .i) (now (c .before .before .before .args .fields)) (c .loop-test .taken))
+    ∙ c .before .loop .inv .1
 
 -- src/lib.rt:74:5
 loop-holds : tie.Need-loop-holds Inv-loop μ-loop
-loop-holds c = ?
+loop-holds c = (omega arith, all-left (c .before .args .n) (now (c .before .args .fields)))
 
 -- src/lib.rt:75:18
 mul-at : tie.Need-mul-at Inv-loop μ-loop
-mul-at c = ?
+mul-at c = search needs
 
 -- src/lib.rt:76:26
 mul-region-broken : tie.Need-mul-region-broken Inv-loop μ-loop
-mul-region-broken c = ?
+mul-region-broken c = search needs
 
 -- src/lib.rt:76:26
 sub-region-broken : tie.Need-sub-region-broken Inv-loop μ-loop
-sub-region-broken c = ?
+sub-region-broken c = search needs
 
 -- src/lib.rt:76:26
 part-region-broken-start : tie.Need-part-region-broken-start Inv-loop μ-loop
-part-region-broken-start c = ?
+part-region-broken-start c = search needs
 
 -- src/lib.rt:76:26
 part-region-broken-end : tie.Need-part-region-broken-end Inv-loop μ-loop
-part-region-broken-end c = ?
+part-region-broken-end c = search needs
 
 -- src/lib.rt:76:12
 region-broken-requires : tie.Need-region-broken-requires Inv-loop μ-loop
-region-broken-requires c κs = ?
+region-broken-requires c κs = search needs
 
 -- src/lib.rt:77:13
 returns : tie.Need-returns Inv-loop μ-loop
-returns c = ?
+returns c = hit _ _ (sym (turn (c .before)) ∙ c .if1 .taken) ∙ whole (c .before .before .before)
 
 -- src/lib.rt:79:9
 add-i : tie.Need-add-i Inv-loop μ-loop
-add-i c = ?
+add-i c = search needs
 
 -- src/lib.rt:74:5
 loop-less : tie.Need-loop-less Inv-loop μ-loop
-loop-less c = ?
+loop-less c = search needs
 
 -- src/lib.rt:74:5
 loop-again : tie.Need-loop-again Inv-loop μ-loop
-loop-again c = ?
+loop-again c = (search needs, miss _ _ _ (sym (turn (c .before)) ∙ c .if1 .left) refl ∙ whole (c .before .before .before))
 
 -- src/lib.rt:69:1
 returns-2 : tie.Need-returns-2 Inv-loop μ-loop
-returns-2 c = ?
+returns-2 c =
+    sym (no-more (c .before .before .before .args .n) (c .before .loop .i) (now (c .before .before .before .args .fields)) (c .loop-test .left))
+    ∙ c .before .loop .inv .1
 
 pub regions-broken-spec : {M : Type 1} → statement M
 regions-broken-spec =
