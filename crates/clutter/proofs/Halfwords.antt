@@ -4,11 +4,10 @@ use native.Mathlib.Nat.{mul-zero, mul-suc}
 use native.Mathlib.Omega.{arith}
 use native.Mathlib.Numerals.{add-one}
 use mathlib.Core.Path.{_≡_, refl, sym, ap, _∙_}
-use mathlib.Core.List.{List, [], _∷_, _++_, map, append-assoc}
-use lib.ListN.{length, getD, take, drop, set, replicate, length-append}
-use lib.Seq.{take-suc, take-at, drop-at, drop-drop, set-at, append-snoc, length-take-le, drop-append-add}
+use mathlib.Core.List.{List, [], _∷_, _++_, append-assoc}
+use lib.ListN.{length, getD, take, drop, set, replicate}
+use lib.Seq.{take-suc, take-at, drop-at, drop-drop, set-at, append-snoc, length-take-le}
 use Rattle.wire.specs.Numbers.{num, nums, be}
-use Rattle.wire.specs.Tables.{field, render}
 use Rattle.clutter.specs.Censor.{bodyOf}
 
 -- ---- numbers of one width

@@ -2,3 +2,6 @@
 pub mod Regions
 pub mod Halfwords
 pub mod Steps
+pub mod Trips
+pub mod Table
+pub mod Once

@@ -1,14 +1,14 @@
 -- The ranges of a region and of n regions, as the code goes through them. Assumes nothing.
 use Prim.Native.Nat.{ℕ, zero, suc, _+_, _*_, _-_, _≤_, _<_}
 use native.Mathlib.Omega.{arith}
-use mathlib.Core.Path.{_≡_, refl, sym, ap, _∙_}
+use mathlib.Core.Path.{_≡_, refl, ap, _∙_}
 use mathlib.Core.Bool.{Bool, true, false}
 use mathlib.Core.List.{List, [], _∷_, _++_}
 use borrow.Author.Tests.{lt-ltb, le-ltb}
 use lib.Dec.{ltb}
 use lib.ListN.{length, getD, take, drop, length-drop, List·getD-append}
 use lib.Seq.{drop-drop, drop-append-le, take-all}
-use Rattle.wire.specs.Checks.{pick, either, Check, check, someBroken}
+use Rattle.wire.specs.Checks.{either, Check, someBroken}
 use Rattle.clutter.specs.Censor.{Range, range, outside, region, fieldChecks, regionsChecks}
 
 pub below-least : (x least most : ℕ) → x < least → outside (range least most) x ≡ true

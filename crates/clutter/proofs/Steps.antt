@@ -6,13 +6,12 @@ use mathlib.Core.Bool.{Bool, true, false, not}
 use mathlib.Core.List.{List, [], _∷_, _++_, append-nil}
 use borrow.Author.Tests.{eq-eqb, ne-eqb, lt-ltb, le-ltb}
 use lib.Dec.{eqb, ltb}
-use lib.ListN.{length, getD, drop, replicate}
+use lib.ListN.{length, drop, replicate}
 use Rattle.wire.specs.Numbers.{num, nums}
 use Rattle.wire.specs.Checks.{pick, Check, check, decide, someBroken}
 use Rattle.wire.specs.Answers.{Answer, refused, given, Outcome, refusal, Promise}
 use Rattle.wire.proofs.CheckLaws.{AllNumbered, decide-same}
-use Rattle.clutter.specs.declared.Censor.{Censor}
-use Rattle.clutter.specs.Censor.{Range, region, fieldChecks, regionsChecks, count, fields, censorChecks, listOf, bodyChecks, censorOf, bodyOf, listChecks, censorWritten}
+use Rattle.clutter.specs.Censor.{Range, region, fieldChecks, regionsChecks, count, fields, censorChecks, listOf, bodyChecks, censorOf, bodyOf, censorWritten}
 use Rattle.clutter.specs.Told.{shown}
 use Rattle.clutter.proofs.Regions.{regions-alone}
 use Rattle.clutter.proofs.Halfwords.{nums-length, body-length}
@@ -31,8 +30,17 @@ regions-24 zero l = tt
 regions-24 (suc n) l = all-append 24 (fieldChecks region 0 l) (regionsChecks n (drop 6 l)) (fields-24 region 0 l) (regions-24 n (drop 6 l))
 
 -- the four ways to be refused, then what comes after the checks
-abbrev ways : {X : Type 0} → Bool → Bool → Bool → Bool → (ℕ → X) → X → X
+abbrev pub ways : {X : Type 0} → Bool → Bool → Bool → Bool → (ℕ → X) → X → X
 ways absent high misfit broken f later = pick absent (f 23) (pick high (f 24) (pick misfit (f 23) (pick broken (f 24) later)))
+
+-- where it is no refusal, none of the four was met
+pub passed-ways : {X : Type 0} (a h m b : Bool) (f : ℕ → X) (later x : X) → ways a h m b f later ≡ x → ((k : ℕ) → f k ≡ x → ⊥)
+    → (a ≡ false) × (h ≡ false) × (m ≡ false) × (b ≡ false) × (later ≡ x)
+passed-ways true h m b f later x e ne = absurd (ne 23 e)
+passed-ways false true m b f later x e ne = absurd (ne 24 e)
+passed-ways false false true b f later x e ne = absurd (ne 23 e)
+passed-ways false false false true f later x e ne = absurd (ne 24 e)
+passed-ways false false false false f later x e ne = (refl, refl, refl, refl, e)
 
 censor-decide : {X : Type 0} (absent misfit : Bool) (list : List ℕ) (rest : List Check) (f : ℕ → X) (ok : X)
     → decide (censorChecks absent misfit list ++ rest) f ok
@@ -56,13 +64,13 @@ all-ways body =
 
 -- a body whose count is n, and the array that holds the fields of its regions
 module _ (body : List ℕ) (n : ℕ) (e : num 2 body 0 ≡ n) where
-  abbrev found : List ℕ
+  abbrev pub found : List ℕ
   found = nums 2 body 2 (6 * n)
 
   abbrev pub held : List ℕ
   held = found ++ replicate (150 - 6 * n) 0
 
-  read-ways : censorOf body
+  pub read-ways : censorOf body
       ≡ ways (ltb (length body) 2) (ltb 25 n) (not (eqb (length body) (2 + 12 * n))) (someBroken (regionsChecks n found)) refused (given (n ∷ found))
   read-ways = rw e at (all-ways body)
 
@@ -73,7 +81,7 @@ module _ (body : List ℕ) (n : ℕ) (e : num 2 body 0 ≡ n) where
   body-misfits a h m = read-ways ∙ simp (le-ltb (length body) 2 a, le-ltb 25 n h, ne-eqb (length body) (2 + 12 * n) m)
 
   module _ (h : n ≤ 25) (m : length body ≡ 2 + 12 * n) where
-    read-fields : censorOf body ≡ pick (someBroken (regionsChecks n found)) (refused 24) (given (n ∷ found))
+    pub read-fields : censorOf body ≡ pick (someBroken (regionsChecks n found)) (refused 24) (given (n ∷ found))
     read-fields =
         let a : 2 ≤ length body = omega arith in
         read-ways ∙ simp (le-ltb (length body) 2 a, le-ltb 25 n h, eq-eqb (length body) (2 + 12 * n) m)
@@ -95,7 +103,7 @@ module _ (body : List ℕ) (n : ℕ) (e : num 2 body 0 ≡ n) where
 
 -- ---- the writer
 module _ (list out : List ℕ) where
-  write-ways : censorWritten list out
+  pub write-ways : censorWritten list out
       ≡ ways (ltb (length list) 1) (ltb 25 (count list)) (not (eqb (length list) (1 + 6 * count list)))
       (someBroken (regionsChecks (count list) (fields list))) (refusal out)
       (pick (ltb (length out) (length (bodyOf list))) (refusal out 13)

@@ -6,7 +6,7 @@ use mathlib.Core.List.{List, [], _∷_, _++_, map}
 use lib.Dec.{eqb, ltb}
 use lib.ListN.{length, getD, drop}
 use Rattle.wire.specs.Numbers.{num, nums}
-use Rattle.wire.specs.Tables.{Field, field, render}
+use Rattle.wire.specs.Tables.{field, render}
 use Rattle.wire.specs.Checks.{either, Check, check}
 use Rattle.wire.specs.Answers.{Answer, rule, Outcome, outcome}
 

@@ -170,9 +170,10 @@ pub fn write_censor(list: &[u16], out: &mut [u8]) -> WriteAnswer
     if regions_broken(&list[1..], n) {
         return WriteAnswer::Refused(wire::refusal::FIELD);
     }
-    if out.len() < 2 + 12 * n {
+    let size = 2 + 12 * n;
+    if out.len() < size {
         return WriteAnswer::Refused(wire::refusal::OUTPUT_SMALL);
     }
     put_all(list, out);
-    WriteAnswer::Written(2 + 12 * n)
+    WriteAnswer::Written(size)
 }

@@ -1,16 +1,11 @@
-use Rattle.clutter.proofs.Regions.{below-least, from-least}
 use mathlib.Core.Path.{sym}
-use borrow.Author.Needs.{needs}
+use Rattle.clutter.proofs.Regions.{below-least, from-least}
 use Rattle.clutter.proofs.beyond.Statement.{statement}
 use Rattle.clutter.proofs.beyond.Tie as tie
-use Rattle.clutter.proofs.beyond.Reads as reads
-use Rattle.clutter.proofs.beyond.Lts as lts
 
--- src/lib.rt:41:9
 returns : tie.Need-returns
 returns c = sym (below-least _ _ _ (c .if1 .taken))
 
--- src/lib.rt:37:1
 returns-2 : tie.Need-returns-2
 returns-2 c = sym (from-least _ _ _ (c .if1 .left))
 

@@ -1,21 +1,15 @@
-use Rattle.clutter.proofs.Halfwords.{written-more}
-use lib.Seq.{take-all}
-use mathlib.Core.List.{List}
-use mathlib.Core.Path.{refl}
-use Prim.Native.Nat.{ℕ, _+_}
-use denote.Ref.{now}
+use Prim.Native.Nat.{ℕ, _≤_, _*_, _-_}
 use native.Mathlib.Omega.{arith}
-use Rattle.clutter.specs.Censor.{bodyOf}
-use lib.ListN.{length, take, drop}
-use mathlib.Core.List.{_++_}
-use mathlib.Core.Path.{_≡_, sym, _∙_, ap}
-use Prim.Native.Nat.{_≤_, _*_, _-_}
+use mathlib.Core.List.{List, _++_}
+use mathlib.Core.Path.{refl, _≡_, _∙_, ap}
+use denote.Ref.{now}
 use borrow.Author.Needs.{needs}
+use lib.Seq.{take-all}
+use lib.ListN.{length, take, drop}
+use Rattle.clutter.specs.Censor.{bodyOf}
+use Rattle.clutter.proofs.Halfwords.{written-more}
 use Rattle.clutter.proofs.put_all.Statement.{statement}
 use Rattle.clutter.proofs.put_all.Tie as tie
-use Rattle.clutter.proofs.put_all.Reads as reads
-use Rattle.clutter.proofs.put_all.Lts as lts
-use Rattle.clutter.proofs.put.Reads as put-reads
 
 abbrev Inv-loop : tie.InvT-loop
 Inv-loop list out₀ i₀ out i = (i ≤ length list) × (out ≡ bodyOf (take i list) ++ drop (2 * i) out₀) × (length out ≡ length out₀)
@@ -23,57 +17,46 @@ Inv-loop list out₀ i₀ out i = (i ≤ length list) × (out ≡ bodyOf (take i
 abbrev μ-loop : tie.MeasureT-loop
 μ-loop list out₀ i₀ out i = length list - i
 
--- src/lib.rt:147:5
 loop-holds : tie.Need-loop-holds Inv-loop μ-loop
 loop-holds c = (omega arith, refl, refl)
 
--- src/lib.rt:148:17
 mul-x : tie.Need-mul-x Inv-loop μ-loop
 mul-x c = search needs
 
--- src/lib.rt:148:17
 shared-slice-read-x : tie.Need-shared-slice-read-x Inv-loop μ-loop
 shared-slice-read-x c = search needs
 
--- src/lib.rt:149:20
 cast-high : tie.Need-cast-high Inv-loop μ-loop
 cast-high c = omega (arith, c .shared-slice-known2 .given (c .before .before .loop .i))
 
--- src/lib.rt:150:19
 cast-low : tie.Need-cast-low Inv-loop μ-loop
 cast-low c = search needs
 
--- src/lib.rt:151:18
 mul-put : tie.Need-mul-put Inv-loop μ-loop
 mul-put c = search needs
 
--- src/lib.rt:151:9
 put-requires : tie.Need-put-requires Inv-loop μ-loop
 put-requires c κs = search needs
 
--- src/lib.rt:152:9
 add-i : tie.Need-add-i Inv-loop μ-loop
 add-i c = search needs
 
--- src/lib.rt:147:5
 loop-less : tie.Need-loop-less Inv-loop μ-loop
 loop-less c = search needs
 
--- src/lib.rt:147:5
 loop-again : tie.Need-loop-again Inv-loop μ-loop
 loop-again c =
     let l = c .before .before .before .before .before .before .loop in
-    let a = c .before .before .before .before .before .before .before .before .before .args in
-    (search needs,
-    c .before .before .put .ensures
-    ∙ written-more (now (a .list)) (now (a .out)) (l .out) (l .i) (search needs) (c .before .before .before .before .shared-slice-known2 .given (l .i) .fits) (l .inv .1),
-    c .before .before .put .kept .0 ∙ l .inv .2)
+    let a = c .before .before .before .before .before .before .before .before .before .args in (
+      search needs,
+      c .before .before .put .ensures
+          ∙ written-more (now (a .list)) (now (a .out)) (l .out) (l .i) (search needs) (c .before .before .before .before .shared-slice-known2 .given (l .i) .fits) (l .inv .1),
+      c .before .before .put .kept .0 ∙ l .inv .2,
+    )
 
--- src/lib.rt:142:1
 same-length : tie.Need-same-length Inv-loop μ-loop
 same-length c = c .before .loop .inv .2
 
--- src/lib.rt:142:1
 returns : tie.Need-returns Inv-loop μ-loop
 returns c =
     let l = c .before .loop in

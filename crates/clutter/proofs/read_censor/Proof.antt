@@ -1,22 +1,16 @@
-use Rattle.clutter.proofs.Steps.{count-absent, count-high, body-misfits, held, body-broken, body-shown}
-use Rattle.clutter.specs.Told.{shown}
-use Rattle.clutter.specs.Censor.{regionsChecks}
+use Prim.Native.Nat.{ℕ}
+use mathlib.Core.List.{List}
+use mathlib.Core.Path.{_≡_, sym, ap, _∙_}
+use denote.Ref.{now}
+use borrow.Author.Needs.{needs}
 use Rattle.wire.proofs.NumberLaws.{fetched-whole}
 use Rattle.wire.specs.Checks.{someBroken}
 use Rattle.wire.specs.Numbers.{num}
-use denote.Ref.{now}
-use mathlib.Core.List.{List}
-use mathlib.Core.Path.{_≡_, sym, ap, _∙_}
-use Prim.Native.Nat.{ℕ}
-use borrow.Author.Needs.{needs}
+use Rattle.clutter.specs.Told.{shown}
+use Rattle.clutter.specs.Censor.{regionsChecks}
+use Rattle.clutter.proofs.Steps.{count-absent, count-high, body-misfits, held, body-broken, body-shown}
 use Rattle.clutter.proofs.read_censor.Statement.{statement}
 use Rattle.clutter.proofs.read_censor.Tie as tie
-use Rattle.clutter.proofs.read_censor.Reads as reads
-use Rattle.clutter.proofs.read_censor.Lts as lts
-use Rattle.clutter.proofs.refusal.Reads as refusal-reads
-use Rattle.clutter.proofs.regions_broken.Reads as regions-broken-reads
-use Rattle.clutter.proofs.regions_of.Reads as regions-of-reads
-use Rattle.wire.proofs.fetch16.Reads as fetch16-reads
 
 -- the count is the halfword of the body's first two bytes
 count-is : (c : tie.After-fetch16) → num 2 (now (c .before .before .before .args .body)) 0 ≡ c .fetch16 .result
@@ -32,71 +26,54 @@ told-is c =
     ap (λ (l : List ℕ). someBroken (regionsChecks (c .before .before .before .before .before .fetch16 .result) l)) (sym (c .before .before .regions-of .ensures))
     ∙ sym (c .regions-broken .ensures)
 
--- src/lib.rt:113:9
 refusal-requires : tie.Need-refusal-requires
 refusal-requires c κs = search needs
 
--- src/lib.rt:113:9
 returns : tie.Need-returns
 returns c = c .refusal .ensures ∙ ap shown (sym (count-absent _ (c .before .if1 .taken)))
 
--- src/lib.rt:115:9
 fetch16-requires : tie.Need-fetch16-requires
 fetch16-requires c κs = search needs
 
--- src/lib.rt:117:9
 refusal-requires-2 : tie.Need-refusal-requires-2
 refusal-requires-2 c κs = search needs
 
--- src/lib.rt:117:9
 returns-2 : tie.Need-returns-2
 returns-2 c = c .refusal2 .ensures ∙ ap shown (sym (count-high _ _ (count-is (c .before .before)) (c .before .before .before .if1 .left) (c .before .if2 .taken)))
 
--- src/lib.rt:119:13
 cast-n : tie.Need-cast-n
 cast-n c = search needs
 
--- src/lib.rt:120:26
 mul-if3 : tie.Need-mul-if3
 mul-if3 c = search needs
 
--- src/lib.rt:120:22
 add-if3 : tie.Need-add-if3
 add-if3 c = search needs
 
--- src/lib.rt:121:9
 refusal-requires-3 : tie.Need-refusal-requires-3
 refusal-requires-3 c κs = search needs
 
--- src/lib.rt:121:9
 returns-3 : tie.Need-returns-3
 returns-3 c = c .refusal3 .ensures ∙ ap shown (sym (body-misfits _ _ (count-is (c .before .before .before)) (c .before .before .before .before .if1 .left) (c .before .before .if2 .left) (c .before .if3 .taken)))
 
--- src/lib.rt:123:36
 cast-regions-of : tie.Need-cast-regions-of
 cast-regions-of c = search needs
 
--- src/lib.rt:123:19
 regions-of-requires : tie.Need-regions-of-requires
 regions-of-requires c κs = search needs
 
--- src/lib.rt:124:23
 slice-aggregate-regions-broken : tie.Need-slice-aggregate-regions-broken
 slice-aggregate-regions-broken c = search needs
 
--- src/lib.rt:124:8
 regions-broken-requires : tie.Need-regions-broken-requires
 regions-broken-requires c κs = search needs
 
--- src/lib.rt:125:9
 refusal-requires-4 : tie.Need-refusal-requires-4
 refusal-requires-4 c κs = search needs
 
--- src/lib.rt:125:9
 returns-4 : tie.Need-returns-4
 returns-4 c = c .refusal4 .ensures ∙ ap shown (sym (body-broken _ _ (count-is (c .before .before .before .before .before .before .before)) (c .before .before .before .before .before .before .if2 .left) (c .before .before .before .before .before .if3 .left) (told-is (c .before .before) ∙ c .before .if4 .taken)))
 
--- src/lib.rt:109:1
 returns-5 : tie.Need-returns-5
 returns-5 c =
     (λ i. record { number = 0; count = c .before .before .before .before .before .before .fetch16 .result; regions = c .before .before .before .regions-of .ensures i })

@@ -1,16 +1,12 @@
-use Rattle.clutter.specs.Censor.{range, outside}
-use lib.ListN.{getD}
-use denote.Ref.{now}
 use mathlib.Core.Bool.{false}
-use mathlib.Core.Path.{_≡_}
-use Rattle.clutter.proofs.Regions.{hit, miss, last}
-use mathlib.Core.Path.{sym, _∙_}
+use mathlib.Core.Path.{_≡_, sym, _∙_}
+use denote.Ref.{now}
 use borrow.Author.Needs.{needs}
+use lib.ListN.{getD}
+use Rattle.clutter.specs.Censor.{range, outside}
+use Rattle.clutter.proofs.Regions.{hit, miss, last}
 use Rattle.clutter.proofs.region_broken.Statement.{statement}
 use Rattle.clutter.proofs.region_broken.Tie as tie
-use Rattle.clutter.proofs.region_broken.Reads as reads
-use Rattle.clutter.proofs.region_broken.Lts as lts
-use Rattle.clutter.proofs.beyond.Reads as beyond-reads
 
 -- field k of the part is within its range, where its test was left
 within1 : (c : tie.Else1) → outside (range 0 511) (getD (now (c .before .before .before .before .args .part)) 0 0) ≡ false

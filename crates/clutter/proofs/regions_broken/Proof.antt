@@ -1,22 +1,15 @@
-use Rattle.clutter.proofs.Regions.{hit, miss, one-more, no-more, all-left, part-is}
-use Rattle.clutter.specs.Censor.{region, fieldChecks}
-use Rattle.wire.specs.Checks.{either}
-use mathlib.Core.List.{List}
-use mathlib.Core.Path.{refl}
-use Prim.Native.Nat.{ℕ, _+_}
-use denote.Ref.{now}
+use Prim.Native.Nat.{ℕ, _+_, _≤_, _*_, _-_}
 use native.Mathlib.Omega.{arith}
-use Rattle.clutter.specs.Censor.{regionsChecks}
-use Rattle.wire.specs.Checks.{someBroken}
-use lib.ListN.{length, drop}
-use mathlib.Core.Path.{_≡_, sym, _∙_, ap}
-use Prim.Native.Nat.{_≤_, _*_, _-_}
+use mathlib.Core.List.{List}
+use mathlib.Core.Path.{refl, _≡_, sym, _∙_, ap}
+use denote.Ref.{now}
 use borrow.Author.Needs.{needs}
+use lib.ListN.{drop}
+use Rattle.wire.specs.Checks.{either, someBroken}
+use Rattle.clutter.specs.Censor.{region, fieldChecks, regionsChecks}
+use Rattle.clutter.proofs.Regions.{hit, miss, one-more, no-more, all-left, part-is}
 use Rattle.clutter.proofs.regions_broken.Statement.{statement}
 use Rattle.clutter.proofs.regions_broken.Tie as tie
-use Rattle.clutter.proofs.regions_broken.Reads as reads
-use Rattle.clutter.proofs.regions_broken.Lts as lts
-use Rattle.clutter.proofs.region_broken.Reads as region-broken-reads
 
 abbrev Inv-loop : tie.InvT-loop
 Inv-loop fields n i₀ i = (i ≤ n) × (someBroken (regionsChecks (n - i) (drop (6 * i) fields)) ≡ someBroken (regionsChecks n fields))
@@ -44,51 +37,39 @@ whole c =
     sym (one-more (c .before .before .before .args .n) (c .before .loop .i) (now (c .before .before .before .args .fields)) (c .loop-test .taken))
     ∙ c .before .loop .inv .1
 
--- src/lib.rt:74:5
 loop-holds : tie.Need-loop-holds Inv-loop μ-loop
 loop-holds c = (omega arith, all-left (c .before .args .n) (now (c .before .args .fields)))
 
--- src/lib.rt:75:18
 mul-at : tie.Need-mul-at Inv-loop μ-loop
 mul-at c = search needs
 
--- src/lib.rt:76:26
 mul-region-broken : tie.Need-mul-region-broken Inv-loop μ-loop
 mul-region-broken c = search needs
 
--- src/lib.rt:76:26
 sub-region-broken : tie.Need-sub-region-broken Inv-loop μ-loop
 sub-region-broken c = search needs
 
--- src/lib.rt:76:26
 part-region-broken-start : tie.Need-part-region-broken-start Inv-loop μ-loop
 part-region-broken-start c = search needs
 
--- src/lib.rt:76:26
 part-region-broken-end : tie.Need-part-region-broken-end Inv-loop μ-loop
 part-region-broken-end c = search needs
 
--- src/lib.rt:76:12
 region-broken-requires : tie.Need-region-broken-requires Inv-loop μ-loop
 region-broken-requires c κs = search needs
 
--- src/lib.rt:77:13
 returns : tie.Need-returns Inv-loop μ-loop
 returns c = hit _ _ (sym (turn (c .before)) ∙ c .if1 .taken) ∙ whole (c .before .before .before)
 
--- src/lib.rt:79:9
 add-i : tie.Need-add-i Inv-loop μ-loop
 add-i c = search needs
 
--- src/lib.rt:74:5
 loop-less : tie.Need-loop-less Inv-loop μ-loop
 loop-less c = search needs
 
--- src/lib.rt:74:5
 loop-again : tie.Need-loop-again Inv-loop μ-loop
 loop-again c = (search needs, miss _ _ _ (sym (turn (c .before)) ∙ c .if1 .left) refl ∙ whole (c .before .before .before))
 
--- src/lib.rt:69:1
 returns-2 : tie.Need-returns-2 Inv-loop μ-loop
 returns-2 c =
     sym (no-more (c .before .before .before .args .n) (c .before .loop .i) (now (c .before .before .before .args .fields)) (c .loop-test .left))

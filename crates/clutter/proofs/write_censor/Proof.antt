@@ -1,19 +1,14 @@
-use Rattle.clutter.proofs.Steps.{kept, list-empty, list-high, list-misfits, list-broken, list-room, list-written}
-use Rattle.clutter.proofs.Regions.{part-is}
-use Rattle.clutter.specs.Censor.{regionsChecks, count, fields}
-use Rattle.wire.specs.Checks.{someBroken}
-use denote.Ref.{now}
+use Prim.Native.Nat.{ℕ}
 use mathlib.Core.List.{List}
 use mathlib.Core.Path.{_≡_, refl, sym, ap, _∙_}
-use native.Mathlib.Omega.{arith}
-use Prim.Native.Nat.{ℕ}
+use denote.Ref.{now}
 use borrow.Author.Needs.{needs}
+use Rattle.wire.specs.Checks.{someBroken}
+use Rattle.clutter.specs.Censor.{regionsChecks, count, fields}
+use Rattle.clutter.proofs.Steps.{kept, list-empty, list-high, list-misfits, list-broken, list-room, list-written}
+use Rattle.clutter.proofs.Regions.{part-is}
 use Rattle.clutter.proofs.write_censor.Statement.{statement}
 use Rattle.clutter.proofs.write_censor.Tie as tie
-use Rattle.clutter.proofs.write_censor.Reads as reads
-use Rattle.clutter.proofs.write_censor.Lts as lts
-use Rattle.clutter.proofs.put_all.Reads as put-all-reads
-use Rattle.clutter.proofs.regions_broken.Reads as regions-broken-reads
 
 -- the fields of the regions are what follows the count
 told-is : (c : tie.After-regions-broken)
@@ -23,83 +18,57 @@ told-is c =
     let l = now (c .before .before .before .before .before .before .before .before .args .list) in
     ap (λ (x : List ℕ). someBroken (regionsChecks (count l) x)) (sym (part-is 1 l)) ∙ sym (c .regions-broken .ensures)
 
--- src/lib.rt:160:9
 returns : tie.Need-returns
 returns c = kept _ _ _ _ _ (list-empty _ _ (c .if1 .taken)) refl refl
 
--- src/lib.rt:162:17
 shared-slice-read-count : tie.Need-shared-slice-read-count
 shared-slice-read-count c = search needs
 
--- src/lib.rt:164:9
 returns-2 : tie.Need-returns-2
 returns-2 c = kept _ _ _ _ _ (list-high _ _ (c .before .before .if1 .left) (c .if2 .taken)) refl refl
 
--- src/lib.rt:166:13
 cast-n : tie.Need-cast-n
 cast-n c = search needs
 
--- src/lib.rt:167:26
 mul-if3 : tie.Need-mul-if3
 mul-if3 c = search needs
 
--- src/lib.rt:167:22
 add-if3 : tie.Need-add-if3
 add-if3 c = search needs
 
--- src/lib.rt:168:9
 returns-3 : tie.Need-returns-3
 returns-3 c = kept _ _ _ _ _ (list-misfits _ _ (c .before .before .before .if1 .left) (c .before .if2 .left) (c .if3 .taken)) refl refl
 
--- src/lib.rt:170:23
 sub-regions-broken : tie.Need-sub-regions-broken
 sub-regions-broken c = search needs
 
--- src/lib.rt:170:23
 part-regions-broken-start : tie.Need-part-regions-broken-start
 part-regions-broken-start c = search needs
 
--- src/lib.rt:170:23
 part-regions-broken-end : tie.Need-part-regions-broken-end
 part-regions-broken-end c = search needs
 
--- src/lib.rt:170:8
 regions-broken-requires : tie.Need-regions-broken-requires
 regions-broken-requires c κs = search needs
 
--- src/lib.rt:171:9
 returns-4 : tie.Need-returns-4
 returns-4 c = kept _ _ _ _ _ (list-broken _ _ (c .before .before .before .before .if2 .left) (c .before .before .before .if3 .left) (told-is (c .before) ∙ c .if4 .taken)) refl refl
 
--- src/lib.rt:173:24
-mul-if5 : tie.Need-mul-if5
-mul-if5 c = search needs
+mul-size : tie.Need-mul-size
+mul-size c = search needs
 
--- src/lib.rt:173:20
-add-if5 : tie.Need-add-if5
-add-if5 c = search needs
+add-size : tie.Need-add-size
+add-size c = search needs
 
--- src/lib.rt:174:9
 returns-5 : tie.Need-returns-5
 returns-5 c = kept _ _ _ _ _ (list-room _ _ (c .before .before .before .before .before .if2 .left) (c .before .before .before .before .if3 .left) (told-is (c .before .before) ∙ c .before .if4 .left) (c .if5 .taken)) refl refl
 
--- src/lib.rt:176:5
 put-all-requires : tie.Need-put-all-requires
 put-all-requires c κs = search needs
 
--- src/lib.rt:177:30
-mul-t9 : tie.Need-mul-t9
-mul-t9 c = search needs
-
--- src/lib.rt:177:26
-add-t5 : tie.Need-add-t5
-add-t5 c = search needs
-
--- src/lib.rt:156:1
 same-length : tie.Need-same-length
 same-length c = search needs
 
--- src/lib.rt:156:1
 returns-6 : tie.Need-returns-6
 returns-6 c = kept _ _ _ _ _ (list-written _ _ (c .before .before .before .before .before .before .before .before .before .if2 .left) (c .before .before .before .before .before .before .before .before .if3 .left) (told-is (c .before .before .before .before .before .before) ∙ c .before .before .before .before .before .if4 .left) (c .before .before .before .before .if5 .left)) refl (c .before .before .put-all .ensures)
 
@@ -119,11 +88,9 @@ write-censor-spec =
     part-regions-broken-end
     regions-broken-requires
     returns-4
-    mul-if5
-    add-if5
+    mul-size
+    add-size
     returns-5
     put-all-requires
-    mul-t9
-    add-t5
     same-length
     returns-6)
