@@ -30,6 +30,11 @@ pub last : (a r : Bool) → r ≡ a → r ≡ either a false
 last true r e = e
 last false r e = e
 
+-- the checks of these fields, and then what t says
+abbrev pub fieldsThen : List Range → ℕ → List ℕ → Bool → Bool
+fieldsThen [] k l t = t
+fieldsThen (r ∷ rs) k l t = either (outside r (getD l k 0)) (fieldsThen rs (suc k) l t)
+
 someBroken-append : (a b : List Check) → someBroken (a ++ b) ≡ either (someBroken a) (someBroken b)
 someBroken-append [] b = refl
 someBroken-append (k ∷ a) b = go (k .broken) (someBroken-append a b)
