@@ -22,13 +22,13 @@ nums-snoc w b p (suc n) =
     ap (λ (l : List ℕ). num w b p ∷ l) (nums-snoc w b (p + w) n)
     ∙ ap (λ (k : ℕ). num w b p ∷ (nums w b (p + w) n ++ (num w b k ∷ []))) e
 
--- one number more in the array
-pub stored-more : (b : List ℕ) (i : ℕ) → i < 150
-    → set (nums 2 b 2 i ++ replicate (150 - i) 0) i (num 2 b (2 + 2 * i)) ≡ nums 2 b 2 (i + 1) ++ replicate (150 - (i + 1)) 0
-stored-more b i h =
+-- one number more in an array of `room` places
+pub stored-more : (b : List ℕ) (room i : ℕ) → i < room
+    → set (nums 2 b 2 i ++ replicate (room - i) 0) i (num 2 b (2 + 2 * i)) ≡ nums 2 b 2 (i + 1) ++ replicate (room - (i + 1)) 0
+stored-more b room i h =
     let x = num 2 b (2 + 2 * i) in
-    let r : List ℕ = replicate (150 - (i + 1)) 0 in
-    let m : 150 - i ≡ suc (150 - (i + 1)) = omega arith in
+    let r : List ℕ = replicate (room - (i + 1)) 0 in
+    let m : room - i ≡ suc (room - (i + 1)) = omega arith in
     ap (λ (k : ℕ). set (nums 2 b 2 i ++ replicate k 0) i x) m
     ∙ set-at (nums 2 b 2 i) 0 r x i (nums-length 2 b 2 i)
     ∙ sym (append-snoc (nums 2 b 2 i) x r)

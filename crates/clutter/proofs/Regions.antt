@@ -1,14 +1,15 @@
 -- The ranges of a region and of n regions, as the code goes through them. Assumes nothing.
 use Prim.Native.Nat.{ℕ, zero, suc, _+_, _*_, _-_, _≤_, _<_}
 use native.Mathlib.Omega.{arith}
-use mathlib.Core.Path.{_≡_, refl, ap, _∙_}
+use mathlib.Core.Path.{_≡_, refl, sym, ap, _∙_}
 use mathlib.Core.Bool.{Bool, true, false}
 use mathlib.Core.List.{List, [], _∷_, _++_}
 use borrow.Author.Tests.{lt-ltb, le-ltb}
 use lib.Dec.{ltb}
-use lib.ListN.{length, getD, take, drop, length-drop, List·getD-append}
-use lib.Seq.{drop-drop, drop-append-le, take-all}
+use lib.ListN.{length, getD, drop, length-drop, List·getD-append}
+use lib.Seq.{drop-drop, drop-append-le}
 use Rattle.wire.specs.Checks.{either, Check, someBroken}
+use Rattle.wire.proofs.CheckLaws.{either-false}
 use Rattle.clutter.specs.Censor.{Range, range, outside, region, fieldChecks, regionsChecks}
 
 pub below-least : (x least most : ℕ) → x < least → outside (range least most) x ≡ true
@@ -27,8 +28,7 @@ pub miss : (a b r : Bool) → a ≡ false → r ≡ b → r ≡ either a b
 miss a b r h e = simp h e
 
 pub last : (a r : Bool) → r ≡ a → r ≡ either a false
-last true r e = e
-last false r e = e
+last a r e = e ∙ sym (either-false a)
 
 -- the checks of these fields, and then what t says
 abbrev pub fieldsThen : List Range → ℕ → List ℕ → Bool → Bool
@@ -80,7 +80,3 @@ regions-alone (suc n) l t h =
     ap (λ (a : List Check). a ++ regionsChecks n (drop 6 (l ++ t))) (fields-alone region 0 l t (omega arith))
     ∙ ap (λ (x : List ℕ). fieldChecks region 0 l ++ regionsChecks n x) d
     ∙ ap (λ (b : List Check). fieldChecks region 0 l ++ b) i
-
--- a part from `at` to the end is what is left from `at` on
-pub part-is : (at : ℕ) (l : List ℕ) → take (length l - at) (drop at l) ≡ drop at l
-part-is at l = take-all (length l - at) (drop at l) (rw length-drop (omega arith))

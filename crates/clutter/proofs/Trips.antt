@@ -14,11 +14,11 @@ use Rattle.wire.specs.Checks.{pick, someBroken}
 use Rattle.wire.specs.Answers.{Answer, refused, given, Outcome, refusal}
 use Rattle.wire.proofs.TableLaws.{render-length, spells, spelt}
 use Rattle.wire.proofs.CheckLaws.{never}
-use Rattle.clutter.specs.Censor.{regionsChecks, count, fields, listOf, bodyOf, censorOf, censorWritten}
-use Rattle.clutter.specs.Told.{shown, tellCensor}
+use Rattle.clutter.specs.Censor.{mostRegions, regionsChecks, count, fields, listOf, bodyOf, censorOf, censorWritten}
+use Rattle.clutter.specs.Promises.{places, shown, tellCensor}
 use Rattle.clutter.specs.Laws.{Halfwords, WrittenIsRead, ReadIsWritten, StructTells}
 use Rattle.clutter.proofs.Halfwords.{nums-length, body-length}
-use Rattle.clutter.proofs.Steps.{ways, passed-ways, read-ways, read-fields, write-ways, list-fine}
+use Rattle.clutter.proofs.StepLaws.{ways, passed-ways, read-ways, read-fields, write-ways, list-fine}
 
 -- ---- a table of numbers of one width
 numbers-fit : (l : List ℕ) → Halfwords l → Fit (map (field 2) l)
@@ -50,7 +50,7 @@ numbers-body body n o h =
 
 -- ---- what an accepted body says
 record Read (body list : List ℕ) : Type 0 where
-  few : num 2 body 0 ≤ 25
+  few : num 2 body 0 ≤ mostRegions
   long : length body ≡ 2 + 12 * num 2 body 0
   fine : someBroken (regionsChecks (num 2 body 0) (nums 2 body 2 (6 * num 2 body 0))) ≡ false
   same : listOf body ≡ list
@@ -59,11 +59,11 @@ read-says : (body list : List ℕ) → censorOf body ≡ given list → Read bod
 read-says body list e =
     let n = num 2 body 0 in
     let w =
-    passed-ways (ltb (length body) 2) (ltb 25 n) (not (eqb (length body) (2 + 12 * n))) (someBroken (regionsChecks n (nums 2 body 2 (6 * n))))
+    passed-ways (ltb (length body) 2) (ltb mostRegions n) (not (eqb (length body) (2 + 12 * n))) (someBroken (regionsChecks n (nums 2 body 2 (6 * n))))
     refused (given (listOf body)) (given list) (sym (read-ways body n refl) ∙ e) (λ k q. never (cc q))
     in
     record {
-      few = ltb-false 25 n (w .1);
+      few = ltb-false mostRegions n (w .1);
       long = eqb-true (length body) (2 + 12 * n) (not-false _ (w .2));
       fine = w .3;
       same = cc (w .4);
@@ -71,7 +71,7 @@ read-says body list e =
 
 -- ---- what an accepted list says
 record Wrote (list out : List ℕ) (n : ℕ) : Type 0 where
-  few : count list ≤ 25
+  few : count list ≤ mostRegions
   long : length list ≡ 1 + 6 * count list
   fine : someBroken (regionsChecks (count list) (fields list)) ≡ false
   size : length (bodyOf list) ≡ n
@@ -85,7 +85,7 @@ write-says : (list out : List ℕ) (n : ℕ) → censorWritten list out .answer 
 write-says list out n e =
     let done : Outcome ℕ = record { answer = given (length (bodyOf list)); output = bodyOf list ++ drop (length (bodyOf list)) out } in
     let w =
-    passed-ways (ltb (length list) 1) (ltb 25 (count list)) (not (eqb (length list) (1 + 6 * count list)))
+    passed-ways (ltb (length list) 1) (ltb mostRegions (count list)) (not (eqb (length list) (1 + 6 * count list)))
     (someBroken (regionsChecks (count list) (fields list))) (refusal out) (pick (ltb (length out) (length (bodyOf list))) (refusal out 13) done)
     (censorWritten list out) (sym (write-ways list out))
     (λ k q. let r : refused k ≡ given n = ap (λ (y : Outcome ℕ). y .answer) q ∙ e in absurd (never (cc r)))
@@ -93,7 +93,7 @@ write-says list out n e =
     let d : done ≡ censorWritten list out = room-enough (ltb (length out) (length (bodyOf list))) out done (censorWritten list out) n (w .4) e in
     let g : given (length (bodyOf list)) ≡ given n = ap (λ (y : Outcome ℕ). y .answer) d ∙ e in
     record {
-      few = ltb-false 25 (count list) (w .1);
+      few = ltb-false mostRegions (count list) (w .1);
       long = eqb-true (length list) (1 + 6 * count list) (not-false _ (w .2));
       fine = w .3;
       size = cc g;
@@ -101,7 +101,7 @@ write-says list out n e =
     }
 
 -- ---- the body of an accepted list is read as that list
-body-is-read : (list : List ℕ) → Halfwords list → count list ≤ 25 → length list ≡ 1 + 6 * count list
+body-is-read : (list : List ℕ) → Halfwords list → count list ≤ mostRegions → length list ≡ 1 + 6 * count list
     → someBroken (regionsChecks (count list) (fields list)) ≡ false → censorOf (bodyOf list) ≡ given list
 body-is-read [] h few long fine = absurd (omega arith)
 body-is-read (n ∷ l) h few long fine =
@@ -140,13 +140,13 @@ ways-told n l k true h m b = refl
 ways-told n l k false true m b = refl
 ways-told n l k false false true b = refl
 ways-told n l k false false false true = refl
-ways-told n l k false false false false = ap (λ (x : List ℕ). given (n ∷ x)) (take-at l (replicate (150 - length l) 0) (6 * n) k)
+ways-told n l k false false false false = ap (λ (x : List ℕ). given (n ∷ x)) (take-at l (replicate (places - length l) 0) (6 * n) k)
 
 pub struct-tells : StructTells
 struct-tells body =
     let n = num 2 body 0 in
     let w = read-ways body n refl in
     ap (λ (x : Answer (List ℕ)). tellCensor (shown x)) w
-    ∙ ways-told n (nums 2 body 2 (6 * n)) (nums-length 2 body 2 (6 * n)) (ltb (length body) 2) (ltb 25 n) (not (eqb (length body) (2 + 12 * n)))
+    ∙ ways-told n (nums 2 body 2 (6 * n)) (nums-length 2 body 2 (6 * n)) (ltb (length body) 2) (ltb mostRegions n) (not (eqb (length body) (2 + 12 * n)))
     (someBroken (regionsChecks n (nums 2 body 2 (6 * n))))
     ∙ sym w

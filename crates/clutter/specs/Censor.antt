@@ -10,6 +10,7 @@ use Rattle.wire.specs.Tables.{field, render}
 use Rattle.wire.specs.Checks.{either, Check, check}
 use Rattle.wire.specs.Answers.{Answer, rule, Outcome, outcome}
 
+-- "region count n (0 to 25)"
 abbrev pub mostRegions : ℕ
 mostRegions = 25
 
@@ -24,16 +25,32 @@ range a b = record { least = a; most = b }
 unfoldable pub outside : Range → ℕ → Bool
 outside r x = either (ltb x (r .least)) (ltb (r .most) x)
 
--- start range, stop range, start azimuth, stop azimuth, elevation segment, code. "Start above stop is not refused."
-abbrev pub region : List Range
-region = range 0 511 ∷ range 0 511 ∷ range 0 360 ∷ range 0 360 ∷ range 1 5 ∷ range 0 2 ∷ []
+-- "start range and stop range 0-511"
+abbrev pub kilometres : Range
+kilometres = range 0 511
 
--- the fields of the list from number k on are within these ranges
+-- "start azimuth and stop azimuth 0-360"
+abbrev pub azimuths : Range
+azimuths = range 0 360
+
+-- "elevation segment 1-5"
+abbrev pub segments : Range
+segments = range 1 5
+
+-- "code 0-2"
+abbrev pub codes : Range
+codes = range 0 2
+
+-- a region: start range, stop range, start azimuth, stop azimuth, elevation segment, code. "Start above stop is not refused."
+abbrev pub region : List Range
+region = kilometres ∷ kilometres ∷ azimuths ∷ azimuths ∷ segments ∷ codes ∷ []
+
+-- the numbers of the list from number k on, each in its range
 abbrev pub fieldChecks : List Range → ℕ → List ℕ → List Check
 fieldChecks [] k l = []
 fieldChecks (r ∷ rs) k l = check 24 (outside r (getD l k 0)) ∷ fieldChecks rs (suc k) l
 
--- so are those of n regions
+-- the fields of n regions
 abbrev pub regionsChecks : ℕ → List ℕ → List Check
 regionsChecks zero l = []
 regionsChecks (suc n) l = fieldChecks region 0 l ++ regionsChecks n (drop 6 l)

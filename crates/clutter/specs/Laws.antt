@@ -1,15 +1,12 @@
--- What is proved of message 8 besides the promises: the reader and the writer undo each other, the struct that is handed back tells the
--- answer, and each promise has one answer.
+-- What holds of every body and list of message 8: the reader and the writer undo each other, and the struct that is handed back tells the answer.
 use Prim.Native.Nat.{ℕ, _≤_, _<_}
 use mathlib.Core.Path.{_≡_}
 use mathlib.Core.List.{List, _++_}
 use lib.ListN.{length, getD, take, drop}
 use Rattle.wire.specs.Numbers.{Octets}
-use Rattle.wire.specs.Answers.{given, Promise}
-use Rattle.clutter.specs.declared.Censor.{Censor}
-use Rattle.clutter.specs.declared.WriteAnswer.{WriteAnswer}
+use Rattle.wire.specs.Answers.{given}
 use Rattle.clutter.specs.Censor.{censorOf, censorWritten}
-use Rattle.clutter.specs.Told.{shown, tellCensor, tellWrite}
+use Rattle.clutter.specs.Promises.{shown, tellCensor}
 
 -- every number of the list is a halfword
 abbrev pub Halfwords : List ℕ → Type 0
@@ -28,11 +25,3 @@ ReadIsWritten = (body out list : List ℕ) → Octets body → censorOf body ≡
 -- nothing of the answer is lost in the struct
 abbrev pub StructTells : Type 0
 StructTells = (body : List ℕ) → tellCensor (shown (censorOf body)) ≡ censorOf body
-
--- "no two different answers satisfy the same promise": `read_censor`, `write_censor`
-abbrev pub OneCensor : Type 0
-OneCensor = (body : List ℕ) (r₁ r₂ : Censor) → r₁ ≡ shown (censorOf body) → r₂ ≡ shown (censorOf body) → r₁ ≡ r₂
-
-abbrev pub OneWrite : Type 0
-OneWrite = (list out : List ℕ) (r₁ r₂ : WriteAnswer) (a₁ a₂ : List ℕ) → Promise tellWrite (censorWritten list out) r₁ a₁
-    → Promise tellWrite (censorWritten list out) r₂ a₂ → (r₁ ≡ r₂) × (a₁ ≡ a₂)

@@ -6,10 +6,13 @@ ghost use lib.ListN.{length, take, drop, replicate};
 ghost use Rattle.wire.specs.Numbers.{nums};
 ghost use Rattle.wire.specs.Checks.{someBroken};
 ghost use Rattle.wire.specs.Answers.{refused, Promise};
-ghost use Rattle.clutter.specs.Censor.{Range, range, outside, region, fieldChecks, regionsChecks, bodyOf, censorOf, censorWritten};
-ghost use Rattle.clutter.specs.Told.{shown, tellWrite};
+ghost use Rattle.clutter.specs.Censor.{mostRegions, range, outside, region, fieldChecks, regionsChecks, bodyOf, censorOf, censorWritten};
+ghost use Rattle.clutter.specs.Promises.{places, shown, tellWrite};
+use wire::refusal;
 
 const MOST_REGIONS: u16 = 25;
+
+const PLACES: usize = 150;
 
 const MOST_RANGE: u16 = 511;
 
@@ -25,7 +28,7 @@ const MOST_CODE: u16 = 2;
 pub struct Censor {
     pub number: u8,
     pub count: u16,
-    pub regions: [u16; 150],
+    pub regions: [u16; PLACES],
 }
 
 // The length that was written, or the refusal.
@@ -81,22 +84,22 @@ fn regions_broken(fields: &[u16], n: usize) -> bool
     false
 }
 
-fn refusal(number: u8) -> Censor
+fn refuse(number: u8) -> Censor
     ensures { λ r. ⌜ r ≡ shown (refused number) ⌝ }
 {
     Censor {
         number,
         count: 0,
-        regions: [0u16; 150],
+        regions: [0u16; PLACES],
     }
 }
 
 // The fields of n regions, then 0.
-fn regions_of(body: &[u8], n: u32) -> [u16; 150]
-    requires { ⌜ (n ≤ 25) × (2 + 12 * n ≤ length (now body)) ⌝ }
-    ensures { λ r. ⌜ r ≡ nums 2 (now (body .entry)) 2 (6 * n) ++ replicate (150 - 6 * n) 0 ⌝ }
+fn regions_of(body: &[u8], n: u32) -> [u16; PLACES]
+    requires { ⌜ (n ≤ mostRegions) × (2 + 12 * n ≤ length (now body)) ⌝ }
+    ensures { λ r. ⌜ r ≡ nums 2 (now (body .entry)) 2 (6 * n) ++ replicate (places - 6 * n) 0 ⌝ }
 {
-    let mut regions = [0u16; 150];
+    let mut regions = [0u16; PLACES];
     let mut i = 0;
     while i < 6 * n {
         let k = i as usize;
@@ -110,19 +113,19 @@ pub fn read_censor(body: &[u8]) -> Censor
     ensures { λ r. ⌜ r ≡ shown (censorOf (now (body .entry))) ⌝ }
 {
     if body.len() < 2 {
-        return refusal(wire::refusal::LENGTH);
+        return refuse(refusal::LENGTH);
     }
     let count = wire::fetch16(body, 0);
     if MOST_REGIONS < count {
-        return refusal(wire::refusal::FIELD);
+        return refuse(refusal::FIELD);
     }
     let n = count as usize;
     if body.len() != 2 + 12 * n {
-        return refusal(wire::refusal::LENGTH);
+        return refuse(refusal::LENGTH);
     }
     let regions = regions_of(body, count as u32);
     if regions_broken(&regions, n) {
-        return refusal(wire::refusal::FIELD);
+        return refuse(refusal::FIELD);
     }
     Censor {
         number: 0,
@@ -157,22 +160,22 @@ pub fn write_censor(list: &[u16], out: &mut [u8]) -> WriteAnswer
     ensures { λ r. ⌜ Promise tellWrite (censorWritten (now (list .entry)) (now (out .entry))) r (now (out .exit)) ⌝ }
 {
     if list.len() < 1 {
-        return WriteAnswer::Refused(wire::refusal::LENGTH);
+        return WriteAnswer::Refused(refusal::LENGTH);
     }
     let count = list[0];
     if MOST_REGIONS < count {
-        return WriteAnswer::Refused(wire::refusal::FIELD);
+        return WriteAnswer::Refused(refusal::FIELD);
     }
     let n = count as usize;
     if list.len() != 1 + 6 * n {
-        return WriteAnswer::Refused(wire::refusal::LENGTH);
+        return WriteAnswer::Refused(refusal::LENGTH);
     }
     if regions_broken(&list[1..], n) {
-        return WriteAnswer::Refused(wire::refusal::FIELD);
+        return WriteAnswer::Refused(refusal::FIELD);
     }
     let size = 2 + 12 * n;
     if out.len() < size {
-        return WriteAnswer::Refused(wire::refusal::OUTPUT_SMALL);
+        return WriteAnswer::Refused(refusal::OUTPUT_SMALL);
     }
     put_all(list, out);
     WriteAnswer::Written(size)

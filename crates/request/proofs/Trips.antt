@@ -17,7 +17,7 @@ use Rattle.wire.proofs.CheckLaws.{never, all-hold}
 use Rattle.wire.proofs.AnswerLaws.{rule-given, outcome-given}
 use Rattle.request.specs.Request.{permitted, isPermitted, requestChecks, requestOf, requestWritten}
 use Rattle.request.specs.Laws.{WrittenIsRead, ReadIsWritten}
-use Rattle.request.proofs.Steps.{body-fine}
+use Rattle.request.proofs.StepLaws.{body-fine}
 
 -- what all numbers of a list are, one among them is
 abbrev AllOf : (ℕ → Type 0) → List ℕ → Type 0

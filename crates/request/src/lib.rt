@@ -5,7 +5,8 @@ ghost use mathlib.Core.List.{_∷_};
 ghost use lib.ListN.{length, drop};
 ghost use Rattle.wire.specs.Answers.{Promise};
 ghost use Rattle.request.specs.Request.{isPermitted, requestOf, requestWritten};
-ghost use Rattle.request.specs.Told.{tellRequest, tellWrite};
+ghost use Rattle.request.specs.Promises.{tellRequest, tellWrite};
+use wire::refusal;
 
 pub enum RequestAnswer {
     Code(u16),
@@ -43,11 +44,11 @@ pub fn read_request(body: &[u8]) -> RequestAnswer
     ensures { λ r. ⌜ tellRequest r ≡ requestOf (now (body .entry)) ⌝ }
 {
     if body.len() != 2 {
-        return RequestAnswer::Refused(wire::refusal::LENGTH);
+        return RequestAnswer::Refused(refusal::LENGTH);
     }
     let code = wire::fetch16(body, 0);
     if !permits(code) {
-        return RequestAnswer::Refused(wire::refusal::FIELD);
+        return RequestAnswer::Refused(refusal::FIELD);
     }
     RequestAnswer::Code(code)
 }
@@ -64,14 +65,14 @@ pub fn write_request(list: &[u16], out: &mut [u8]) -> WriteAnswer
     ensures { λ r. ⌜ Promise tellWrite (requestWritten (now (list .entry)) (now (out .entry))) r (now (out .exit)) ⌝ }
 {
     if list.len() != 1 {
-        return WriteAnswer::Refused(wire::refusal::LENGTH);
+        return WriteAnswer::Refused(refusal::LENGTH);
     }
     let code = list[0];
     if !permits(code) {
-        return WriteAnswer::Refused(wire::refusal::FIELD);
+        return WriteAnswer::Refused(refusal::FIELD);
     }
     if out.len() < 2 {
-        return WriteAnswer::Refused(wire::refusal::OUTPUT_SMALL);
+        return WriteAnswer::Refused(refusal::OUTPUT_SMALL);
     }
     let high = (code / 256) as u8;
     let low = (code % 256) as u8;

@@ -6,9 +6,9 @@ use borrow.Author.Needs.{needs}
 use Rattle.wire.proofs.NumberLaws.{fetched-whole}
 use Rattle.wire.specs.Checks.{someBroken}
 use Rattle.wire.specs.Numbers.{num}
-use Rattle.clutter.specs.Told.{shown}
+use Rattle.clutter.specs.Promises.{shown}
 use Rattle.clutter.specs.Censor.{regionsChecks}
-use Rattle.clutter.proofs.Steps.{count-absent, count-high, body-misfits, held, body-broken, body-shown}
+use Rattle.clutter.proofs.StepLaws.{count-absent, count-high, body-misfits, held, body-broken, body-shown}
 use Rattle.clutter.proofs.read_censor.Statement.{statement}
 use Rattle.clutter.proofs.read_censor.Tie as tie
 
@@ -26,20 +26,20 @@ told-is c =
     ap (λ (l : List ℕ). someBroken (regionsChecks (c .before .before .before .before .before .fetch16 .result) l)) (sym (c .before .before .regions-of .ensures))
     ∙ sym (c .regions-broken .ensures)
 
-refusal-requires : tie.Need-refusal-requires
-refusal-requires c κs = search needs
+refuse-requires : tie.Need-refuse-requires
+refuse-requires c κs = search needs
 
 returns : tie.Need-returns
-returns c = c .refusal .ensures ∙ ap shown (sym (count-absent _ (c .before .if1 .taken)))
+returns c = c .refuse .ensures ∙ ap shown (sym (count-absent _ (c .before .if1 .taken)))
 
 fetch16-requires : tie.Need-fetch16-requires
 fetch16-requires c κs = search needs
 
-refusal-requires-2 : tie.Need-refusal-requires-2
-refusal-requires-2 c κs = search needs
+refuse-requires-2 : tie.Need-refuse-requires-2
+refuse-requires-2 c κs = search needs
 
 returns-2 : tie.Need-returns-2
-returns-2 c = c .refusal2 .ensures ∙ ap shown (sym (count-high _ _ (count-is (c .before .before)) (c .before .before .before .if1 .left) (c .before .if2 .taken)))
+returns-2 c = c .refuse2 .ensures ∙ ap shown (sym (count-high _ _ (count-is (c .before .before)) (c .before .before .before .if1 .left) (c .before .if2 .taken)))
 
 cast-n : tie.Need-cast-n
 cast-n c = search needs
@@ -50,11 +50,11 @@ mul-if3 c = search needs
 add-if3 : tie.Need-add-if3
 add-if3 c = search needs
 
-refusal-requires-3 : tie.Need-refusal-requires-3
-refusal-requires-3 c κs = search needs
+refuse-requires-3 : tie.Need-refuse-requires-3
+refuse-requires-3 c κs = search needs
 
 returns-3 : tie.Need-returns-3
-returns-3 c = c .refusal3 .ensures ∙ ap shown (sym (body-misfits _ _ (count-is (c .before .before .before)) (c .before .before .before .before .if1 .left) (c .before .before .if2 .left) (c .before .if3 .taken)))
+returns-3 c = c .refuse3 .ensures ∙ ap shown (sym (body-misfits _ _ (count-is (c .before .before .before)) (c .before .before .before .before .if1 .left) (c .before .before .if2 .left) (c .before .if3 .taken)))
 
 cast-regions-of : tie.Need-cast-regions-of
 cast-regions-of c = search needs
@@ -68,11 +68,11 @@ slice-aggregate-regions-broken c = search needs
 regions-broken-requires : tie.Need-regions-broken-requires
 regions-broken-requires c κs = search needs
 
-refusal-requires-4 : tie.Need-refusal-requires-4
-refusal-requires-4 c κs = search needs
+refuse-requires-4 : tie.Need-refuse-requires-4
+refuse-requires-4 c κs = search needs
 
 returns-4 : tie.Need-returns-4
-returns-4 c = c .refusal4 .ensures ∙ ap shown (sym (body-broken _ _ (count-is (c .before .before .before .before .before .before .before)) (c .before .before .before .before .before .before .if2 .left) (c .before .before .before .before .before .if3 .left) (told-is (c .before .before) ∙ c .before .if4 .taken)))
+returns-4 c = c .refuse4 .ensures ∙ ap shown (sym (body-broken _ _ (count-is (c .before .before .before .before .before .before .before)) (c .before .before .before .before .before .before .if2 .left) (c .before .before .before .before .before .if3 .left) (told-is (c .before .before) ∙ c .before .if4 .taken)))
 
 returns-5 : tie.Need-returns-5
 returns-5 c =
@@ -83,20 +83,20 @@ pub read-censor-spec : {M : Type 1} → statement M
 read-censor-spec =
     tie.close
     (tie.spec
-    refusal-requires
+    refuse-requires
     returns
     fetch16-requires
-    refusal-requires-2
+    refuse-requires-2
     returns-2
     cast-n
     mul-if3
     add-if3
-    refusal-requires-3
+    refuse-requires-3
     returns-3
     cast-regions-of
     regions-of-requires
     slice-aggregate-regions-broken
     regions-broken-requires
-    refusal-requires-4
+    refuse-requires-4
     returns-4
     returns-5)

@@ -6,8 +6,9 @@ use denote.Ref.{now}
 use borrow.Author.Needs.{needs}
 use lib.ListN.{drop}
 use Rattle.wire.specs.Checks.{either, someBroken}
+use Rattle.wire.proofs.ListLaws.{part-is}
 use Rattle.clutter.specs.Censor.{region, fieldChecks, regionsChecks}
-use Rattle.clutter.proofs.Regions.{hit, miss, one-more, no-more, all-left, part-is}
+use Rattle.clutter.proofs.Regions.{hit, miss, one-more, no-more, all-left}
 use Rattle.clutter.proofs.regions_broken.Statement.{statement}
 use Rattle.clutter.proofs.regions_broken.Tie as tie
 
@@ -23,7 +24,7 @@ turn : (c : tie.After-region-broken Inv-loop μ-loop)
 turn c =
     c .region-broken .ensures
     ∙ ap (λ (l : List ℕ). someBroken (fieldChecks region 0 l))
-    (part-is (6 * c .before .before .before .loop .i) (now (c .before .before .before .before .before .args .fields)))
+    (part-is (now (c .before .before .before .before .before .args .fields)) (6 * c .before .before .before .loop .i))
 
 -- the regions from number i on answer as all do
 whole : (c : tie.In-loop Inv-loop μ-loop)

@@ -7,12 +7,13 @@ use borrow.Author.Needs.{needs}
 use lib.ListN.{set, replicate}
 use Rattle.wire.proofs.NumberLaws.{fetched-whole}
 use Rattle.wire.specs.Numbers.{num, nums}
+use Rattle.clutter.specs.Promises.{places}
 use Rattle.clutter.proofs.Halfwords.{stored-more}
 use Rattle.clutter.proofs.regions_of.Statement.{statement}
 use Rattle.clutter.proofs.regions_of.Tie as tie
 
 abbrev Inv-loop : tie.InvT-loop
-Inv-loop body n regions₀ i₀ regions i = (i ≤ 6 * n) × (regions ≡ nums 2 body 2 i ++ replicate (150 - i) 0)
+Inv-loop body n regions₀ i₀ regions i = (i ≤ 6 * n) × (regions ≡ nums 2 body 2 i ++ replicate (places - i) 0)
 
 abbrev μ-loop : tie.MeasureT-loop
 μ-loop body n regions₀ i₀ regions i = 6 * n - i
@@ -52,13 +53,13 @@ loop-again c =
     let l = c .before .before .loop in
     let b = now (c .before .before .before .before .args .body) in
     let v : c .fetch16 .result ≡ num 2 b (2 + 2 * l .i) = c .fetch16 .ensures ∙ fetched-whole 2 b (2 + 2 * l .i) (omega arith) in
-    (search needs, ap (λ (x : ℕ). set (l .regions) (l .i) x) v ∙ ap (λ (r : List ℕ). set r (l .i) (num 2 b (2 + 2 * l .i))) (l .inv .1) ∙ stored-more b (l .i) (omega arith))
+    (search needs, ap (λ (x : ℕ). set (l .regions) (l .i) x) v ∙ ap (λ (r : List ℕ). set r (l .i) (num 2 b (2 + 2 * l .i))) (l .inv .1) ∙ stored-more b places (l .i) (omega arith))
 
 returns : tie.Need-returns Inv-loop μ-loop
 returns c =
     let l = c .before .loop in
     let e : l .i ≡ 6 * c .before .before .before .args .n = omega arith in
-    l .inv .1 ∙ ap (λ (k : ℕ). nums 2 (now (c .before .before .before .args .body)) 2 k ++ replicate (150 - k) 0) e
+    l .inv .1 ∙ ap (λ (k : ℕ). nums 2 (now (c .before .before .before .args .body)) 2 k ++ replicate (places - k) 0) e
 
 pub regions-of-spec : {M : Type 1} → statement M
 regions-of-spec =

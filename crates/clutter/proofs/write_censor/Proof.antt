@@ -4,9 +4,9 @@ use mathlib.Core.Path.{_≡_, refl, sym, ap, _∙_}
 use denote.Ref.{now}
 use borrow.Author.Needs.{needs}
 use Rattle.wire.specs.Checks.{someBroken}
+use Rattle.wire.proofs.ListLaws.{part-is}
 use Rattle.clutter.specs.Censor.{regionsChecks, count, fields}
-use Rattle.clutter.proofs.Steps.{kept, list-empty, list-high, list-misfits, list-broken, list-room, list-written}
-use Rattle.clutter.proofs.Regions.{part-is}
+use Rattle.clutter.proofs.StepLaws.{kept, list-empty, list-high, list-misfits, list-broken, list-room, list-written}
 use Rattle.clutter.proofs.write_censor.Statement.{statement}
 use Rattle.clutter.proofs.write_censor.Tie as tie
 
@@ -16,7 +16,7 @@ told-is : (c : tie.After-regions-broken)
     ≡ c .regions-broken .result
 told-is c =
     let l = now (c .before .before .before .before .before .before .before .before .args .list) in
-    ap (λ (x : List ℕ). someBroken (regionsChecks (count l) x)) (sym (part-is 1 l)) ∙ sym (c .regions-broken .ensures)
+    ap (λ (x : List ℕ). someBroken (regionsChecks (count l) x)) (sym (part-is l 1)) ∙ sym (c .regions-broken .ensures)
 
 returns : tie.Need-returns
 returns c = kept _ _ _ _ _ (list-empty _ _ (c .if1 .taken)) refl refl

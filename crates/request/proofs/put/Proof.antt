@@ -2,7 +2,7 @@ use native.Mathlib.Omega.{arith}
 use denote.Ref.{now}
 use borrow.Author.Needs.{needs}
 use lib.ListN.{length-set}
-use Rattle.request.proofs.Steps.{two-stored}
+use Rattle.request.proofs.StepLaws.{two-stored}
 use Rattle.request.proofs.put.Statement.{statement}
 use Rattle.request.proofs.put.Tie as tie
 

@@ -7,7 +7,7 @@ use Rattle.wire.specs.Answers.{given}
 use Rattle.wire.specs.Numbers.{num}
 use Rattle.wire.proofs.NumberLaws.{fetched-whole}
 use Rattle.request.specs.Request.{isPermitted}
-use Rattle.request.proofs.Steps.{body-long, body-code, body-fine}
+use Rattle.request.proofs.StepLaws.{body-long, body-code, body-fine}
 use Rattle.request.proofs.read_request.Statement.{statement}
 use Rattle.request.proofs.read_request.Tie as tie
 

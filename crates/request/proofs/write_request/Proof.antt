@@ -2,7 +2,7 @@ use native.Mathlib.Omega.{arith}
 use mathlib.Core.Path.{refl, sym, _∙_}
 use borrow.Author.Tests.{not-true, not-false}
 use borrow.Author.Needs.{needs}
-use Rattle.request.proofs.Steps.{kept, list-long, list-code, list-room, list-fine}
+use Rattle.request.proofs.StepLaws.{kept, list-long, list-code, list-room, list-fine}
 use Rattle.request.proofs.write_request.Statement.{statement}
 use Rattle.request.proofs.write_request.Tie as tie
 

@@ -5,31 +5,24 @@ use mathlib.Core.Path.{_≡_, refl, sym, ap, _∙_}
 use mathlib.Core.Bool.{Bool, true, false}
 use mathlib.Core.List.{List, [], _∷_}
 use borrow.Author.Tests.{eq-eqb, ne-eqb, lt-ltb, le-ltb}
-use lib.Dec.{eqb}
 use lib.ListN.{length, getD, drop, set}
-use Rattle.wire.specs.Numbers.{num, be}
-use Rattle.wire.specs.Checks.{pick}
+use Rattle.wire.specs.Numbers.{num}
+use Rattle.wire.specs.Checks.{either}
 use Rattle.wire.specs.Answers.{Answer, refused, given, Outcome, refusal, Promise}
 use Rattle.request.specs.Request.{isPermitted, requestOf, requestWritten}
 
-last-is : (t : Bool) → t ≡ pick t true false
-last-is true = refl
-last-is false = refl
+-- one test after the other
+pub hit : (a b : Bool) → a ≡ true → true ≡ either a b
+hit a b h = simp h
 
--- the last of the permitted codes decides where the others were passed
-pub at-last : (x : ℕ) → (x ≡ 129 → ⊥) → (x ≡ 130 → ⊥) → (x ≡ 132 → ⊥) → (x ≡ 136 → ⊥) → (x ≡ 144 → ⊥) → eqb x 160 ≡ isPermitted x
-unfolding isPermitted
-at-last x a b d e f = rw (ne-eqb x 129 a, ne-eqb x 130 b, ne-eqb x 132 d, ne-eqb x 136 e, ne-eqb x 144 f) (last-is (eqb x 160))
+pub miss : (a b r : Bool) → a ≡ false → r ≡ b → r ≡ either a b
+miss a b r h e = simp h e
 
 -- two stores at the start
 pub two-stored : (out : List ℕ) (first second : ℕ) → 2 ≤ length out → set (set out 0 first) 1 second ≡ first ∷ second ∷ drop 2 out
 two-stored [] first second h = absurd (omega arith)
 two-stored (x ∷ []) first second h = absurd (omega arith)
 two-stored (x ∷ y ∷ out) first second h = refl
-
--- a halfword as its high byte and its low one
-pub high-low : (x : ℕ) → x < 65536 → be 2 x ≡ x / 256 ∷ x % 256 ∷ []
-high-low x h = let e : x / 256 % 256 ≡ x / 256 = omega arith in rw e refl
 
 -- ---- the reader
 module _ (body : List ℕ) where

@@ -11,8 +11,8 @@ use Rattle.wire.specs.Numbers.{num, nums}
 use Rattle.wire.specs.Checks.{pick, Check, check, decide, someBroken}
 use Rattle.wire.specs.Answers.{Answer, refused, given, Outcome, refusal, Promise}
 use Rattle.wire.proofs.CheckLaws.{AllNumbered, decide-same}
-use Rattle.clutter.specs.Censor.{Range, region, fieldChecks, regionsChecks, count, fields, censorChecks, listOf, bodyChecks, censorOf, bodyOf, censorWritten}
-use Rattle.clutter.specs.Told.{shown}
+use Rattle.clutter.specs.Censor.{mostRegions, Range, region, fieldChecks, regionsChecks, count, fields, censorChecks, listOf, bodyChecks, censorOf, bodyOf, censorWritten}
+use Rattle.clutter.specs.Promises.{places, shown}
 use Rattle.clutter.proofs.Regions.{regions-alone}
 use Rattle.clutter.proofs.Halfwords.{nums-length, body-length}
 
@@ -44,9 +44,9 @@ passed-ways false false false false f later x e ne = (refl, refl, refl, refl, e)
 
 censor-decide : {X : Type 0} (absent misfit : Bool) (list : List ℕ) (rest : List Check) (f : ℕ → X) (ok : X)
     → decide (censorChecks absent misfit list ++ rest) f ok
-    ≡ ways absent (ltb 25 (count list)) misfit (someBroken (regionsChecks (count list) (fields list))) f (decide rest f ok)
+    ≡ ways absent (ltb mostRegions (count list)) misfit (someBroken (regionsChecks (count list) (fields list))) f (decide rest f ok)
 censor-decide {X} absent misfit list rest f ok =
-    ap (λ (x : X). pick absent (f 23) (pick (ltb 25 (count list)) (f 24) (pick misfit (f 23) x)))
+    ap (λ (x : X). pick absent (f 23) (pick (ltb mostRegions (count list)) (f 24) (pick misfit (f 23) x)))
     (decide-same 24 (regionsChecks (count list) (fields list)) rest f ok (regions-24 (count list) (fields list)))
 
 -- ---- the reader
@@ -55,7 +55,7 @@ unfolding censorOf
 count-absent body a = simp (lt-ltb (length body) 2 a)
 
 all-ways : (body : List ℕ) → censorOf body
-    ≡ ways (ltb (length body) 2) (ltb 25 (num 2 body 0)) (not (eqb (length body) (2 + 12 * num 2 body 0)))
+    ≡ ways (ltb (length body) 2) (ltb mostRegions (num 2 body 0)) (not (eqb (length body) (2 + 12 * num 2 body 0)))
     (someBroken (regionsChecks (num 2 body 0) (nums 2 body 2 (6 * num 2 body 0)))) refused (given (listOf body))
 unfolding censorOf
 all-ways body =
@@ -68,29 +68,29 @@ module _ (body : List ℕ) (n : ℕ) (e : num 2 body 0 ≡ n) where
   found = nums 2 body 2 (6 * n)
 
   abbrev pub held : List ℕ
-  held = found ++ replicate (150 - 6 * n) 0
+  held = found ++ replicate (places - 6 * n) 0
 
   pub read-ways : censorOf body
-      ≡ ways (ltb (length body) 2) (ltb 25 n) (not (eqb (length body) (2 + 12 * n))) (someBroken (regionsChecks n found)) refused (given (n ∷ found))
+      ≡ ways (ltb (length body) 2) (ltb mostRegions n) (not (eqb (length body) (2 + 12 * n))) (someBroken (regionsChecks n found)) refused (given (n ∷ found))
   read-ways = rw e at (all-ways body)
 
-  pub count-high : 2 ≤ length body → 25 < n → censorOf body ≡ refused 24
-  count-high a h = read-ways ∙ simp (le-ltb (length body) 2 a, lt-ltb 25 n h)
+  pub count-high : 2 ≤ length body → mostRegions < n → censorOf body ≡ refused 24
+  count-high a h = read-ways ∙ simp (le-ltb (length body) 2 a, lt-ltb mostRegions n h)
 
-  pub body-misfits : 2 ≤ length body → n ≤ 25 → (length body ≡ 2 + 12 * n → ⊥) → censorOf body ≡ refused 23
-  body-misfits a h m = read-ways ∙ simp (le-ltb (length body) 2 a, le-ltb 25 n h, ne-eqb (length body) (2 + 12 * n) m)
+  pub body-misfits : 2 ≤ length body → n ≤ mostRegions → (length body ≡ 2 + 12 * n → ⊥) → censorOf body ≡ refused 23
+  body-misfits a h m = read-ways ∙ simp (le-ltb (length body) 2 a, le-ltb mostRegions n h, ne-eqb (length body) (2 + 12 * n) m)
 
-  module _ (h : n ≤ 25) (m : length body ≡ 2 + 12 * n) where
+  module _ (h : n ≤ mostRegions) (m : length body ≡ 2 + 12 * n) where
     pub read-fields : censorOf body ≡ pick (someBroken (regionsChecks n found)) (refused 24) (given (n ∷ found))
     read-fields =
         let a : 2 ≤ length body = omega arith in
-        read-ways ∙ simp (le-ltb (length body) 2 a, le-ltb 25 n h, eq-eqb (length body) (2 + 12 * n) m)
+        read-ways ∙ simp (le-ltb (length body) 2 a, le-ltb mostRegions n h, eq-eqb (length body) (2 + 12 * n) m)
 
     -- the regions in the array are those of the body
     padded : someBroken (regionsChecks n held) ≡ someBroken (regionsChecks n found)
     padded =
         let l : 6 * n ≤ length found = omega (arith, nums-length 2 body 2 (6 * n)) in
-        ap someBroken (regions-alone n found (replicate (150 - 6 * n) 0) l)
+        ap someBroken (regions-alone n found (replicate (places - 6 * n) 0) l)
 
     pub body-broken : someBroken (regionsChecks n held) ≡ true → censorOf body ≡ refused 24
     body-broken b = read-fields ∙ simp (sym padded ∙ b)
@@ -104,7 +104,7 @@ module _ (body : List ℕ) (n : ℕ) (e : num 2 body 0 ≡ n) where
 -- ---- the writer
 module _ (list out : List ℕ) where
   pub write-ways : censorWritten list out
-      ≡ ways (ltb (length list) 1) (ltb 25 (count list)) (not (eqb (length list) (1 + 6 * count list)))
+      ≡ ways (ltb (length list) 1) (ltb mostRegions (count list)) (not (eqb (length list) (1 + 6 * count list)))
       (someBroken (regionsChecks (count list) (fields list))) (refusal out)
       (pick (ltb (length out) (length (bodyOf list))) (refusal out 13)
       (record { answer = given (length (bodyOf list)); output = bodyOf list ++ drop (length (bodyOf list)) out }))
@@ -116,13 +116,13 @@ module _ (list out : List ℕ) where
   pub list-empty : length list < 1 → censorWritten list out ≡ refusal out 23
   list-empty a = write-ways ∙ simp (lt-ltb (length list) 1 a)
 
-  pub list-high : 1 ≤ length list → 25 < count list → censorWritten list out ≡ refusal out 24
-  list-high a h = write-ways ∙ simp (le-ltb (length list) 1 a, lt-ltb 25 (count list) h)
+  pub list-high : 1 ≤ length list → mostRegions < count list → censorWritten list out ≡ refusal out 24
+  list-high a h = write-ways ∙ simp (le-ltb (length list) 1 a, lt-ltb mostRegions (count list) h)
 
-  pub list-misfits : 1 ≤ length list → count list ≤ 25 → (length list ≡ 1 + 6 * count list → ⊥) → censorWritten list out ≡ refusal out 23
-  list-misfits a h m = write-ways ∙ simp (le-ltb (length list) 1 a, le-ltb 25 (count list) h, ne-eqb (length list) (1 + 6 * count list) m)
+  pub list-misfits : 1 ≤ length list → count list ≤ mostRegions → (length list ≡ 1 + 6 * count list → ⊥) → censorWritten list out ≡ refusal out 23
+  list-misfits a h m = write-ways ∙ simp (le-ltb (length list) 1 a, le-ltb mostRegions (count list) h, ne-eqb (length list) (1 + 6 * count list) m)
 
-  module _ (h : count list ≤ 25) (m : length list ≡ 1 + 6 * count list) where
+  module _ (h : count list ≤ mostRegions) (m : length list ≡ 1 + 6 * count list) where
     long : length (bodyOf list) ≡ 2 + 12 * count list
     long = omega (arith, body-length list)
 
@@ -132,7 +132,7 @@ module _ (list out : List ℕ) where
         (record { answer = given (length (bodyOf list)); output = bodyOf list ++ drop (length (bodyOf list)) out }))
     write-fields =
         let a : 1 ≤ length list = omega arith in
-        write-ways ∙ simp (le-ltb (length list) 1 a, le-ltb 25 (count list) h, eq-eqb (length list) (1 + 6 * count list) m)
+        write-ways ∙ simp (le-ltb (length list) 1 a, le-ltb mostRegions (count list) h, eq-eqb (length list) (1 + 6 * count list) m)
 
     pub list-broken : someBroken (regionsChecks (count list) (fields list)) ≡ true → censorWritten list out ≡ refusal out 24
     list-broken b = write-fields ∙ simp b
