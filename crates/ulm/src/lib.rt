@@ -7,7 +7,6 @@ ghost use Rattle.gate.specs.Value.{valueOf};
 ghost use Rattle.gate.specs.Promises.{tellGate};
 ghost use Rattle.ulm.specs.Frames.{noFrame, frameFace, headerFace};
 ghost use Rattle.ulm.specs.Radials.{worthFace};
-
 use frame::FrameAnswer;
 use gate::GateAnswer;
 use message::HeaderAnswer;

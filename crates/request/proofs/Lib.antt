@@ -1,0 +1,5 @@
+-- The laws of message 9, its cases, and that each promise has one answer.
+pub mod StepLaws
+pub mod Trips
+pub mod CasesHold
+pub mod OneAnswer

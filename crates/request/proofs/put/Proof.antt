@@ -1,0 +1,22 @@
+use native.Mathlib.Omega.{arith}
+use denote.Ref.{now}
+use borrow.Author.Needs.{needs}
+use lib.ListN.{length-set}
+use Rattle.request.proofs.StepLaws.{two-stored}
+use Rattle.request.proofs.put.Statement.{statement}
+use Rattle.request.proofs.put.Tie as tie
+
+slice-write-out : tie.Need-slice-write-out
+slice-write-out c = search needs
+
+slice-write-out-2 : tie.Need-slice-write-out-2
+slice-write-out-2 c = simp length-set (omega arith)
+
+same-length : tie.Need-same-length
+same-length c = search needs
+
+returns : tie.Need-returns
+returns c = two-stored (now (c .args .out)) _ _ (c .pre)
+
+pub put-spec : {M : Type 1} → statement M
+put-spec = tie.close (tie.spec slice-write-out slice-write-out-2 same-length returns)
