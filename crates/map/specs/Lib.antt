@@ -2,3 +2,4 @@
 pub mod Map
 pub mod Reading
 pub mod Statements
+pub mod Cases
