@@ -6,4 +6,5 @@ pub mod Accepted
 pub mod Rendered
 pub mod Coverage
 pub mod Theorems
+pub mod Places
 pub mod Cases

@@ -26,12 +26,12 @@ abbrev pub endBroken : ℕ → ℕ → ℕ → Bool
 endBroken left from end = either (ltb lastKilometre end) (either (ltb end from) (both (eqb left 0) (not (eqb end lastKilometre))))
 
 -- "pairs of code (0-2) and end range"
+abbrev pub zoneChecks : ℕ → ℕ → List ℕ → List Check
+zoneChecks left from b = fieldChecks b (ltb mostCode (value b)) ++ fieldChecks (after b) (endBroken left from (value (after b)))
+
 unfoldable pub zonesChecks : ℕ → ℕ → List ℕ → List Check
 zonesChecks zero from b = []
-zonesChecks (suc left) from b =
-    fieldChecks b (ltb mostCode (value b))
-    ++ fieldChecks (after b) (endBroken left from (value (after b)))
-    ++ zonesChecks left (suc (value (after b))) (after (after b))
+zonesChecks (suc left) from b = zoneChecks left from b ++ zonesChecks left (suc (value (after b))) (after (after b))
 
 -- "zone count 1 to 20, then pairs"
 abbrev pub azimuthChecks : List ℕ → List Check
