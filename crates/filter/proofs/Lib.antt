@@ -1,0 +1,3 @@
+-- What the functions' proofs cite.
+pub mod PartLaws
+pub mod StepLaws

@@ -1,0 +1,165 @@
+// Message 15, the clutter filter map: a body is checked in one pass; a query walks the checked body up to the azimuth asked for.
+use wire::refusal;
+
+ghost use mathlib.Core.Path.{_≡_};
+ghost use Prim.Native.Nat.{_+_, _*_, _≤_};
+ghost use lib.ListN.{length, drop};
+ghost use Rattle.map.specs.Map.{mostZones, codeFrom};
+ghost use Rattle.map.specs.Reading.{value, after, endBroken, azimuthSize, azimuthsSize, zonesIn, summaryOf, codeOf};
+ghost use Rattle.filter.specs.Answers.{tellMap, tellCode};
+ghost use Rattle.filter.specs.Steps.{zoneStep, zonesStep, azimuthStep, elevationStep, elevationsStep};
+
+const MOST_MINUTES: u16 = 1440;
+
+const MOST_ELEVATIONS: u16 = 5;
+
+const AZIMUTHS: usize = 360;
+
+const MOST_ZONES: u16 = 20;
+
+const MOST_CODE: u16 = 2;
+
+const LAST_KILOMETRE: usize = 511;
+
+// A checked map's date, minutes and number of elevation segments, or the number of refusal.
+pub enum MapAnswer {
+    Map {
+        date: u16,
+        minutes: u16,
+        elevations: u16,
+    },
+    Refused(u8),
+}
+
+// The code at the elevation segment, azimuth and kilometre asked for, or the number of refusal.
+pub enum CodeAnswer {
+    Code(u16),
+    Refused(u8),
+}
+
+// A part of the map that was checked: what the next one starts from, or the number of refusal.
+enum Step {
+    Next(usize),
+    Stop(u8),
+}
+
+// Whether an end is out of range, does not rise, or is the last and not 511.
+fn end_broken(left: usize, from: usize, end: usize) -> bool
+    ensures { λ r. ⌜ r ≡ endBroken left from end ⌝ }
+{
+    if LAST_KILOMETRE < end {
+        return true;
+    }
+    if end < from {
+        return true;
+    }
+    if left == 0 {
+        return end != LAST_KILOMETRE;
+    }
+    false
+}
+
+fn wide(x: u16) -> usize
+    ensures { λ r. ⌜ r ≡ x ⌝ }
+{
+    x as usize
+}
+
+// The zone at a place, with so many zones left after it, whose end is to be `from` or more.
+fn check_zone(part: &[u8], at: u32, left: usize, from: usize) -> Step
+    requires { ⌜ at ≤ 4 * mostZones ⌝ }
+    ensures { λ r. ⌜ r ≡ zoneStep left from (drop at (now (part .entry))) ⌝ }
+{
+    let place = at as usize;
+    if part.len() < place + 2 {
+        return Step::Stop(refusal::LENGTH);
+    }
+    if MOST_CODE < wire::fetch16(part, at) {
+        return Step::Stop(refusal::FIELD);
+    }
+    if part.len() < place + 4 {
+        return Step::Stop(refusal::LENGTH);
+    }
+    let end = wide(wire::fetch16(part, at + 2));
+    if end_broken(left, from, end) {
+        return Step::Stop(refusal::FIELD);
+    }
+    Step::Next(end + 1)
+}
+
+// So many zones from the part's start.
+fn check_zones(part: &[u8], count: usize) -> Step
+    requires { ⌜ count ≤ mostZones ⌝ }
+    ensures { λ r. ⌜ r ≡ zonesStep count (now (part .entry)) ⌝ }
+{
+    let mut left = count;
+    let mut at: u32 = 0;
+    let mut from: usize = 0;
+    while 0 < left {
+        match check_zone(part, at, left - 1, from) {
+            Step::Next(next) => {
+                from = next;
+                at += 4;
+                left -= 1;
+            }
+            Step::Stop(number) => return Step::Stop(number),
+        }
+    }
+    Step::Next(at as usize)
+}
+
+// The azimuth that the part begins with: its zone count, and its zones.
+fn check_azimuth(part: &[u8]) -> Step
+    ensures { λ r. ⌜ r ≡ azimuthStep (now (part .entry)) ⌝ }
+{
+    if part.len() < 2 {
+        return Step::Stop(refusal::LENGTH);
+    }
+    let count = wire::fetch16(part, 0);
+    if count < 1 {
+        return Step::Stop(refusal::FIELD);
+    }
+    if MOST_ZONES < count {
+        return Step::Stop(refusal::FIELD);
+    }
+    match check_zones(&part[2..], wide(count)) {
+        Step::Next(size) => Step::Next(2 + size),
+        Step::Stop(number) => Step::Stop(number),
+    }
+}
+
+// The elevation segment that the part begins with: its 360 azimuths.
+fn check_elevation(part: &[u8]) -> Step
+    ensures { λ r. ⌜ r ≡ elevationStep (now (part .entry)) ⌝ }
+{
+    let mut left = AZIMUTHS;
+    let mut at: usize = 0;
+    while 0 < left {
+        match check_azimuth(&part[at..]) {
+            Step::Next(size) => {
+                at += size;
+                left -= 1;
+            }
+            Step::Stop(number) => return Step::Stop(number),
+        }
+    }
+    Step::Next(at)
+}
+
+// So many elevation segments from the part's start.
+fn check_elevations(part: &[u8], count: usize) -> Step
+    ensures { λ r. ⌜ r ≡ elevationsStep count (now (part .entry)) ⌝ }
+{
+    let mut left = count;
+    let mut at: usize = 0;
+    while 0 < left {
+        match check_elevation(&part[at..]) {
+            Step::Next(size) => {
+                at += size;
+                left -= 1;
+            }
+            Step::Stop(number) => return Step::Stop(number),
+        }
+    }
+    Step::Next(at)
+}
