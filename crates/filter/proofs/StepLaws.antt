@@ -1,6 +1,6 @@
 -- A walk of checked parts: a part that stops, stops the walk; after a part that passes the walk goes on behind it. Assumes nothing.
 use Prim.Native.Nat.{ℕ, zero, suc, _+_, _*_, _-_, _≤_, _<_}
-use native.Mathlib.Nat.{add-zero, add-assoc}
+use native.Mathlib.Nat.{add-zero, zero-add, add-assoc}
 use native.Mathlib.Numerals.{add-one}
 use native.Mathlib.Omega.{arith}
 use mathlib.Core.Path.{_≡_, refl, sym, ap, _∙_, subst}
@@ -217,3 +217,10 @@ elevation-fits at b m h e =
     let p = step-none (azimuthsChecks azimuths d) (azimuthsSize azimuths d) m (sym e) in
     let l : azimuthsSize azimuths d ≤ length b - at = rw (← length-drop at b) (azimuths-long azimuths d (all-hold (azimuthsChecks azimuths d) (p .0))) in
     omega (arith, p .1)
+
+-- ---- where a walk begins, and what a part's size is
+pub walk-start : (ks : List Check) (n : ℕ) → stepBy ks (0 + n) ≡ stepBy ks n
+walk-start ks n = ap (λ (k : ℕ). stepBy ks k) (zero-add n)
+
+pub zones-size : (count : ℕ) (b : List ℕ) (n : ℕ) → Next n ≡ zonesStep count b → n ≡ 4 * count
+zones-size count b n e = sym (step-none (zonesChecks count 0 b) (4 * count) n (sym e) .1)

@@ -3,7 +3,7 @@ use Prim.Native.Nat.{ℕ, suc, _*_}
 use mathlib.Core.List.{List}
 use Rattle.wire.specs.Checks.{Check, decide}
 use Rattle.map.specs.Map.{azimuths}
-use Rattle.map.specs.Reading.{value, after, zoneChecks, zonesChecks, azimuthChecks, azimuthSize, azimuthsSize, azimuthsChecks, elevationsSize, elevationsChecks}
+use Rattle.map.specs.Reading.{value, after, zoneChecks, zonesChecks, azimuthChecks, azimuthSize, azimuthsSize, azimuthsChecks, elevationsSize, elevationsChecks, segmentsIn, headChecks, mapChecks}
 use Rattle.filter.specs.declared.Step.{Step}
 use Rattle.filter.specs.declared.Step.the-variants.{Next, Stop}
 
@@ -26,3 +26,10 @@ elevationStep b = stepBy (azimuthsChecks azimuths b) (azimuthsSize azimuths b)
 
 abbrev pub elevationsStep : ℕ → List ℕ → Step
 elevationsStep count b = stepBy (elevationsChecks count b) (elevationsSize count b)
+
+-- the fields before the azimuths, and the whole body: how many elevation segments
+abbrev pub headStep : List ℕ → Step
+headStep b = stepBy (headChecks b) (segmentsIn b)
+
+abbrev pub bodyStep : List ℕ → Step
+bodyStep b = stepBy (mapChecks b) (segmentsIn b)

@@ -7,7 +7,7 @@ ghost use lib.ListN.{length, drop};
 ghost use Rattle.map.specs.Map.{mostZones, codeFrom};
 ghost use Rattle.map.specs.Reading.{value, after, endBroken, azimuthSize, azimuthsSize, zonesIn, summaryOf, codeOf};
 ghost use Rattle.filter.specs.Answers.{tellMap, tellCode};
-ghost use Rattle.filter.specs.Steps.{zoneStep, zonesStep, azimuthStep, elevationStep, elevationsStep};
+ghost use Rattle.filter.specs.Steps.{zoneStep, zonesStep, azimuthStep, elevationStep, elevationsStep, headStep, bodyStep};
 
 const MOST_MINUTES: u16 = 1440;
 
@@ -162,4 +162,96 @@ fn check_elevations(part: &[u8], count: usize) -> Step
         }
     }
     Step::Next(at)
+}
+
+// Date, minutes and the number of elevation segments.
+fn check_head(body: &[u8]) -> Step
+    ensures { λ r. ⌜ r ≡ headStep (now (body .entry)) ⌝ }
+{
+    if body.len() < 2 {
+        return Step::Stop(refusal::LENGTH);
+    }
+    if wire::fetch16(body, 0) < 1 {
+        return Step::Stop(refusal::FIELD);
+    }
+    if body.len() < 4 {
+        return Step::Stop(refusal::LENGTH);
+    }
+    if MOST_MINUTES < wire::fetch16(body, 2) {
+        return Step::Stop(refusal::FIELD);
+    }
+    if body.len() < 6 {
+        return Step::Stop(refusal::LENGTH);
+    }
+    let count = wire::fetch16(body, 4);
+    if count < 1 {
+        return Step::Stop(refusal::FIELD);
+    }
+    if MOST_ELEVATIONS < count {
+        return Step::Stop(refusal::FIELD);
+    }
+    Step::Next(wide(count))
+}
+
+// The whole body: the number of its elevation segments.
+fn check_body(body: &[u8]) -> Step
+    ensures { λ r. ⌜ r ≡ bodyStep (now (body .entry)) ⌝ }
+{
+    match check_head(body) {
+        Step::Next(count) => match check_elevations(&body[6..], count) {
+            Step::Next(size) => {
+                if 6 + size < body.len() {
+                    return Step::Stop(refusal::LENGTH);
+                }
+                Step::Next(count)
+            }
+            Step::Stop(number) => Step::Stop(number),
+        },
+        Step::Stop(number) => Step::Stop(number),
+    }
+}
+
+// A body 15: its date, minutes and number of elevation segments.
+pub fn check_map(body: &[u8]) -> MapAnswer
+    ensures { λ r. ⌜ tellMap r ≡ summaryOf (now (body .entry)) ⌝ }
+{
+    match check_body(body) {
+        Step::Next(_) => MapAnswer::Map {
+            date: wire::fetch16(body, 0),
+            minutes: wire::fetch16(body, 2),
+            elevations: wire::fetch16(body, 4),
+        },
+        Step::Stop(number) => MapAnswer::Refused(number),
+    }
+}
+
+// How many bytes the first azimuths of a checked part take.
+fn pass_azimuths(part: &[u8], count: usize) -> usize
+    requires { ⌜ azimuthsSize count (now part) ≤ length (now part) ⌝ }
+    ensures { λ r. ⌜ r ≡ azimuthsSize count (now (part .entry)) ⌝ }
+{
+    let mut left = count;
+    let mut at: usize = 0;
+    while 0 < left {
+        at += 2 + 4 * wide(wire::fetch16(&part[at..], 0));
+        left -= 1;
+    }
+    at
+}
+
+// The code at a kilometre of the azimuth that a checked part begins with: that of the first zone that does not end before it.
+fn zone_code(part: &[u8], kilometre: usize) -> u16
+    requires { ⌜ azimuthSize (now part) ≤ length (now part) ⌝ }
+    ensures { λ r. ⌜ r ≡ codeFrom 0 (zonesIn (value (now (part .entry))) (after (now (part .entry)))) kilometre ⌝ }
+{
+    let mut left = wire::fetch16(part, 0);
+    let mut at: u32 = 2;
+    while 0 < left {
+        if kilometre <= wide(wire::fetch16(part, at + 2)) {
+            return wire::fetch16(part, at);
+        }
+        at += 4;
+        left -= 1;
+    }
+    0
 }
