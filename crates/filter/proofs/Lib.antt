@@ -1,3 +1,5 @@
 -- What the functions' proofs cite.
 pub mod PartLaws
 pub mod StepLaws
+pub mod BodyLaws
+pub mod QueryLaws

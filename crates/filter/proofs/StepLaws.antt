@@ -84,7 +84,7 @@ zones-stop′ l at from b end k e =
     let d = drop at b in
     part-stops (zoneChecks l from d) (zonesChecks l (suc (value (after d))) (after (after d))) (suc (value (after d))) end k e
 
-less-one : (l : ℕ) → suc l - 1 ≡ l
+pub less-one : (l : ℕ) → suc l - 1 ≡ l
 less-one l = omega arith
 
 pub zones-turn : (left at from : ℕ) (b : List ℕ) (end : Step) (m : ℕ) → 0 < left → Next m ≡ zoneStep (left - 1) from (drop at b)

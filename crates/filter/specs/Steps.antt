@@ -1,9 +1,10 @@
 -- What the inner functions answer for a part of a body: how far it reaches, or its refusal.
-use Prim.Native.Nat.{ℕ, suc, _*_}
+use Prim.Native.Nat.{ℕ, suc, _+_, _*_, _≤_}
 use mathlib.Core.List.{List}
+use lib.ListN.{length, drop}
 use Rattle.wire.specs.Checks.{Check, decide}
-use Rattle.map.specs.Map.{azimuths}
-use Rattle.map.specs.Reading.{value, after, zoneChecks, zonesChecks, azimuthChecks, azimuthSize, azimuthsSize, azimuthsChecks, elevationsSize, elevationsChecks, segmentsIn, headChecks, mapChecks}
+use Rattle.map.specs.Map.{azimuths, codeFrom}
+use Rattle.map.specs.Reading.{value, after, zoneChecks, zonesChecks, azimuthChecks, azimuthSize, azimuthsSize, azimuthsChecks, elevationsSize, elevationsChecks, segmentsIn, headChecks, mapChecks, zonesIn}
 use Rattle.filter.specs.declared.Step.{Step}
 use Rattle.filter.specs.declared.Step.the-variants.{Next, Stop}
 
@@ -33,3 +34,15 @@ headStep b = stepBy (headChecks b) (segmentsIn b)
 
 abbrev pub bodyStep : List ℕ → Step
 bodyStep b = stepBy (mapChecks b) (segmentsIn b)
+
+-- ---- a query in a checked part, the azimuths of all elevation segments counted through from 0
+-- the azimuth of an index, and that it lies within the part
+abbrev pub azimuthThere : ℕ → List ℕ → List ℕ
+azimuthThere index b = drop (azimuthsSize index b) b
+
+abbrev pub PassFits : ℕ → List ℕ → Type 0
+PassFits index b = azimuthsSize index b + azimuthSize (azimuthThere index b) ≤ length b
+
+-- the code at a kilometre of it
+abbrev pub codeThere : ℕ → ℕ → List ℕ → ℕ
+codeThere index kilometre b = codeFrom 0 (zonesIn (value (azimuthThere index b)) (after (azimuthThere index b))) kilometre

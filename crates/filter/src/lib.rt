@@ -7,7 +7,7 @@ ghost use lib.ListN.{length, drop};
 ghost use Rattle.map.specs.Map.{mostZones, codeFrom};
 ghost use Rattle.map.specs.Reading.{value, after, endBroken, azimuthSize, azimuthsSize, zonesIn, summaryOf, codeOf};
 ghost use Rattle.filter.specs.Answers.{tellMap, tellCode};
-ghost use Rattle.filter.specs.Steps.{zoneStep, zonesStep, azimuthStep, elevationStep, elevationsStep, headStep, bodyStep};
+ghost use Rattle.filter.specs.Steps.{zoneStep, zonesStep, azimuthStep, elevationStep, elevationsStep, headStep, bodyStep, PassFits, codeThere};
 
 const MOST_MINUTES: u16 = 1440;
 
@@ -254,4 +254,38 @@ fn zone_code(part: &[u8], kilometre: usize) -> u16
         left -= 1;
     }
     0
+}
+
+// The code at a kilometre of an azimuth of a checked part, where the azimuths of all elevation segments are counted through from 0.
+fn azimuth_code(part: &[u8], index: usize, kilometre: usize) -> u16
+    requires { ⌜ PassFits index (now part) ⌝ }
+    ensures { λ r. ⌜ r ≡ codeThere index kilometre (now (part .entry)) ⌝ }
+{
+    let at = pass_azimuths(part, index);
+    zone_code(&part[at..], kilometre)
+}
+
+// The code at an elevation segment (from 1), azimuth and kilometre of a body 15.
+pub fn code_at(body: &[u8], elevation: usize, azimuth: usize, kilometre: usize) -> CodeAnswer
+    ensures { λ r. ⌜ tellCode r ≡ codeOf (now (body .entry)) elevation azimuth kilometre ⌝ }
+{
+    match check_body(body) {
+        Step::Next(count) => {
+            if elevation == 0 {
+                return CodeAnswer::Refused(refusal::ASKED_FOR);
+            }
+            if count < elevation {
+                return CodeAnswer::Refused(refusal::ASKED_FOR);
+            }
+            if AZIMUTHS <= azimuth {
+                return CodeAnswer::Refused(refusal::ASKED_FOR);
+            }
+            if LAST_KILOMETRE < kilometre {
+                return CodeAnswer::Refused(refusal::ASKED_FOR);
+            }
+            let index = (elevation - 1) * AZIMUTHS + azimuth;
+            CodeAnswer::Code(azimuth_code(&body[6..], index, kilometre))
+        }
+        Step::Stop(number) => CodeAnswer::Refused(number),
+    }
 }

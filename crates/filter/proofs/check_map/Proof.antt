@@ -1,3 +1,9 @@
+use Rattle.wire.specs.Answers.{Answer, given}
+use denote.Ref.{now}
+use mathlib.Core.Path.{_≡_, sym, ap, _∙_}
+use Rattle.wire.specs.Answers.{given}
+use Rattle.map.specs.Reading.{Summary}
+use Rattle.filter.proofs.BodyLaws.{map-stop, map-given}
 use borrow.Author.Needs.{needs}
 use Rattle.filter.proofs.check_map.Statement.{statement}
 use Rattle.filter.proofs.check_map.Tie as tie
@@ -32,11 +38,14 @@ enum-known-number c = search needs
 
 -- src/lib.rt:215:1
 returns : tie.Need-returns
-returns c = ?
+returns c =
+    let s : _≡_ {A = Summary} (record { date = c .before .before .fetch16 .result; minutes = c .before .fetch162 .result; elevations = c .fetch163 .result }) _
+        = λ i. record { date = c .before .before .fetch16 .ensures i; minutes = c .before .fetch162 .ensures i; elevations = c .fetch163 .ensures i } in
+    ap given s ∙ map-given (now (c .before .before .before .before .before .before .before .args .body)) (c .before .before .before .enum-told .given .0 .0) (sym (c .before .before .before .enum-told .given .1) ∙ c .before .before .before .before .before .check-body .ensures)
 
 -- src/lib.rt:215:1
 returns-2 : tie.Need-returns-2
-returns-2 c = ?
+returns-2 c = map-stop (now (c .before .before .before .before .before .args .body)) (c .before .number .given .0 .0) (sym (c .before .number .given .1) ∙ c .before .before .before .check-body .ensures)
 
 pub check-map-spec : {M : Type 1} → statement M
 check-map-spec =
