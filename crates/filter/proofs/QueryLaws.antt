@@ -49,7 +49,7 @@ module _ (at : ℕ) (b : List ℕ) (kilometre from : ℕ) (there : at + 4 ≤ le
       let n : kilometre ≤ value (after (drop at b)) = subst (λ (v : ℕ). kilometre ≤ v) (next-value b at there) k in
       let v : fetched 2 b at ≡ value (drop at b) = fetched-value b at (omega arith) in
       let e : codeFrom from (zoneAt b at ∷ zonesIn l (drop (at + 4) b)) kilometre ≡ value (drop at b)
-          = simp (le-leb from kilometre low, le-leb kilometre (value (after (drop at b))) n) in
+      = simp (le-leb from kilometre low, le-leb kilometre (value (after (drop at b))) n) in
       v ∙ sym (ap (λ (zs : List Zone). codeFrom from zs kilometre) (zones-more l at b) ∙ e)
 
   look-on : (left : ℕ) → 0 < left → fetched 2 b (at + 2) < kilometre
@@ -59,8 +59,8 @@ module _ (at : ℕ) (b : List ℕ) (kilometre from : ℕ) (there : at + 4 ≤ le
   look-on (suc l) h k =
       let n : value (after (drop at b)) < kilometre = subst (λ (v : ℕ). v < kilometre) (next-value b at there) k in
       let e : codeFrom from (zoneAt b at ∷ zonesIn l (drop (at + 4) b)) kilometre
-              ≡ codeFrom (suc (value (after (drop at b)))) (zonesIn l (drop (at + 4) b)) kilometre
-          = simp (le-leb from kilometre low, lt-leb kilometre (value (after (drop at b))) n) in
+      ≡ codeFrom (suc (value (after (drop at b)))) (zonesIn l (drop (at + 4) b)) kilometre
+      = simp (le-leb from kilometre low, lt-leb kilometre (value (after (drop at b))) n) in
       ap (λ (v : ℕ). codeFrom (suc v) (zonesIn (suc l - 1) (drop (at + 4) b)) kilometre) (next-value b at there)
       ∙ ap (λ (k′ : ℕ). codeFrom (suc (value (after (drop at b)))) (zonesIn k′ (drop (at + 4) b)) kilometre) (less-one l)
       ∙ sym (ap (λ (zs : List Zone). codeFrom from zs kilometre) (zones-more l at b) ∙ e)

@@ -1,6 +1,5 @@
 // Message 15, the clutter filter map: a body is checked in one pass; a query walks the checked body up to the azimuth asked for.
 use wire::refusal;
-
 ghost use mathlib.Core.Path.{_≡_};
 ghost use Prim.Native.Nat.{_+_, _*_, _≤_};
 ghost use lib.ListN.{length, drop};

@@ -40,7 +40,7 @@ enum-known-number c = search needs
 returns : tie.Need-returns
 returns c =
     let s : _≡_ {A = Summary} (record { date = c .before .before .fetch16 .result; minutes = c .before .fetch162 .result; elevations = c .fetch163 .result }) _
-        = λ i. record { date = c .before .before .fetch16 .ensures i; minutes = c .before .fetch162 .ensures i; elevations = c .fetch163 .ensures i } in
+    = λ i. record { date = c .before .before .fetch16 .ensures i; minutes = c .before .fetch162 .ensures i; elevations = c .fetch163 .ensures i } in
     ap given s ∙ map-given (now (c .before .before .before .before .before .before .before .args .body)) (c .before .before .before .enum-told .given .0 .0) (sym (c .before .before .before .enum-told .given .1) ∙ c .before .before .before .before .before .check-body .ensures)
 
 -- src/lib.rt:215:1

@@ -54,11 +54,13 @@ loop-less c = search needs
 loop-again : tie.Need-loop-again Inv-loop μ-loop
 loop-again c =
     let a = c .before .before .before .before .before .before .before .args in
-    let l = c .before .before .before .before .before .loop in
-    (search needs, search needs,
-    zones-turn (l .left) (l .at) (l .from) (now (a .part)) (Next (4 * a .count)) (c .before .next .given .0 .0) (c .before .before .before .before .loop-test .taken)
-    (sym (c .before .next .given .1) ∙ c .before .before .before .check-zone .ensures)
-    ∙ l .inv .2)
+    let l = c .before .before .before .before .before .loop in (
+      search needs,
+      search needs,
+      zones-turn (l .left) (l .at) (l .from) (now (a .part)) (Next (4 * a .count)) (c .before .next .given .0 .0) (c .before .before .before .before .loop-test .taken)
+          (sym (c .before .next .given .1) ∙ c .before .before .before .check-zone .ensures)
+          ∙ l .inv .2,
+    )
 
 -- src/lib.rt:105:24
 enum-known-number : tie.Need-enum-known-number Inv-loop μ-loop

@@ -74,10 +74,12 @@ loop-again c =
     let s = c .before .before .before .before .before .before .before in
     let a = s .args in
     let l = c .before .before .before .before .loop in
-    let e = c .before .wide .ensures ∙ c .before .before .fetch162 .ensures in
-    (search needs, search needs,
-    looking-on (now (a .part)) (a .kilometre) (s .pre) (l .left) (l .at) (l .inv .2) (c .before .before .before .loop-test .taken)
-    (subst (λ (n : ℕ). n < a .kilometre) e (c .if1 .left)))
+    let e = c .before .wide .ensures ∙ c .before .before .fetch162 .ensures in (
+      search needs,
+      search needs,
+      looking-on (now (a .part)) (a .kilometre) (s .pre) (l .left) (l .at) (l .inv .2) (c .before .before .before .loop-test .taken)
+          (subst (λ (n : ℕ). n < a .kilometre) e (c .if1 .left)),
+    )
 
 -- src/lib.rt:243:1
 returns-2 : tie.Need-returns-2 Inv-loop μ-loop
