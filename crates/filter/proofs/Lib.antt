@@ -3,3 +3,4 @@ pub mod PartLaws
 pub mod StepLaws
 pub mod BodyLaws
 pub mod QueryLaws
+pub mod OneAnswer

@@ -22,11 +22,7 @@ const LAST_KILOMETRE: usize = 511;
 
 // A checked map's date, minutes and number of elevation segments, or the number of refusal.
 pub enum MapAnswer {
-    Map {
-        date: u16,
-        minutes: u16,
-        elevations: u16,
-    },
+    Map(u16, u16, u16),
     Refused(u8),
 }
 
@@ -215,11 +211,12 @@ pub fn check_map(body: &[u8]) -> MapAnswer
     ensures { λ r. ⌜ tellMap r ≡ summaryOf (now (body .entry)) ⌝ }
 {
     match check_body(body) {
-        Step::Next(_) => MapAnswer::Map {
-            date: wire::fetch16(body, 0),
-            minutes: wire::fetch16(body, 2),
-            elevations: wire::fetch16(body, 4),
-        },
+        Step::Next(_) => {
+            let date = wire::fetch16(body, 0);
+            let minutes = wire::fetch16(body, 2);
+            let elevations = wire::fetch16(body, 4);
+            MapAnswer::Map(date, minutes, elevations)
+        }
         Step::Stop(number) => MapAnswer::Refused(number),
     }
 }
@@ -246,7 +243,8 @@ fn zone_code(part: &[u8], kilometre: usize) -> u16
     let mut left = wire::fetch16(part, 0);
     let mut at: u32 = 2;
     while 0 < left {
-        if kilometre <= wide(wire::fetch16(part, at + 2)) {
+        let end = wide(wire::fetch16(part, at + 2));
+        if kilometre < end + 1 {
             return wire::fetch16(part, at);
         }
         at += 4;
@@ -283,7 +281,8 @@ pub fn code_at(body: &[u8], elevation: usize, azimuth: usize, kilometre: usize) 
                 return CodeAnswer::Refused(refusal::ASKED_FOR);
             }
             let index = (elevation - 1) * AZIMUTHS + azimuth;
-            CodeAnswer::Code(azimuth_code(&body[6..], index, kilometre))
+            let code = azimuth_code(&body[6..], index, kilometre);
+            CodeAnswer::Code(code)
         }
         Step::Stop(number) => CodeAnswer::Refused(number),
     }

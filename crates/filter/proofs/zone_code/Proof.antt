@@ -42,6 +42,9 @@ wide-requires : tie.Need-wide-requires Inv-loop μ-loop
 wide-requires c κs = search needs
 
 -- src/lib.rt:251:13
+add-if1 : tie.Need-add-if1 Inv-loop μ-loop
+add-if1 c = search needs
+
 fetch16-requires-3 : tie.Need-fetch16-requires-3 Inv-loop μ-loop
 fetch16-requires-3 c κs = search needs
 
@@ -52,9 +55,10 @@ returns c =
     let a = s .args in
     let l = c .before .before .before .before .before .loop in
     let e = c .before .before .wide .ensures ∙ c .before .before .before .fetch162 .ensures in
+    let h : a .kilometre ≤ c .before .before .wide .result = omega (arith, c .before .if1 .taken) in
     c .fetch163 .ensures
     ∙ looking-here (now (a .part)) (a .kilometre) (s .pre) (l .left) (l .at) (l .inv .2) (c .before .before .before .before .loop-test .taken)
-    (subst (λ (n : ℕ). a .kilometre ≤ n) e (c .before .if1 .taken))
+    (subst (λ (n : ℕ). a .kilometre ≤ n) e h)
 
 -- src/lib.rt:253:9
 add-at : tie.Need-add-at Inv-loop μ-loop
@@ -74,11 +78,12 @@ loop-again c =
     let s = c .before .before .before .before .before .before .before in
     let a = s .args in
     let l = c .before .before .before .before .loop in
-    let e = c .before .wide .ensures ∙ c .before .before .fetch162 .ensures in (
+    let e = c .before .wide .ensures ∙ c .before .before .fetch162 .ensures in
+    let h : c .before .wide .result < a .kilometre = omega (arith, c .if1 .left) in (
       search needs,
       search needs,
       looking-on (now (a .part)) (a .kilometre) (s .pre) (l .left) (l .at) (l .inv .2) (c .before .before .before .loop-test .taken)
-          (subst (λ (n : ℕ). n < a .kilometre) e (c .if1 .left)),
+          (subst (λ (n : ℕ). n < a .kilometre) e h),
     )
 
 -- src/lib.rt:243:1
@@ -100,6 +105,7 @@ zone-code-spec =
     add-fetch16
     fetch16-requires-2
     wide-requires
+    add-if1
     fetch16-requires-3
     returns
     add-at
