@@ -1,0 +1,157 @@
+-- The whole body from its parts: the three fields, the elevation segments, the leftovers. Assumes nothing.
+use Prim.Native.Nat.{ℕ, _+_, _*_, _-_, _≤_, _<_}
+use native.Mathlib.Omega.{arith}
+use mathlib.Core.Path.{_≡_, refl, sym, ap, _∙_, subst}
+use mathlib.Core.Bool.{true, false}
+use mathlib.Core.Option.{none, some}
+use mathlib.Core.List.{List, [], _∷_, _++_}
+use lib.Dec.{ltb}
+use lib.ListN.{length, drop, length-drop}
+use borrow.Author.Tests.{lt-ltb, le-ltb, ltb-false, eq-eqb, ne-eqb}
+use Rattle.wire.specs.Numbers.{num, fetched}
+use Rattle.wire.specs.Checks.{Check, check, decide, first}
+use Rattle.wire.specs.Answers.{Answer, refused, given, rule}
+use Rattle.wire.proofs.CheckLaws.{decide-append, decide-none, decide-some, all-hold}
+use Rattle.map.specs.Map.{azimuths, mostElevations, lastKilometre, Zone, codeFrom, codeAt}
+use Rattle.map.specs.Reading.{value, elevationsSize, elevationsChecks, dateIn, minutesIn, segmentsIn, headChecks, mapChecks, mapIn, Summary, summary, summaryOf, askedChecks, codeOf}
+use Rattle.map.proofs.Accepted.{elevations-long, elevations-count}
+use Rattle.map.proofs.CheckFacts.{MapFacts, map-facts}
+use Rattle.map.proofs.Places.{asked-there, asked-zones}
+use Rattle.filter.specs.declared.Step.{Step}
+use Rattle.filter.specs.declared.Step.the-variants.{Next, Stop}
+use Rattle.filter.specs.Steps.{stepBy, elevationsStep, headStep, bodyStep, PassFits, codeThere}
+use Rattle.filter.proofs.PartLaws.{fetched-value}
+use Rattle.filter.proofs.StepLaws.{step-first, step-none, part-stops, part-passes}
+
+abbrev segments : List ℕ → List Check
+segments b = elevationsChecks (segmentsIn b) (drop 6 b)
+
+abbrev leftover : List ℕ → List Check
+leftover b = check 23 (ltb (6 + elevationsSize (segmentsIn b) (drop 6 b)) (length b)) ∷ []
+
+pub head-stop : (b : List ℕ) (n : ℕ) → Stop n ≡ headStep b → Stop n ≡ bodyStep b
+head-stop b n e = sym (part-stops (headChecks b) (segments b ++ leftover b) (segmentsIn b) (Next (segmentsIn b)) n (sym e))
+
+-- ---- the three fields passed
+module _ (b : List ℕ) (m : ℕ) (e : Next m ≡ headStep b) where
+  pub head-long : 6 ≤ length b
+  head-long =
+      let p = all-hold (headChecks b) (step-none (headChecks b) (segmentsIn b) m (sym e) .0) in
+      let l : 2 ≤ length (drop 4 b) = ltb-false (length (drop 4 b)) 2 (p .1 .1 .1 .1 .0) in
+      let k = simp length-drop at l in
+      omega arith
+
+  count-is : segmentsIn b ≡ m
+  count-is = step-none (headChecks b) (segmentsIn b) m (sym e) .1
+
+  body-is : bodyStep b ≡ decide (segments b ++ leftover b) Stop (Next (segmentsIn b))
+  body-is = part-passes (headChecks b) (segments b ++ leftover b) (segmentsIn b) (Next (segmentsIn b)) m (sym e)
+
+  counted : elevationsStep m (drop 6 b) ≡ elevationsStep (segmentsIn b) (drop 6 b)
+  counted = ap (λ (k : ℕ). elevationsStep k (drop 6 b)) (sym count-is)
+
+  pub segments-stop : (n : ℕ) → Stop n ≡ elevationsStep m (drop 6 b) → Stop n ≡ bodyStep b
+  segments-stop n f =
+      sym (body-is ∙ part-stops (segments b) (leftover b) (elevationsSize (segmentsIn b) (drop 6 b)) (Next (segmentsIn b)) n (sym (f ∙ counted)))
+
+  -- ---- and the elevation segments
+  module _ (s : ℕ) (f : Next s ≡ elevationsStep m (drop 6 b)) where
+    size-is : elevationsSize (segmentsIn b) (drop 6 b) ≡ s
+    size-is = step-none (segments b) (elevationsSize (segmentsIn b) (drop 6 b)) s (sym (f ∙ counted)) .1
+
+    pub segments-fit : 6 + s ≤ length b
+    segments-fit =
+        let p = step-none (segments b) (elevationsSize (segmentsIn b) (drop 6 b)) s (sym (f ∙ counted)) in
+        let l : elevationsSize (segmentsIn b) (drop 6 b) ≤ length (drop 6 b) = elevations-long (segmentsIn b) (drop 6 b) (all-hold (segments b) (p .0)) in
+        let k = simp length-drop at l in
+        omega (arith, size-is, head-long)
+
+    left-is : bodyStep b ≡ decide (leftover b) Stop (Next (segmentsIn b))
+    left-is =
+        body-is ∙ part-passes (segments b) (leftover b) (elevationsSize (segmentsIn b) (drop 6 b)) (Next (segmentsIn b)) s (sym (f ∙ counted))
+
+    pub body-left : 6 + s < length b → Stop 23 ≡ bodyStep b
+    body-left h =
+        let l : 6 + elevationsSize (segmentsIn b) (drop 6 b) < length b = omega (arith, size-is) in
+        sym (left-is ∙ simp (lt-ltb (6 + elevationsSize (segmentsIn b) (drop 6 b)) (length b) l))
+
+    pub body-next : length b ≤ 6 + s → Next m ≡ bodyStep b
+    body-next h =
+        let l : length b ≤ 6 + elevationsSize (segmentsIn b) (drop 6 b) = omega (arith, size-is) in
+        ap Next (sym count-is) ∙ sym (left-is ∙ simp (le-ltb (6 + elevationsSize (segmentsIn b) (drop 6 b)) (length b) l))
+
+-- ---- what is answered of it
+pub map-stop : (b : List ℕ) (n : ℕ) → Stop n ≡ bodyStep b → refused n ≡ summaryOf b
+map-stop b n e = sym (decide-some (mapChecks b) refused (given (summary (mapIn b))) n (step-first (mapChecks b) (segmentsIn b) n (sym e)))
+
+pub map-given : (b : List ℕ) (m : ℕ) → Next m ≡ bodyStep b
+    → given (record { date = fetched 2 b 0; minutes = fetched 2 b 2; elevations = fetched 2 b 4 }) ≡ summaryOf b
+map-given b m e =
+    let p = step-none (mapChecks b) (segmentsIn b) m (sym e) .0 in
+    let h = map-facts b (all-hold (mapChecks b) p) .here in
+    let d : fetched 2 b 0 ≡ dateIn b = fetched-value b 0 (omega arith) in
+    let q : fetched 2 b 2 ≡ minutesIn b = fetched-value b 2 (omega arith) in
+    let n : fetched 2 b 4 ≡ length (mapIn b .elevations) = fetched-value b 4 (omega arith) ∙ sym (elevations-count (segmentsIn b) (drop 6 b)) in
+    let s : _≡_ {A = Summary} (record { date = fetched 2 b 0; minutes = fetched 2 b 2; elevations = fetched 2 b 4 }) (summary (mapIn b))
+    = λ i. record { date = d i; minutes = q i; elevations = n i } in
+    ap given s ∙ sym (decide-none (mapChecks b) refused (given (summary (mapIn b))) p)
+
+-- ---- what is asked of it
+pub query-stop : (b : List ℕ) (elevation azimuth kilometre n : ℕ) → Stop n ≡ bodyStep b → refused n ≡ codeOf b elevation azimuth kilometre
+query-stop b elevation azimuth kilometre n e =
+    let ask = askedChecks (segmentsIn b) elevation azimuth kilometre in
+    let v = given (codeAt (mapIn b) elevation azimuth kilometre) in
+    sym
+    (decide-append (mapChecks b) ask refused v
+    ∙ decide-some (mapChecks b) refused (decide ask refused v) n (step-first (mapChecks b) (segmentsIn b) n (sym e)))
+
+module _ (b : List ℕ) (m : ℕ) (e : Next m ≡ bodyStep b) where
+  facts : MapFacts b
+  facts = map-facts b (all-hold (mapChecks b) (step-none (mapChecks b) (segmentsIn b) m (sym e) .0))
+
+  segments-are : segmentsIn b ≡ m
+  segments-are = step-none (mapChecks b) (segmentsIn b) m (sym e) .1
+
+  pub query-long : 6 ≤ length b
+  query-long = facts .here
+
+  pub query-most : m ≤ mostElevations
+  query-most = omega (arith, facts .most, segments-are)
+
+  module _ (elevation azimuth kilometre : ℕ) where
+    query-is : codeOf b elevation azimuth kilometre ≡ rule (askedChecks m elevation azimuth kilometre) (codeAt (mapIn b) elevation azimuth kilometre)
+    query-is =
+        let ask = askedChecks (segmentsIn b) elevation azimuth kilometre in
+        let v = codeAt (mapIn b) elevation azimuth kilometre in
+        decide-append (mapChecks b) ask refused (given v)
+        ∙ decide-none (mapChecks b) refused (rule ask v) (step-none (mapChecks b) (segmentsIn b) m (sym e) .0)
+        ∙ ap (λ (k : ℕ). rule (askedChecks k elevation azimuth kilometre) v) segments-are
+
+    pub asked-none : elevation ≡ 0 → refused 21 ≡ codeOf b elevation azimuth kilometre
+    asked-none z = sym (query-is ∙ simp (eq-eqb elevation 0 z))
+
+    module _ (z : elevation ≡ 0 → ⊥) where
+      pub asked-high : m < elevation → refused 21 ≡ codeOf b elevation azimuth kilometre
+      asked-high h = sym (query-is ∙ simp (ne-eqb elevation 0 z, lt-ltb m elevation h))
+
+      module _ (h : elevation ≤ m) where
+        pub asked-azimuth : azimuths ≤ azimuth → refused 21 ≡ codeOf b elevation azimuth kilometre
+        asked-azimuth a = sym (query-is ∙ simp (ne-eqb elevation 0 z, le-ltb m elevation h, le-ltb azimuth azimuths a))
+
+        module _ (a : azimuth < azimuths) where
+          pub asked-far : lastKilometre < kilometre → refused 21 ≡ codeOf b elevation azimuth kilometre
+          asked-far k = sym (query-is ∙ simp (ne-eqb elevation 0 z, le-ltb m elevation h, lt-ltb azimuth azimuths a, lt-ltb lastKilometre kilometre k))
+
+          inside : elevation - 1 < segmentsIn b
+          inside = omega (arith, segments-are)
+
+          pub asked-fits : PassFits ((elevation - 1) * azimuths + azimuth) (drop 6 b)
+          asked-fits = asked-there (segmentsIn b) (elevation - 1) azimuth (drop 6 b) inside a (facts .elevations)
+
+          pub asked-given : kilometre ≤ lastKilometre
+              → given (codeThere ((elevation - 1) * azimuths + azimuth) kilometre (drop 6 b)) ≡ codeOf b elevation azimuth kilometre
+          asked-given k =
+              ap (λ (zs : List Zone). given (codeFrom 0 zs kilometre)) (sym (asked-zones (segmentsIn b) (elevation - 1) azimuth (drop 6 b) inside a))
+              ∙ sym
+              (query-is
+              ∙ simp (ne-eqb elevation 0 z, le-ltb m elevation h, lt-ltb azimuth azimuths a, le-ltb lastKilometre kilometre k))

@@ -1,0 +1,6 @@
+-- What the functions' proofs cite.
+pub mod PartLaws
+pub mod StepLaws
+pub mod BodyLaws
+pub mod QueryLaws
+pub mod OneAnswer

@@ -1,0 +1,289 @@
+// Message 15, the clutter filter map: a body is checked in one pass; a query walks the checked body up to the azimuth asked for.
+use wire::refusal;
+ghost use mathlib.Core.Path.{_≡_};
+ghost use Prim.Native.Nat.{_+_, _*_, _≤_};
+ghost use lib.ListN.{length, drop};
+ghost use Rattle.map.specs.Map.{mostZones, codeFrom};
+ghost use Rattle.map.specs.Reading.{value, after, endBroken, azimuthSize, azimuthsSize, zonesIn, summaryOf, codeOf};
+ghost use Rattle.filter.specs.Answers.{tellMap, tellCode};
+ghost use Rattle.filter.specs.Steps.{zoneStep, zonesStep, azimuthStep, elevationStep, elevationsStep, headStep, bodyStep, PassFits, codeThere};
+
+const MOST_MINUTES: u16 = 1440;
+
+const MOST_ELEVATIONS: u16 = 5;
+
+const AZIMUTHS: usize = 360;
+
+const MOST_ZONES: u16 = 20;
+
+const MOST_CODE: u16 = 2;
+
+const LAST_KILOMETRE: usize = 511;
+
+// A checked map's date, minutes and number of elevation segments, or the number of refusal.
+pub enum MapAnswer {
+    Map(u16, u16, u16),
+    Refused(u8),
+}
+
+// The code at the elevation segment, azimuth and kilometre asked for, or the number of refusal.
+pub enum CodeAnswer {
+    Code(u16),
+    Refused(u8),
+}
+
+// A part of the map that was checked: what the next one starts from, or the number of refusal.
+enum Step {
+    Next(usize),
+    Stop(u8),
+}
+
+// Whether an end is out of range, does not rise, or is the last and not 511.
+fn end_broken(left: usize, from: usize, end: usize) -> bool
+    ensures { λ r. ⌜ r ≡ endBroken left from end ⌝ }
+{
+    if LAST_KILOMETRE < end {
+        return true;
+    }
+    if end < from {
+        return true;
+    }
+    if left == 0 {
+        return end != LAST_KILOMETRE;
+    }
+    false
+}
+
+fn wide(x: u16) -> usize
+    ensures { λ r. ⌜ r ≡ x ⌝ }
+{
+    x as usize
+}
+
+// The zone at a place, with so many zones left after it, whose end is to be `from` or more.
+fn check_zone(part: &[u8], at: u32, left: usize, from: usize) -> Step
+    requires { ⌜ at ≤ 4 * mostZones ⌝ }
+    ensures { λ r. ⌜ r ≡ zoneStep left from (drop at (now (part .entry))) ⌝ }
+{
+    let place = at as usize;
+    if part.len() < place + 2 {
+        return Step::Stop(refusal::LENGTH);
+    }
+    if MOST_CODE < wire::fetch16(part, at) {
+        return Step::Stop(refusal::FIELD);
+    }
+    if part.len() < place + 4 {
+        return Step::Stop(refusal::LENGTH);
+    }
+    let end = wide(wire::fetch16(part, at + 2));
+    if end_broken(left, from, end) {
+        return Step::Stop(refusal::FIELD);
+    }
+    Step::Next(end + 1)
+}
+
+// So many zones from the part's start.
+fn check_zones(part: &[u8], count: usize) -> Step
+    requires { ⌜ count ≤ mostZones ⌝ }
+    ensures { λ r. ⌜ r ≡ zonesStep count (now (part .entry)) ⌝ }
+{
+    let mut left = count;
+    let mut at: u32 = 0;
+    let mut from: usize = 0;
+    while 0 < left {
+        match check_zone(part, at, left - 1, from) {
+            Step::Next(next) => {
+                from = next;
+                at += 4;
+                left -= 1;
+            }
+            Step::Stop(number) => return Step::Stop(number),
+        }
+    }
+    Step::Next(at as usize)
+}
+
+// The azimuth that the part begins with: its zone count, and its zones.
+fn check_azimuth(part: &[u8]) -> Step
+    ensures { λ r. ⌜ r ≡ azimuthStep (now (part .entry)) ⌝ }
+{
+    if part.len() < 2 {
+        return Step::Stop(refusal::LENGTH);
+    }
+    let count = wire::fetch16(part, 0);
+    if count < 1 {
+        return Step::Stop(refusal::FIELD);
+    }
+    if MOST_ZONES < count {
+        return Step::Stop(refusal::FIELD);
+    }
+    match check_zones(&part[2..], wide(count)) {
+        Step::Next(size) => Step::Next(2 + size),
+        Step::Stop(number) => Step::Stop(number),
+    }
+}
+
+// The elevation segment that the part begins with: its 360 azimuths.
+fn check_elevation(part: &[u8]) -> Step
+    ensures { λ r. ⌜ r ≡ elevationStep (now (part .entry)) ⌝ }
+{
+    let mut left = AZIMUTHS;
+    let mut at: usize = 0;
+    while 0 < left {
+        match check_azimuth(&part[at..]) {
+            Step::Next(size) => {
+                at += size;
+                left -= 1;
+            }
+            Step::Stop(number) => return Step::Stop(number),
+        }
+    }
+    Step::Next(at)
+}
+
+// So many elevation segments from the part's start.
+fn check_elevations(part: &[u8], count: usize) -> Step
+    ensures { λ r. ⌜ r ≡ elevationsStep count (now (part .entry)) ⌝ }
+{
+    let mut left = count;
+    let mut at: usize = 0;
+    while 0 < left {
+        match check_elevation(&part[at..]) {
+            Step::Next(size) => {
+                at += size;
+                left -= 1;
+            }
+            Step::Stop(number) => return Step::Stop(number),
+        }
+    }
+    Step::Next(at)
+}
+
+// Date, minutes and the number of elevation segments.
+fn check_head(body: &[u8]) -> Step
+    ensures { λ r. ⌜ r ≡ headStep (now (body .entry)) ⌝ }
+{
+    if body.len() < 2 {
+        return Step::Stop(refusal::LENGTH);
+    }
+    if wire::fetch16(body, 0) < 1 {
+        return Step::Stop(refusal::FIELD);
+    }
+    if body.len() < 4 {
+        return Step::Stop(refusal::LENGTH);
+    }
+    if MOST_MINUTES < wire::fetch16(body, 2) {
+        return Step::Stop(refusal::FIELD);
+    }
+    if body.len() < 6 {
+        return Step::Stop(refusal::LENGTH);
+    }
+    let count = wire::fetch16(body, 4);
+    if count < 1 {
+        return Step::Stop(refusal::FIELD);
+    }
+    if MOST_ELEVATIONS < count {
+        return Step::Stop(refusal::FIELD);
+    }
+    Step::Next(wide(count))
+}
+
+// The whole body: the number of its elevation segments.
+fn check_body(body: &[u8]) -> Step
+    ensures { λ r. ⌜ r ≡ bodyStep (now (body .entry)) ⌝ }
+{
+    match check_head(body) {
+        Step::Next(count) => match check_elevations(&body[6..], count) {
+            Step::Next(size) => {
+                if 6 + size < body.len() {
+                    return Step::Stop(refusal::LENGTH);
+                }
+                Step::Next(count)
+            }
+            Step::Stop(number) => Step::Stop(number),
+        },
+        Step::Stop(number) => Step::Stop(number),
+    }
+}
+
+// A body 15: its date, minutes and number of elevation segments.
+pub fn check_map(body: &[u8]) -> MapAnswer
+    ensures { λ r. ⌜ tellMap r ≡ summaryOf (now (body .entry)) ⌝ }
+{
+    match check_body(body) {
+        Step::Next(_) => {
+            let date = wire::fetch16(body, 0);
+            let minutes = wire::fetch16(body, 2);
+            let elevations = wire::fetch16(body, 4);
+            MapAnswer::Map(date, minutes, elevations)
+        }
+        Step::Stop(number) => MapAnswer::Refused(number),
+    }
+}
+
+// How many bytes the first azimuths of a checked part take.
+fn pass_azimuths(part: &[u8], count: usize) -> usize
+    requires { ⌜ azimuthsSize count (now part) ≤ length (now part) ⌝ }
+    ensures { λ r. ⌜ r ≡ azimuthsSize count (now (part .entry)) ⌝ }
+{
+    let mut left = count;
+    let mut at: usize = 0;
+    while 0 < left {
+        at += 2 + 4 * wide(wire::fetch16(&part[at..], 0));
+        left -= 1;
+    }
+    at
+}
+
+// The code at a kilometre of the azimuth that a checked part begins with: that of the first zone that does not end before it.
+fn zone_code(part: &[u8], kilometre: usize) -> u16
+    requires { ⌜ azimuthSize (now part) ≤ length (now part) ⌝ }
+    ensures { λ r. ⌜ r ≡ codeFrom 0 (zonesIn (value (now (part .entry))) (after (now (part .entry)))) kilometre ⌝ }
+{
+    let mut left = wire::fetch16(part, 0);
+    let mut at: u32 = 2;
+    while 0 < left {
+        let end = wide(wire::fetch16(part, at + 2));
+        if kilometre < end + 1 {
+            return wire::fetch16(part, at);
+        }
+        at += 4;
+        left -= 1;
+    }
+    0
+}
+
+// The code at a kilometre of an azimuth of a checked part, where the azimuths of all elevation segments are counted through from 0.
+fn azimuth_code(part: &[u8], index: usize, kilometre: usize) -> u16
+    requires { ⌜ PassFits index (now part) ⌝ }
+    ensures { λ r. ⌜ r ≡ codeThere index kilometre (now (part .entry)) ⌝ }
+{
+    let at = pass_azimuths(part, index);
+    zone_code(&part[at..], kilometre)
+}
+
+// The code at an elevation segment (from 1), azimuth and kilometre of a body 15.
+pub fn code_at(body: &[u8], elevation: usize, azimuth: usize, kilometre: usize) -> CodeAnswer
+    ensures { λ r. ⌜ tellCode r ≡ codeOf (now (body .entry)) elevation azimuth kilometre ⌝ }
+{
+    match check_body(body) {
+        Step::Next(count) => {
+            if elevation == 0 {
+                return CodeAnswer::Refused(refusal::ASKED_FOR);
+            }
+            if count < elevation {
+                return CodeAnswer::Refused(refusal::ASKED_FOR);
+            }
+            if AZIMUTHS <= azimuth {
+                return CodeAnswer::Refused(refusal::ASKED_FOR);
+            }
+            if LAST_KILOMETRE < kilometre {
+                return CodeAnswer::Refused(refusal::ASKED_FOR);
+            }
+            let index = (elevation - 1) * AZIMUTHS + azimuth;
+            let code = azimuth_code(&body[6..], index, kilometre);
+            CodeAnswer::Code(code)
+        }
+        Step::Stop(number) => CodeAnswer::Refused(number),
+    }
+}

@@ -1,0 +1,39 @@
+-- Laws of one halfword field, of tests joined, and of tables joined. Assumes nothing.
+use Prim.Native.Nat.{ℕ, zero, suc, _+_, _*_, _≤_, _<_}
+use native.Mathlib.Nat.{add-zero}
+use native.Mathlib.Omega.{arith}
+use mathlib.Core.Path.{_≡_, refl, sym, ap, _∙_}
+use mathlib.Core.Bool.{Bool, true, false}
+use mathlib.Core.List.{List, [], _∷_, _++_, append-assoc}
+use lib.ListN.{length, getD, take, drop, take-append-drop}
+use lib.Seq.{getD-drop}
+use Rattle.wire.specs.Numbers.{num, be, Octets}
+use Rattle.wire.specs.Checks.{pick, either, both}
+use Rattle.wire.specs.Tables.{Field, field, render}
+use Rattle.wire.proofs.NumberLaws.{num-be, be-num}
+use Rattle.wire.proofs.CheckLaws.{never}
+
+-- ---- a field: what is read, written, is what stood there; what is written is read back
+pub field-back : (b : List ℕ) → Octets b → 2 ≤ length b → be 2 (num 2 b 0) ++ drop 2 b ≡ b
+field-back b o h = ap (λ (l : List ℕ). l ++ drop 2 b) (be-num 2 b 0 o h) ∙ take-append-drop 2 b
+
+pub value-of : (v : ℕ) (t : List ℕ) → v ≤ 65535 → num 2 (be 2 v ++ t) 0 ≡ v
+value-of v t h = num-be 2 v t (omega arith)
+
+pub octets-drop : (n : ℕ) (b : List ℕ) → Octets b → Octets (drop n b)
+octets-drop n b o i = rw (getD-drop n b i 0) (o (n + i))
+
+-- ---- tables one after the other
+pub render-append : (fs gs : List Field) → render (fs ++ gs) ≡ render fs ++ render gs
+render-append [] gs = refl
+render-append (f ∷ fs) gs =
+    ap (λ (l : List ℕ). be (f .wide) (f .value) ++ l) (render-append fs gs) ∙ sym (append-assoc (be (f .wide) (f .value)) (render fs) (render gs))
+
+-- ---- tests joined
+pub either-false : (a b : Bool) → either a b ≡ false → (a ≡ false) × (b ≡ false)
+either-false true b e = never (cc e)
+either-false false b e = (refl, e)
+
+pub both-false : (a b : Bool) → a ≡ true → both a b ≡ false → b ≡ false
+both-false true b p e = e
+both-false false b p e = never (cc p)
