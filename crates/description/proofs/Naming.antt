@@ -8,14 +8,14 @@ use mathlib.Core.List.{List, [], _∷_, _++_, map}
 use lib.Dec.{eqb}
 use lib.ListN.{length, getD, take, drop, length-take, length-drop}
 use lib.Seq.{ext-getD, getD-take, getD-drop}
-use Rattle.wire.specs.Numbers.{num}
+use Rattle.wire.specs.Numbers.{num, Octets}
 use Rattle.wire.specs.Checks.{pick}
 use Rattle.wire.specs.Tables.{field, render, Spells}
 use Rattle.wire.specs.Answers.{Answer, refused, given}
 use Rattle.wire.proofs.CheckLaws.{never}
 use Rattle.wire.proofs.TableLaws.{render-length, spelt}
 use Rattle.wire.proofs.AnswerLaws.{rule-given}
-use Rattle.description.specs.Description.{constants, RVOL, RELV, RRAD, momentHead, Piece, Moment, Description, gates}
+use Rattle.description.specs.Description.{constants, RVOL, RELV, RRAD, momentHead, mostGates, wordSizes, Member, Piece, Moment, Description, gates}
 use Rattle.description.specs.Description.{wordBytes, gateBytes, momentSize, momentPieces, pieces, InPieces, Named, AllStand, Layout, MomentsLie, blockEnd, momentEnd}
 use Rattle.description.specs.Refusal.{sizeIn, pointer, part, momentAt, momentsAt, countIn, description, radialChecks, radialOf}
 use Rattle.description.specs.Lookups.{onward, momentNamed, momentOf, momentLying, blockOf, gatesIn}
@@ -158,23 +158,32 @@ code-at b name m i e h =
     (λ (x : Moment). i < gates x → getD (x .codes) i 0 ≡ num (wordBytes x) (drop (x .place) b) (28 + i * wordBytes x)) (w .reads)
     (λ k. read-code (w .at) (drop (w .at) b) i k) h
 
--- it ends within the radial length
+-- a moment that is found lies as the layout says: its gates, its word size, and its end within the radial length
 found-within : (name z from : ℕ) (seen : List ℕ) (ms : List Moment) (m : Moment) → momentNamed name ms ≡ given m → MomentsLie from z seen ms
-    → momentEnd m ≤ z
+    → (gates m ≤ mostGates) × Member (m .word) wordSizes × (momentEnd m ≤ z)
 found-within name z from seen [] m e lie = never (cc e)
 found-within name z from seen (x ∷ ms) m e lie =
     go (eqb (x .name) name) e (λ k. found-within name z (momentEnd x) (seen ++ (x .name ∷ [])) ms m k (lie .1))
   where
-    go : (t : Bool) → pick t (given x) (momentNamed name ms) ≡ given m → (momentNamed name ms ≡ given m → momentEnd m ≤ z) → momentEnd m ≤ z
-    go true k later = let q : x ≡ m = cc k in rw (← q) (lie .0 .within)
+    go : (t : Bool) → pick t (given x) (momentNamed name ms) ≡ given m
+        → (momentNamed name ms ≡ given m → (gates m ≤ mostGates) × Member (m .word) wordSizes × (momentEnd m ≤ z))
+        → (gates m ≤ mostGates) × Member (m .word) wordSizes × (momentEnd m ≤ z)
+    go true k later = let q : x ≡ m = cc k in rw (← q) (lie .0 .few, lie .0 .words, lie .0 .within)
     go false k later = later k
+
+pub found-lies : (b : List ℕ) (name : ℕ) (m : Moment) → Octets b → momentOf b name ≡ given m
+    → (gates m ≤ mostGates) × Member (m .word) wordSizes × (momentEnd m ≤ length b)
+found-lies b name m o e =
+    let f = moment-of b name m e in
+    let lay = agreed b (description b) o (f .0) .0 in
+    let w = found-within name (sizeIn b) (blockEnd (description b .radialBlock)) [] (description b .moments) m (f .1) (lay .momentsLie) in
+    (w .0, w .1, omega (arith, w .2, lay .most))
 
 pub gate-words : GateWords
 gate-words b name m o e =
     let f = moment-of b name m e in
-    let lay = agreed b (description b) o (f .0) .0 in
-    let end = found-within name (sizeIn b) (blockEnd (description b .radialBlock)) [] (description b .moments) m (f .1) (lay .momentsLie) in
-    let within : gatesIn m .place + gatesIn m .size ≤ length b = omega (arith, end, lay .most) in
+    let end = found-lies b name m o e .2 in
+    let within : gatesIn m .place + gatesIn m .size ≤ length b = omega (arith, end) in
     let w = found-read b name 44 (countIn b - constants) m (f .1) in
     let run = map (field (wordBytes m)) (m .codes) in
     let s : Spells b (m .place + momentHead) run =

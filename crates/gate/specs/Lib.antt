@@ -1,5 +1,6 @@
 -- The value of a gate.
 pub mod Value
 pub mod Promises
+pub mod Steps
 pub mod Laws
 pub mod Cases

@@ -1,10 +1,13 @@
 // The value of a gate: of a radial's moment, or of a code by itself.
 ghost use mathlib.Core.Path.{_≡_};
+ghost use Rattle.wire.specs.Numbers.{num};
 ghost use Rattle.wire.specs.Checks.{someBroken};
-ghost use Rattle.gate.specs.Value.{notFinite, valueChecks, valueOf};
+ghost use Rattle.gate.specs.Value.{notFinite, valueChecks, valueOf, gateOf};
+ghost use Rattle.gate.specs.Steps.{WordThere, codeIn};
 ghost use Rattle.gate.specs.Promises.{tellGate};
 use wire::INFINITE;
 use wire::SIGN;
+use lookup::MomentAnswer;
 use wire::refusal;
 
 pub enum GateAnswer {
@@ -48,4 +51,34 @@ pub fn value(code: u16, scale: u32, offset: u32) -> GateAnswer
         return GateAnswer::RangeFolded;
     }
     GateAnswer::Value((code as f32 - wire::float_of(offset)) / wire::float_of(scale))
+}
+
+// The code of a gate: the word of the block at `place` that the gate's number counts to.
+fn code_in(body: &[u8], place: u32, word: u8, gate: usize) -> u16
+    requires { ⌜ WordThere (now body) place word gate ⌝ }
+    ensures { λ r. ⌜ r ≡ codeIn (now (body .entry)) place word gate ⌝ }
+{
+    let begin = place as usize;
+    let part = &body[begin..];
+    let i = gate as u32;
+    if word == 16 {
+        return wire::fetch16(part, 28 + i * 2);
+    }
+    wire::fetch8(part, 28 + i) as u16
+}
+
+// The value of a gate, counted from 0, of the moment with a name.
+pub fn gate_value(body: &[u8], name: [u8; 4], gate: usize) -> GateAnswer
+    ensures { λ r. ⌜ tellGate r ≡ gateOf (now (body .entry)) (num 4 name 0) gate ⌝ }
+{
+    match lookup::moment(body, name) {
+        MomentAnswer::Refused(number) => GateAnswer::Refused(number),
+        MomentAnswer::Moment(head) => {
+            if head.gates as usize <= gate {
+                return GateAnswer::Refused(refusal::ASKED_FOR);
+            }
+            let code = code_in(body, head.place, head.word, gate);
+            value(code, head.scale_bits, head.offset_bits)
+        }
+    }
 }
