@@ -290,13 +290,13 @@ static inline uint32_t moment_size(const uint8_t *m)
     return MOMENT_HEADER + get16(m + 8) * (m[19] / 8);
 }
 
-/* The checks of constant block k at its pointer; gives the block's end. */
-static inline uint32_t constant_refusal(const uint8_t *body, uint32_t k, uint32_t radial_length, uint32_t *end)
+/* The checks of constant block k at its pointer p; gives the block's end. */
+static inline uint32_t constant_refusal(const uint8_t *body, uint32_t k, uint32_t p, uint32_t radial_length,
+                                        uint32_t *end)
 {
     static const uint32_t names[CONSTANTS]
         = { NAME('R', 'V', 'O', 'L'), NAME('R', 'E', 'L', 'V'), NAME('R', 'R', 'A', 'D') };
     static const uint32_t least[CONSTANTS] = { 44, 12, 20 };
-    uint32_t p = get32(body + 32 + 4 * k);
     if (p < *end || p > radial_length - 6)
         return 18;
     if (get32(body + p) != names[k])
@@ -308,11 +308,10 @@ static inline uint32_t constant_refusal(const uint8_t *body, uint32_t k, uint32_
     return 0;
 }
 
-/* The checks of moment block k at its pointer; gives the block's end and the names seen. */
-static inline uint32_t moment_refusal(const uint8_t *body, uint32_t k, uint32_t radial_length, uint32_t *end,
+/* The checks of a moment at its pointer p; gives the block's end and the names seen. */
+static inline uint32_t moment_refusal(const uint8_t *body, uint32_t p, uint32_t radial_length, uint32_t *end,
                                       uint32_t *seen)
 {
-    uint32_t p = get32(body + 32 + 4 * k);
     if (p < *end || p > radial_length - MOMENT_HEADER)
         return 18;
     const uint8_t *m = body + p;
@@ -338,17 +337,16 @@ static inline uint32_t radial_refusal(const uint8_t *body, size_t len, struct bl
     b->count = get16(body + 30);
     if (b->count < LEAST_BLOCKS || b->count > MOST_BLOCKS)
         return 17;
-    uint32_t end = RADIAL_HEADER, seen = 0, refusal;
-    for (uint32_t k = 0; k < b->count; k++) {
-        if (k < CONSTANTS)
-            refusal = constant_refusal(body, k, radial_length, &end);
-        else
-            refusal = moment_refusal(body, k, radial_length, &end, &seen);
-        if (refusal != 0)
-            return refusal;
+    uint32_t end = RADIAL_HEADER, seen = 0, refusal = 0;
+    for (uint32_t k = 0; k < CONSTANTS && refusal == 0; k++) {
         b->place[k] = get32(body + 32 + 4 * k);
+        refusal = constant_refusal(body, k, b->place[k], radial_length, &end);
     }
-    return 0;
+    for (uint32_t k = CONSTANTS; k < b->count && refusal == 0; k++) {
+        b->place[k] = get32(body + 32 + 4 * k);
+        refusal = moment_refusal(body, b->place[k], radial_length, &end, &seen);
+    }
+    return refusal;
 }
 
 plain_radial_answer plain_radial(const uint8_t *body, size_t len)
@@ -446,14 +444,26 @@ static inline float float_of(uint32_t bits)
     return f;
 }
 
+/* An answer is put together as it is returned, 64 bits and a float: member by member gcc goes through memory. */
+static inline plain_gate_answer gate_answer(uint64_t refusal, uint64_t kind, float value)
+{
+    struct {
+        uint64_t refusal_and_kind;
+        float value;
+    } parts = { refusal | kind << 32, value };
+    plain_gate_answer r;
+    memcpy(&r, &parts, sizeof r);
+    return r;
+}
+
 static inline plain_gate_answer value(uint32_t code, uint32_t scale, uint32_t offset)
 {
     /* Bits from 1 to below those of infinity are the finite floats above 0. */
     if (scale - 1 >= UINT32_C(0x7F7FFFFF) || (offset & UINT32_C(0x7F800000)) == UINT32_C(0x7F800000))
-        return (plain_gate_answer){ .refusal = 22 };
+        return gate_answer(22, 0, 0);
     if (code <= 1)
-        return (plain_gate_answer){ .kind = 1 + code };
-    return (plain_gate_answer){ .value = ((float)code - float_of(offset)) / float_of(scale) };
+        return gate_answer(0, 1 + code, 0);
+    return gate_answer(0, 0, ((float)code - float_of(offset)) / float_of(scale));
 }
 
 plain_gate_answer plain_value(uint16_t code, uint32_t scale, uint32_t offset)
@@ -466,10 +476,10 @@ plain_gate_answer plain_gate(const uint8_t *body, size_t len, uint32_t name, uin
     uint32_t place;
     uint32_t refusal = find_moment(body, len, name, &place);
     if (refusal != 0)
-        return (plain_gate_answer){ .refusal = refusal };
+        return gate_answer(refusal, 0, 0);
     const uint8_t *m = body + place;
     if (gate >= get16(m + 8))
-        return (plain_gate_answer){ .refusal = 21 };
+        return gate_answer(21, 0, 0);
     const uint8_t *gates = m + MOMENT_HEADER;
     uint32_t code = m[19] == 8 ? gates[gate] : get16(gates + 2 * gate);
     return value(code, get32(m + 20), get32(m + 24));
