@@ -10,7 +10,12 @@
 #define ANSWER(entry) JOINED(SIDE, JOIN(entry, answer))
 
 /* Whole functions, so that callgrind can count within each by its name. */
-#define TASK(name) static __attribute__((noipa)) uint64_t JOINED(SIDE, task_##name)(void)
+#ifdef __clang__
+#define WHOLE __attribute__((noinline))
+#else
+#define WHOLE __attribute__((noipa))
+#endif
+#define TASK(name) static WHOLE uint64_t JOINED(SIDE, task_##name)(void)
 
 static const uint8_t *message(size_t i)
 {

@@ -103,10 +103,10 @@ static uint32_t name_of(const char *word)
 static uint8_t *load(const char *path, size_t *len)
 {
     FILE *file = fopen(path, "rb");
-    uint8_t *bytes = NULL;
-    if (file == NULL || fseek(file, 0, SEEK_END) != 0)
+    if (file == NULL)
         return NULL;
-    long size = ftell(file);
+    uint8_t *bytes = NULL;
+    long size = fseek(file, 0, SEEK_END) == 0 ? ftell(file) : -1;
     rewind(file);
     if (size >= 0 && (bytes = malloc((size_t)size + 1)) != NULL)
         *len = fread(bytes, 1, (size_t)size, file);

@@ -57,7 +57,7 @@ enum { MOST_FIELDS = 16 };
 static struct {
     enum entry entry;
     uint64_t numbers[6];
-    const void *bytes; /* the input, or NULL where the entry has none */
+    const void *bytes; /* the input; only VALUE has none */
     size_t n;          /* in bytes */
     int halfwords;     /* the input is a list of them */
     const char *side;  /* who is asked, for a fault */
@@ -81,7 +81,7 @@ static void write_question(void)
     printf("%s", entries[now.entry].name);
     for (size_t i = 0; entries[now.entry].arguments[i] != 0; i++)
         printf(entries[now.entry].arguments[i] == 'x' ? " x%08" PRIx64 : " %" PRIu64, now.numbers[i]);
-    if (now.bytes != NULL)
+    if (now.entry != VALUE)
         write_input();
     printf("\n");
 }
@@ -203,7 +203,7 @@ static void settle(void)
     for (size_t i = 0; i < now.fields; i++)
         if (now.field[i].plain != now.field[i].ulm)
             fail("the answers differ");
-    if (now.bytes != NULL) {
+    if (now.entry != VALUE) {
         if (now.n != 0 && memcmp(input.at, now.bytes, now.n) != 0)
             fail("the input was changed");
         if (!taken_back(&input))

@@ -42,7 +42,7 @@ struct patch {
     uint64_t value;
 };
 
-enum { MOST_PATCHES = 4096 };
+enum { MOST_PATCHES = 16384 };
 
 static struct patch patches[MOST_PATCHES];
 static size_t patch_count;
@@ -319,23 +319,22 @@ static void ask_set(void)
     compare_set(message, message_size, set_room);
 }
 
-/* A set of N segments in the order given, each with `data` bytes or, where that is SIZE_MAX, with some by chance; the
- * places of the frames. */
-struct set {
-    size_t n, total;
-    size_t start[MOST_BYTES / 28];
-    size_t frames;
-};
+/* The set that is the message: its frames' places, its size and that of its data. */
+static struct {
+    size_t n, total, frames;
+    size_t start[128];
+} set;
 
-static void add_segment(struct set *s, const struct make_segment *m, size_t data)
+enum { BY_CHANCE = -1 };
+
+static void add_segment(const struct make_segment *m, int data)
 {
-    if (data == SIZE_MAX)
-        data = 2 * (one_in(8) ? pick(1201) : pick(8));
     uint8_t bytes[2400];
-    fill(&dice, bytes, data);
-    s->start[s->frames++] = s->n;
-    s->n += make_segment(message + s->n, m, bytes, data);
-    s->total += data;
+    size_t size = data == BY_CHANCE ? 2 * (one_in(8) ? pick(1201) : pick(8)) : (size_t)data;
+    fill(&dice, bytes, size);
+    set.start[set.frames++] = set.n;
+    set.n += make_segment(message + set.n, m, bytes, size);
+    set.total += size;
 }
 
 static void shuffle(uint32_t *order, size_t n)
@@ -348,9 +347,8 @@ static void shuffle(uint32_t *order, size_t n)
     }
 }
 
-static struct set set; /* large: kept apart from the stack */
-
-static void make_set(uint32_t segments, size_t data, int shuffled)
+/* A set of N segments, each with that many bytes of data, in order or shuffled. */
+static void make_set(uint32_t segments, int data, int shuffled)
 {
     struct make_segment m = any_segment();
     uint32_t order[128];
@@ -364,7 +362,7 @@ static void make_set(uint32_t segments, size_t data, int shuffled)
     for (uint32_t i = 0; i < segments; i++) {
         m.sequence = (uint32_t)pick(65536);
         m.number = order[i];
-        add_segment(&set, &m, data);
+        add_segment(&m, data);
     }
     message_size = set.n;
 }
@@ -406,7 +404,7 @@ static void set_edges(void)
     for (size_t room = 0; room <= 2; room++)
         compare_set(NULL, 0, room);
     for (uint32_t segments = 1; segments <= 3; segments++) {
-        make_set(segments, 2 * segments, 0);
+        make_set(segments, 2 * (int)segments, 0);
         memcpy(bytes, message, set.n);
         patches_of_set(3);
         for (set_room = set.total - 1; set_room <= set.total + 1; set_room++)
@@ -414,23 +412,29 @@ static void set_edges(void)
     }
 }
 
-/* The longest sets: 128 full segments in order, backward and shuffled; 128 empty ones; one of the longest radials. */
+/* 128 segments, the last one absent, and one patch among them at a time. */
+static void long_set_edges_at(int data, int shuffled)
+{
+    make_set(128, data, shuffled);
+    for (size_t room = set.total == 0 ? 0 : set.total - 1; room <= set.total + 1; room++)
+        compare_set(message, message_size, room);
+    compare_set(message, set.start[127], set.total);
+    patches_of_set(128);
+    for (unsigned left = 40; left > 0; left--) {
+        make_set(128, data, shuffled);
+        apply(&patches[pick(patch_count)]);
+        compare_set(message, message_size, set.total);
+    }
+}
+
+/* The longest sets: 128 segments, empty to full; one of the longest radial. */
 static void long_set_edges(void)
 {
-    static const size_t data[] = { 0, 2, 2400 };
-    for (size_t i = 0; i < COUNT(data); i++)
-        for (int shuffled = 0; shuffled <= 1; shuffled++) {
-            make_set(128, data[i], shuffled);
-            for (size_t room = set.total == 0 ? 0 : set.total - 1; room <= set.total + 1; room++)
-                compare_set(message, message_size, room);
-            compare_set(message, message_size - 28 - data[i], set.total); /* the last one absent */
-            patches_of_set(128);
-            for (unsigned k = 0; k < 40; k++) {
-                make_set(128, data[i], shuffled);
-                apply(&patches[pick(patch_count)]);
-                compare_set(message, message_size, set.total);
-            }
-        }
+    for (int shuffled = 0; shuffled <= 1; shuffled++) {
+        long_set_edges_at(0, shuffled);
+        long_set_edges_at(2, shuffled);
+        long_set_edges_at(2400, shuffled);
+    }
     struct make_segment s = { 1, 31, 2, 3, 4, 1, 1 };
     message_size = make_segment(message, &s, message + 28, 131052);
     for (size_t room = 131050; room <= 131054; room++)
@@ -463,7 +467,7 @@ static void disorder(void)
 static void set_by_chance(void)
 {
     uint32_t segments = 1 + (uint32_t)(one_in(40) ? pick(128) : pick(5));
-    make_set(segments, SIZE_MAX, 1);
+    make_set(segments, BY_CHANCE, 1);
     patches_of_set(6);
     size_t room = room_near(set.total);
     if (one_in(3))
@@ -554,7 +558,7 @@ static struct make_moment any_moment(uint32_t name)
 {
     struct make_moment m = { name, (uint32_t)pick(12), one_in(3) ? 16 : 8, usual_float(), usual_float() };
     if (one_in(24))
-        m.gates = 1841 - 1 - (uint32_t)pick(1841);
+        m.gates = (uint32_t)pick(1841);
     if (one_in(6))
         m.scale = one_in(2) ? ONE_OF(float_bits) : (uint32_t)chance(&dice);
     if (one_in(6))
