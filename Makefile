@@ -66,6 +66,13 @@ $(ARCHIVE):
 # ---- What is built
 
 HEADERS = $(wildcard include/*.h tests/*.h bench/*.h)
+LINKED = $(filter %.c %.o %.a, $^)
+
+# Which archive was linked: what is linked is linked anew where ARCHIVE names another one.
+build/obj/archive: FORCE
+	@mkdir -p $(@D)
+	@echo '$(abspath $(ARCHIVE))' | cmp -s - $@ || echo '$(abspath $(ARCHIVE))' > $@
+FORCE:
 
 build/obj/%.o: tests/%.c $(HEADERS)
 	@mkdir -p $(@D)
@@ -76,22 +83,22 @@ build/obj/plain.o: tests/plain.c $(HEADERS)
 	@mkdir -p $(@D)
 	$(CC) $(FLAGS) -O3 -ffp-contract=off -c $< -o $@
 
-build/layout: build/obj/layout.o build/obj/make.o $(ARCHIVE)
-	$(CC) $^ $(LINK) -o $@
+build/layout: build/obj/layout.o build/obj/make.o $(ARCHIVE) build/obj/archive
+	$(CC) $(LINKED) $(LINK) -o $@
 
-build/differential: $(addprefix build/obj/, differential.o compare.o lend.o make.o plain.o) $(ARCHIVE)
-	$(CC) $^ $(LINK) -o $@
+build/differential: $(addprefix build/obj/, differential.o compare.o lend.o make.o plain.o) $(ARCHIVE) build/obj/archive
+	$(CC) $(LINKED) $(LINK) -o $@
 
-build/loader: examples/loader.c include/ulm.h $(ARCHIVE)
-	$(CC) $(FLAGS) -O2 $< $(ARCHIVE) $(LINK) -o $@
+build/loader: examples/loader.c include/ulm.h $(ARCHIVE) build/obj/archive
+	$(CC) $(FLAGS) -O2 $(LINKED) $(LINK) -o $@
 
-build/cases-%: tests/cases.c build/obj/plain.o $(ARCHIVE) $(HEADERS)
-	$(CC) $(FLAGS) -O2 -DSIDE=$* $< build/obj/plain.o $(ARCHIVE) $(LINK) -o $@
+build/cases-%: tests/cases.c build/obj/plain.o $(ARCHIVE) build/obj/archive $(HEADERS)
+	$(CC) $(FLAGS) -O2 -DSIDE=$* $(LINKED) $(LINK) -o $@
 
 build/obj/batch-%.o: bench/batch.c $(HEADERS)
 	@mkdir -p $(@D)
 	$(CC) $(FLAGS) -Ibench -O3 -DSIDE=$* -c $< -o $@
 
 build/bench: bench/bench.c bench/sweep.c $(addprefix build/obj/, batch-plain.o batch-ulm.o make.o plain.o) $(ARCHIVE) \
-             $(HEADERS)
-	$(CC) $(FLAGS) -Ibench -O3 $(filter %.c %.o %.a, $^) $(LINK) -o $@
+             build/obj/archive $(HEADERS)
+	$(CC) $(FLAGS) -Ibench -O3 $(LINKED) $(LINK) -o $@
