@@ -1,0 +1,134 @@
+/* The tasks, compiled once for each SIDE: plain or ulm. The loops are the same, only the calls differ. */
+#include "make.h"
+#include "plain.h"
+#include "sweep.h"
+#include "ulm.h"
+
+#define JOIN(a, b) a##_##b
+#define JOINED(a, b) JOIN(a, b)
+#define ASK(entry) JOINED(SIDE, entry)
+#define ANSWER(entry) JOINED(SIDE, JOIN(entry, answer))
+
+/* Whole functions, so that callgrind can count within each by its name. */
+#ifdef __clang__
+#define WHOLE __attribute__((noinline))
+#else
+#define WHOLE __attribute__((noipa))
+#endif
+#define TASK(name) static WHOLE uint64_t JOINED(SIDE, task_##name)(void)
+
+static const uint8_t *message(size_t i)
+{
+    return sweep.recording + i * FRAME + 12;
+}
+
+static const uint8_t *body(size_t i)
+{
+    return sweep.recording + i * FRAME + 28;
+}
+
+TASK(frame_walk)
+{
+    uint64_t sum = 0;
+    for (ANSWER(frame) f = ASK(frame)(sweep.recording, sizeof sweep.recording, 0); f.found;
+         f = ASK(frame)(sweep.recording, sizeof sweep.recording, f.next))
+        sum += f.start;
+    return sum;
+}
+
+TASK(header)
+{
+    uint64_t sum = 0;
+    for (size_t i = 0; i < RADIALS; i++)
+        sum += ASK(header)(message(i), FRAME - 12).sequence;
+    return sum;
+}
+
+TASK(radial)
+{
+    uint64_t sum = 0;
+    for (size_t i = 0; i < RADIALS; i++)
+        sum += ASK(radial)(body(i), BODY).blocks;
+    return sum;
+}
+
+TASK(gates)
+{
+    uint64_t sum = 0;
+    for (size_t i = 0; i < RADIALS; i++)
+        for (size_t k = 0; k < 6; k++)
+            sum += ASK(gates)(body(i), BODY, make_names[k]).start;
+    return sum;
+}
+
+enum { ASKED_GATES = 16 };
+
+TASK(gate)
+{
+    float sum = 0;
+    for (size_t i = 0; i < RADIALS; i++)
+        for (size_t k = 0; k < ASKED_GATES; k++)
+            sum += ASK(gate)(body(i), BODY, make_names[k % 6], 70 * k).value;
+    return (uint64_t)(int64_t)sum;
+}
+
+/* Every gate of REF, walked where the gates lie. */
+TASK(value)
+{
+    float sum = 0;
+    for (size_t i = 0; i < RADIALS; i++) {
+        const uint8_t *gates = body(i) + 68 + 44 + 12 + 28 + 28;
+        for (size_t k = 0; k < 1832; k++)
+            sum += ASK(value)(gates[k], 0x40000000, 0x42840000).value;
+    }
+    return (uint64_t)(int64_t)sum;
+}
+
+TASK(set)
+{
+    return ASK(set)(sweep.set, sizeof sweep.set, sweep.out, sizeof sweep.out).length + sweep.out[LONG_BODY - 1];
+}
+
+TASK(write)
+{
+    return ASK(write)(8, 2, 7, 16000, 43200000, sweep.long_body, LONG_BODY, sweep.out, sizeof sweep.out).length
+           + sweep.out[LONG_BODY - 1];
+}
+
+TASK(write_radial)
+{
+    uint64_t sum = 0;
+    for (size_t i = 0; i < RADIALS; i++)
+        sum += ASK(write)(8, 31, (uint16_t)i, 16000, 43200000, body(i), BODY, sweep.out, sizeof sweep.out).length;
+    return sum;
+}
+
+TASK(map)
+{
+    return ASK(map)(sweep.map, sweep.map_size).elevations;
+}
+
+enum { QUERIES = 5 };
+
+TASK(map_code)
+{
+    uint64_t sum = 0;
+    for (uint64_t i = 0; i < QUERIES; i++)
+        sum += ASK(map_code)(sweep.map, sweep.map_size, 1 + i, 70 * i, 100 * i).code;
+    return sum;
+}
+
+const struct batch JOINED(SIDE, batches)[] = {
+    { "frame_walk", RADIALS + 1, JOINED(SIDE, task_frame_walk) },
+    { "header", RADIALS, JOINED(SIDE, task_header) },
+    { "radial", RADIALS, JOINED(SIDE, task_radial) },
+    { "gates", RADIALS * 6, JOINED(SIDE, task_gates) },
+    { "gate", RADIALS * ASKED_GATES, JOINED(SIDE, task_gate) },
+    { "value", RADIALS * 1832, JOINED(SIDE, task_value) },
+    { "set", 1, JOINED(SIDE, task_set) },
+    { "write", 1, JOINED(SIDE, task_write) },
+    { "write_radial", RADIALS, JOINED(SIDE, task_write_radial) },
+    { "map", 1, JOINED(SIDE, task_map) },
+    { "map_code", QUERIES, JOINED(SIDE, task_map_code) },
+    { NULL, 0, NULL },
+};

@@ -1,0 +1,208 @@
+//! Session frames, message headers, sets of segments, and messages written.
+
+use crate::{part, raw, Refusal};
+
+/// The kind of a session frame.
+#[derive(Clone, Copy, Debug, PartialEq, Eq, Hash)]
+#[repr(u32)]
+pub enum Kind {
+    /// 0
+    Login = 0,
+    /// 1
+    LoginAcknowledgement = 1,
+    /// 2
+    Data = 2,
+    /// 3
+    DataAcknowledgement = 3,
+    /// 4
+    KeepAlive = 4,
+}
+
+impl Kind {
+    fn of(number: u32) -> Kind {
+        match number {
+            0 => Kind::Login,
+            1 => Kind::LoginAcknowledgement,
+            2 => Kind::Data,
+            3 => Kind::DataAcknowledgement,
+            4 => Kind::KeepAlive,
+            _ => unreachable!("a frame of kind {number} is refused"),
+        }
+    }
+}
+
+/// A session frame in a buffer.
+#[derive(Clone, Copy, Debug, PartialEq, Eq)]
+pub struct Frame<'a> {
+    /// Its kind.
+    pub kind: Kind,
+    /// The second number, as stored.
+    pub second: u32,
+    /// Where the body begins in the buffer.
+    pub start: usize,
+    /// The body, where it lies.
+    pub body: &'a [u8],
+    /// The place after the frame.
+    pub next: usize,
+}
+
+/// Reads the session frame at a place of a buffer; `None` at its end, which is a place equal to the length.
+///
+/// The body isn't looked into. Refused as 1, 2, 3.
+///
+/// ```
+/// assert_eq!(ulm::frame(&[], 0), Ok(None));
+/// assert_eq!(ulm::frame(&[], 1), Err(ulm::Refusal::FRAME_CUT_OFF));
+/// ```
+pub fn frame(buffer: &[u8], place: usize) -> Result<Option<Frame<'_>>, Refusal> {
+    // SAFETY: the pointer and the length are a slice's.
+    let r = unsafe { raw::ulm_frame(buffer.as_ptr(), buffer.len(), place) };
+    Refusal::check(r.refusal)?;
+    if r.found == 0 {
+        return Ok(None);
+    }
+    Ok(Some(Frame {
+        kind: Kind::of(r.kind),
+        second: r.second,
+        start: r.start as usize,
+        body: part(buffer, r.start, r.size),
+        next: r.next as usize,
+    }))
+}
+
+/// The frames of a buffer from its start: each in turn, and a refusal as the last if there is one.
+pub fn frames(buffer: &[u8]) -> Frames<'_> {
+    Frames { buffer, place: Some(0) }
+}
+
+/// See [`frames`].
+#[derive(Clone, Debug)]
+pub struct Frames<'a> {
+    buffer: &'a [u8],
+    place: Option<usize>,
+}
+
+impl<'a> Iterator for Frames<'a> {
+    type Item = Result<Frame<'a>, Refusal>;
+
+    fn next(&mut self) -> Option<Self::Item> {
+        let read = frame(self.buffer, self.place?).transpose();
+        self.place = match &read {
+            Some(Ok(frame)) => Some(frame.next),
+            _ => None,
+        };
+        read
+    }
+}
+
+/// The header of a message segment.
+#[derive(Clone, Copy, Debug, PartialEq, Eq)]
+pub struct Header {
+    /// Size in halfwords of 2 bytes, with the 16 bytes of the header.
+    pub size: u32,
+    /// Channel, as stored.
+    pub channel: u8,
+    /// Type: 1 to 13, 15, 18 or 31.
+    pub message_type: u8,
+    /// Sequence number, as stored.
+    pub sequence: u16,
+    /// Date, 1 up.
+    pub date: u16,
+    /// Milliseconds of the day, at most 86,399,999.
+    pub ms: u32,
+    /// Number of segments N, 1 to 128.
+    pub segments: u16,
+    /// Segment number, 1 to N.
+    pub number: u16,
+}
+
+impl Header {
+    fn of(r: raw::HeaderAnswer) -> Result<Header, Refusal> {
+        Refusal::check(r.refusal)?;
+        Ok(Header {
+            size: r.size,
+            channel: r.channel as u8,
+            message_type: r.message_type as u8,
+            sequence: r.sequence as u16,
+            date: r.date as u16,
+            ms: r.ms,
+            segments: r.segments as u16,
+            number: r.number as u16,
+        })
+    }
+}
+
+/// Reads the header of a message segment: the first 16 bytes of a data frame's body, which is lent whole.
+///
+/// Refused as 4 to 8.
+pub fn header(message: &[u8]) -> Result<Header, Refusal> {
+    // SAFETY: the pointer and the length are a slice's.
+    Header::of(unsafe { raw::ulm_header(message.as_ptr(), message.len()) })
+}
+
+/// A set of segments joined.
+#[derive(Clone, Copy, Debug, PartialEq, Eq)]
+pub struct Set<'o> {
+    /// Segment 1's own header.
+    pub header: Header,
+    /// The data of segment 1, then 2, and so on, in the output that was lent.
+    pub body: &'o [u8],
+}
+
+/// Joins a set of segments, a buffer of frames and nothing else, in any order, into an output.
+///
+/// Refused as 1 to 13; output past the body stays as it was.
+pub fn set<'o>(buffer: &[u8], out: &'o mut [u8]) -> Result<Set<'o>, Refusal> {
+    // SAFETY: the pointers and the lengths are slices', and a `&mut` overlaps nothing.
+    let r = unsafe { raw::ulm_set(buffer.as_ptr(), buffer.len(), out.as_mut_ptr(), out.len()) };
+    let header = Header::of(r.header)?;
+    Ok(Set { header, body: &out[..r.length as usize] })
+}
+
+/// A message to write.
+#[derive(Clone, Copy, Debug, PartialEq, Eq)]
+pub struct Message<'a> {
+    /// Channel.
+    pub channel: u8,
+    /// Type: 1 to 13, 15, 18 or 31.
+    pub message_type: u8,
+    /// Sequence number.
+    pub sequence: u16,
+    /// Date, 1 up.
+    pub date: u16,
+    /// Milliseconds of the day, at most 86,399,999.
+    pub ms: u32,
+    /// The body: an even number of bytes, at most 307,200, or 131,052 for type 31.
+    pub body: &'a [u8],
+}
+
+/// Writes a message as data frames; gives the part of the output that was written.
+///
+/// A body is cut into data of 2,400 bytes each, but type 31 makes one frame always. Refused as 6, 8, 25, 26, 13.
+///
+/// ```
+/// let request = ulm::Message { channel: 0, message_type: 9, sequence: 5, date: 16_000, ms: 1_000, body: &[0, 129] };
+/// let mut out = [0; 30];
+/// let written = ulm::write(&request, &mut out)?;
+/// let mut body = [0; 2];
+/// assert_eq!(ulm::set(written, &mut body)?.body, request.body);
+/// # Ok::<(), ulm::Refusal>(())
+/// ```
+pub fn write<'o>(message: &Message<'_>, out: &'o mut [u8]) -> Result<&'o [u8], Refusal> {
+    // SAFETY: the pointers and the lengths are slices', and a `&mut` overlaps nothing.
+    let r = unsafe {
+        raw::ulm_write(
+            message.channel,
+            message.message_type,
+            message.sequence,
+            message.date,
+            message.ms,
+            message.body.as_ptr(),
+            message.body.len(),
+            out.as_mut_ptr(),
+            out.len(),
+        )
+    };
+    Refusal::check(r.refusal)?;
+    Ok(&out[..r.length as usize])
+}

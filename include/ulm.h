@@ -1,0 +1,364 @@
+/*
+ * libulm: RDA/RPG messages of the WSR-88D weather radar, read and written in memory that the caller lends.
+ *
+ * Every function is total: it takes any pointer with its length and any number, and gives one answer.
+ * A slice is a pointer and a length that counts its elements; with length 0 the pointer may be null.
+ * An input is never changed, and an output must not overlap an input.
+ *
+ * Every answer is a struct by value. Its first member is `refusal`: 0, or one of ULM_REFUSED_*.
+ * On a refusal every other member is 0 (but `next` of ulm_frame, see there) and no byte of an output has changed.
+ * An accepted call that writes fills its output from the start, reports the length and leaves the rest as it was.
+ * Where several refusals apply, the answer is the first of the order that stands with each function.
+ *
+ * Numbers in messages are big-endian. A halfword is 2 bytes. Floats inside messages are handed on by their 32 bits.
+ * Widths and order of members are the layout: a host in another language can declare the same structs.
+ */
+#ifndef ULM_H
+#define ULM_H
+
+#include <stddef.h>
+#include <stdint.h>
+
+#ifdef __cplusplus
+extern "C" {
+#endif
+
+/* Why a call was refused. */
+enum ulm_refusal {
+    ULM_REFUSED_FRAME_CUT_OFF = 1,    /* fewer than 12 bytes left, or frame body runs past the buffer */
+    ULM_REFUSED_SESSION_KIND = 2,     /* session kind above 4 */
+    ULM_REFUSED_SESSION_BODY = 3,     /* session body above 131,068 */
+    ULM_REFUSED_MESSAGE_SHORT = 4,    /* message under 16 bytes */
+    ULM_REFUSED_SIZE = 5,             /* size rule broken */
+    ULM_REFUSED_TYPE = 6,             /* type not permitted */
+    ULM_REFUSED_SEGMENT = 7,          /* a segment rule broken (N, number, 31, 1,208) */
+    ULM_REFUSED_DATE_OR_TIME = 8,     /* date or milliseconds out of range */
+    ULM_REFUSED_NOT_DATA = 9,         /* frame of a set isn't data */
+    ULM_REFUSED_DISAGREES = 10,       /* disagrees with the set's first frame */
+    ULM_REFUSED_ALREADY_SEEN = 11,    /* segment number already seen */
+    ULM_REFUSED_ABSENT = 12,          /* a number absent at the end; also the empty set */
+    ULM_REFUSED_OUTPUT_SMALL = 13,    /* output too small for the whole answer */
+    ULM_REFUSED_RADIAL_SHORT = 14,    /* radial body under 68 bytes */
+    ULM_REFUSED_COMPRESSION = 15,     /* compression byte not 0 */
+    ULM_REFUSED_RADIAL_LENGTH = 16,   /* radial length under 68 or above the body */
+    ULM_REFUSED_BLOCK_COUNT = 17,     /* block count not 4 to 9 */
+    ULM_REFUSED_POINTER = 18,         /* pointer too early, or fewer than 6 bytes (constant) or 28 (moment) left
+                                         within the radial length */
+    ULM_REFUSED_NAME = 19,            /* wrong, unknown or repeated name */
+    ULM_REFUSED_BLOCK = 20,           /* block length under its minimum, gates, word size, or block past the
+                                         radial length */
+    ULM_REFUSED_ASKED_FOR = 21,       /* moment, gate, elevation, azimuth or kilometre asked for doesn't exist */
+    ULM_REFUSED_SCALE_OR_OFFSET = 22, /* scale not finite or not above 0, or offset not finite */
+    ULM_REFUSED_LENGTH = 23,          /* body or list 8, 9, 15 too short or too long */
+    ULM_REFUSED_FIELD = 24,           /* field of 8, 9, 15 out of range */
+    ULM_REFUSED_ODD_BODY = 25,        /* body to write has an odd length */
+    ULM_REFUSED_LONG_BODY = 26        /* body to write above 307,200 bytes, or above 131,052 for type 31 */
+};
+
+/* Kinds of session frames. */
+enum ulm_session_kind {
+    ULM_LOGIN = 0,
+    ULM_LOGIN_ACKNOWLEDGEMENT = 1,
+    ULM_DATA = 2,
+    ULM_DATA_ACKNOWLEDGEMENT = 3,
+    ULM_KEEP_ALIVE = 4
+};
+
+/* Kinds of gate values. */
+enum ulm_gate_kind {
+    ULM_GATE_VALUE = 0,
+    ULM_GATE_BELOW_THRESHOLD = 1,
+    ULM_GATE_RANGE_FOLDED = 2
+};
+
+/* Names of blocks: their four bytes as one big-endian number. The constant blocks: */
+#define ULM_RVOL UINT32_C(0x52564F4C)
+#define ULM_RELV UINT32_C(0x52454C56)
+#define ULM_RRAD UINT32_C(0x52524144)
+/* The moments: */
+#define ULM_DREF UINT32_C(0x44524546)
+#define ULM_DVEL UINT32_C(0x4456454C)
+#define ULM_DSW UINT32_C(0x44535720) /* "DSW ", with a space */
+#define ULM_DZDR UINT32_C(0x445A4452)
+#define ULM_DPHI UINT32_C(0x44504849)
+#define ULM_DRHO UINT32_C(0x4452484F)
+
+/* ---- The session frame ---- */
+
+typedef struct ulm_frame_answer {
+    uint32_t refusal;
+    uint32_t found;  /* 1: a frame; 0: the end */
+    uint32_t kind;   /* one of ulm_session_kind */
+    uint32_t second; /* the second number, as stored */
+    uint64_t start;  /* where the frame's body begins in the buffer */
+    uint64_t size;   /* of the body, in bytes */
+    uint64_t next;   /* the place after the frame; at the end and on a refusal the place that was given */
+} ulm_frame_answer;
+
+/*
+ * Reads the session frame at a place of a buffer.
+ *
+ * A frame is 12 bytes (kind, a second number, body size in bytes, each 32 bits) and its body of at most 131,068 bytes.
+ * A place equal to the length answers the end; a place past it is refusal 1. The body isn't looked into.
+ * At the end and on a refusal `next` is the place that was given and the rest is 0.
+ *
+ * Refusals, in order: 1 (fewer than 12 bytes left), 2, 3, 1 (the body runs past the buffer).
+ */
+ulm_frame_answer ulm_frame(const uint8_t *buf, size_t len, size_t place);
+
+/* ---- The message header ---- */
+
+typedef struct ulm_header_answer {
+    uint32_t refusal;
+    uint32_t size;     /* in halfwords, with the 16 bytes of the header */
+    uint32_t channel;  /* as stored */
+    uint32_t type;     /* 1 to 13, 15, 18 or 31 */
+    uint32_t sequence; /* as stored */
+    uint32_t date;     /* 1 up */
+    uint32_t ms;       /* milliseconds of the day, at most 86,399,999 */
+    uint32_t segments; /* N, 1 to 128 */
+    uint32_t number;   /* of this segment, 1 to N */
+} ulm_header_answer;
+
+/*
+ * Reads the header of a message segment: the first 16 bytes of a data frame's body, which is lent whole.
+ *
+ * Size is 8 to 65,534, and the body is exactly twice that in bytes. Types permitted are 1 to 13, 15, 18 and 31.
+ * N is 1 to 128 and the segment number 1 to N. Type 31 has N = 1; for any other type the size is at most 1,208.
+ * Date is at least 1, milliseconds at most 86,399,999.
+ *
+ * Refusals, in order: 4, 5, 6, 7, 8.
+ */
+ulm_header_answer ulm_header(const uint8_t *msg, size_t len);
+
+/* ---- Segment sets ---- */
+
+typedef struct ulm_set_answer {
+    uint32_t refusal;
+    uint32_t size; /* this and the next seven: segment 1's own header, as ulm_header gives it */
+    uint32_t channel;
+    uint32_t type;
+    uint32_t sequence;
+    uint32_t date;
+    uint32_t ms;
+    uint32_t segments;
+    uint32_t number;
+    uint64_t length; /* of the joined data in the output, in bytes */
+} ulm_set_answer;
+
+/*
+ * Joins a set of segments: a buffer of frames and nothing else, in any order.
+ *
+ * All are data frames whose headers pass. They agree with the first in channel, type, date, milliseconds and N;
+ * sequence numbers aren't compared. Each of 1 to N appears once.
+ * The answer is segment 1's header and, in the output, the data of segment 1, then 2, and so on joined, with its
+ * length. At most 307,200 bytes are written (131,052 for type 31).
+ *
+ * Refusals, in order: for each frame in turn those of ulm_frame, 9, those of ulm_header, 10, 11; after all 12, 13.
+ */
+ulm_set_answer ulm_set(const uint8_t *buf, size_t len, uint8_t *out, size_t out_len);
+
+/* ---- Writing ---- */
+
+typedef struct ulm_written_answer {
+    uint32_t refusal;
+    uint64_t length; /* of what was written, in bytes */
+} ulm_written_answer;
+
+/*
+ * Writes a message as data frames, each with its session header and its message header.
+ *
+ * A body is cut into data of 2,400 bytes each, the last one shorter or full. An empty body makes one segment, and type
+ * 31 makes one frame always. The session's second number is 0; every segment repeats the given channel, type, sequence
+ * number, date and milliseconds; N is the number of segments, and frames are written in order from number 1 to N.
+ * The length is the body's and 28 more for each segment.
+ *
+ * Refusals, in order: 6, 8, 25, 26, 13.
+ */
+ulm_written_answer ulm_write(uint8_t channel, uint8_t type, uint16_t sequence, uint16_t date, uint32_t ms,
+                             const uint8_t *body, size_t len, uint8_t *out, size_t out_len);
+
+/* ---- The radial (message 31) ---- */
+
+typedef struct ulm_radial_answer {
+    uint32_t refusal;
+    uint32_t station;        /* the four bytes of its name */
+    uint32_t time;           /* collection time */
+    uint32_t date;
+    uint32_t azimuth_number;
+    uint32_t azimuth;        /* angle, the bits of a float */
+    uint32_t radial_length;  /* in bytes */
+    uint32_t spacing;        /* azimuth spacing */
+    uint32_t status;         /* radial status */
+    uint32_t elevation_number;
+    uint32_t sector;         /* cut sector */
+    uint32_t elevation;      /* angle, the bits of a float */
+    uint32_t blanking;       /* spot blanking */
+    uint32_t indexing;       /* indexing mode */
+    uint32_t blocks;         /* block count, 4 to 9 */
+} ulm_radial_answer;
+
+/*
+ * Checks a radial and hands on its header's values as stored. Together with ulm_block for 1 to `blocks` and the lent
+ * body this is the whole description of the radial.
+ *
+ * The body has at least 68 bytes, compression 0, a radial length of 68 up to the body's length and 4 to 9 blocks.
+ * The first block begins at 68 or later, each next one at or after the end of the one before, and all end within the
+ * radial length. The first three are RVOL, RELV, RRAD, with a length of at least 44, 12 and 20. Every later block is a
+ * moment, no name twice, with at most 1,840 gates of 8 or 16 bits.
+ *
+ * Refusals, in order: 14, 15, 16, 17, then for each block in pointer order 18, 19, 20.
+ */
+ulm_radial_answer ulm_radial(const uint8_t *body, size_t len);
+
+typedef struct ulm_block_answer {
+    uint32_t refusal;
+    uint32_t found;    /* 1: there is such a block; 0: the accepted radial has none, and the rest is 0 */
+    uint32_t name;
+    uint32_t reserved; /* this and the next nine: of a moment, as stored; 0 for the three constant blocks */
+    uint32_t gates;
+    uint32_t first;    /* first range */
+    uint32_t interval;
+    uint32_t overlay;  /* overlay threshold */
+    uint32_t noise;    /* noise threshold */
+    uint32_t flags;
+    uint32_t word;     /* word size in bits, 8 or 16 */
+    uint32_t scale;    /* the bits of a float */
+    uint32_t offset;   /* the bits of a float */
+    uint64_t start;    /* where the block begins in the body */
+    uint64_t size;     /* of the whole block, in bytes */
+} ulm_block_answer;
+
+/*
+ * Finds a block of a radial by its place among the pointers, counted from 1.
+ *
+ * Refusals: those of ulm_radial. A number that the accepted radial doesn't have is no refusal: `found` is 0.
+ */
+ulm_block_answer ulm_block(const uint8_t *body, size_t len, uint32_t block);
+
+typedef struct ulm_gates_answer {
+    uint32_t refusal;
+    uint32_t gates;    /* how many */
+    uint32_t word;     /* word size in bits, 8 or 16 */
+    uint32_t scale;    /* the bits of a float */
+    uint32_t offset;   /* the bits of a float */
+    uint32_t first;    /* first range */
+    uint32_t interval;
+    uint64_t start;    /* where the gates begin in the body */
+    uint64_t size;     /* of the gates alone, in bytes */
+} ulm_gates_answer;
+
+/*
+ * Finds the gates of a moment, by its name: the `size` bytes of the lent body from `start`, one word each, not copied.
+ * A word of 16 bits is big-endian. `scale` and `offset` are what ulm_value takes with a code.
+ *
+ * Refusals, in order: those of ulm_radial, 21. A moment with no gates is accepted with size 0.
+ */
+ulm_gates_answer ulm_gates(const uint8_t *body, size_t len, uint32_t name);
+
+typedef struct ulm_gate_answer {
+    uint32_t refusal;
+    uint32_t kind; /* one of ulm_gate_kind */
+    float value;   /* 0 where kind isn't ULM_GATE_VALUE */
+} ulm_gate_answer;
+
+/*
+ * Gives the value of one gate of a moment, by the moment's name and the gate's number counted from 0.
+ *
+ * Code 0 is below threshold, code 1 range folded. Any other code N, turned to a 32-bit float, gives
+ * (N - offset) / scale, one rounded subtraction and one rounded division.
+ *
+ * Refusals, in order: those of ulm_radial, 21, 22.
+ */
+ulm_gate_answer ulm_gate(const uint8_t *body, size_t len, uint32_t name, uint64_t gate);
+
+/*
+ * Gives the value of a code at a scale and an offset, given by their bits, as ulm_gate does: for a caller that walks
+ * the lent gates itself.
+ *
+ * Refusal: 22, for a scale that isn't finite or not above 0 or an offset that isn't finite, whatever the code.
+ */
+ulm_gate_answer ulm_value(uint16_t code, uint32_t scale, uint32_t offset);
+
+/* ---- Requests (message 9) ---- */
+
+typedef struct ulm_request_answer {
+    uint32_t refusal;
+    uint32_t code; /* 129, 130, 132, 136, 144 or 160 */
+} ulm_request_answer;
+
+/*
+ * Reads the body of a request: one halfword, 129, 130, 132, 136, 144 or 160.
+ *
+ * Refusals, in order: 23, 24.
+ */
+ulm_request_answer ulm_request(const uint8_t *body, size_t len);
+
+/*
+ * Writes the body of a request, 2 bytes, from a list of exactly one number.
+ *
+ * Refusals, in order: 23, 24, 13.
+ */
+ulm_written_answer ulm_write_request(const uint16_t *list, size_t n, uint8_t *out, size_t out_len);
+
+/* ---- Censor zones (message 8) ---- */
+
+typedef struct ulm_censor_answer {
+    uint32_t refusal;
+    uint32_t count;        /* of regions, 0 to 25 */
+    uint16_t regions[150]; /* six numbers each, as stored; 0 past the last region */
+} ulm_censor_answer;
+
+/*
+ * Reads the body of a censor zones message: region count n (0 to 25), then six halfwords each: start range and stop
+ * range 0-511, start azimuth and stop azimuth 0-360, elevation segment 1-5, code 0-2. The length is 2 + 12n.
+ * Start above stop is not refused.
+ *
+ * Refusals, in order: 23 (no count), 24 (the count), 23 (the length), 24 (the fields).
+ */
+ulm_censor_answer ulm_censor(const uint8_t *body, size_t len);
+
+/*
+ * Writes the body of a censor zones message from the same numbers as a list, the count first.
+ *
+ * Refusals, in order: those of ulm_censor, 13.
+ */
+ulm_written_answer ulm_write_censor(const uint16_t *list, size_t n, uint8_t *out, size_t out_len);
+
+/* ---- The filter map (message 15) ---- */
+
+typedef struct ulm_map_answer {
+    uint32_t refusal;
+    uint32_t date;       /* 1 up */
+    uint32_t minutes;    /* 0 to 1,440 */
+    uint32_t elevations; /* elevation segments, 1 to 5 */
+} ulm_map_answer;
+
+/*
+ * Checks the body of a filter map: date (1 up), minutes (0 to 1,440), elevation segments (1 to 5); for each of these
+ * 360 azimuths; for each a zone count 1 to 20, then pairs of code (0-2) and end range (0-511). Ends rise strictly and
+ * the last is 511.
+ *
+ * Refusals: the fields in byte order, 24 for one out of range and 23 for one that is cut off; leftovers 23 last.
+ */
+ulm_map_answer ulm_map(const uint8_t *body, size_t len);
+
+typedef struct ulm_map_code_answer {
+    uint32_t refusal;
+    uint32_t code; /* 0 to 2 */
+} ulm_map_code_answer;
+
+/*
+ * Gives the code of a filter map at an elevation segment (from 1), an azimuth (0-359) and a kilometre (0-511).
+ * Zone k covers whole kilometres after the previous end up to its own; the first from 0.
+ *
+ * Refusals, in order: those of ulm_map, 21.
+ */
+ulm_map_code_answer ulm_map_code(const uint8_t *body, size_t len, uint64_t elevation, uint64_t azimuth,
+                                 uint64_t kilometre);
+
+#ifdef __cplusplus
+}
+#endif
+
+#endif

@@ -1,0 +1,412 @@
+#define _POSIX_C_SOURCE 200809L
+#include "compare.h"
+
+#include <inttypes.h>
+#include <signal.h>
+#include <stdio.h>
+#include <stdlib.h>
+#include <string.h>
+#include <unistd.h>
+
+#include "lend.h"
+#include "make.h"
+#include "plain.h"
+#include "ulm.h"
+
+/* ---- The entries, and the refusals that each can give ---- */
+
+enum entry {
+    FRAME, HEADER, SET, WRITE, RADIAL, BLOCK, GATES, GATE, VALUE, REQUEST, WRITE_REQUEST, CENSOR, WRITE_CENSOR, MAP,
+    MAP_CODE, ENTRIES
+};
+
+enum { LAST_REFUSAL = 26 };
+
+#define FROM(a, b) ((UINT32_C(2) << (b)) - (UINT32_C(1) << (a))) /* a bit for each number a to b */
+#define ONLY(a) FROM(a, a)
+
+/* `arguments` is how a question is written, as in a file of cases: n a number, x four bytes; then the bytes, if any. */
+static const struct {
+    const char *name, *arguments;
+    uint32_t refusals;
+} entries[ENTRIES] = {
+    [FRAME] = { "frame", "n", FROM(1, 3) },
+    [HEADER] = { "header", "", FROM(4, 8) },
+    [SET] = { "set", "n", FROM(1, 13) },
+    [WRITE] = { "write", "nnnnnn", ONLY(6) | ONLY(8) | ONLY(13) | FROM(25, 26) },
+    [RADIAL] = { "radial", "", FROM(14, 20) },
+    [BLOCK] = { "block", "n", FROM(14, 20) },
+    [GATES] = { "gates", "x", FROM(14, 21) },
+    [GATE] = { "gate", "xn", FROM(14, 22) },
+    [VALUE] = { "value", "nxx", ONLY(22) },
+    [REQUEST] = { "request", "", FROM(23, 24) },
+    [WRITE_REQUEST] = { "write-request", "n", ONLY(13) | FROM(23, 24) },
+    [CENSOR] = { "censor", "", FROM(23, 24) },
+    [WRITE_CENSOR] = { "write-censor", "n", ONLY(13) | FROM(23, 24) },
+    [MAP] = { "map", "", FROM(23, 24) },
+    [MAP_CODE] = { "map-code", "nnn", ONLY(21) | FROM(23, 24) },
+};
+
+static uint64_t answers[ENTRIES][LAST_REFUSAL + 1];
+static uint64_t inputs, seed_of_run;
+
+/* ---- The question that is being asked ---- */
+
+enum { MOST_FIELDS = 16 };
+
+static struct {
+    enum entry entry;
+    uint64_t numbers[6];
+    const void *bytes; /* the input; only VALUE has none */
+    size_t n;          /* in bytes */
+    int halfwords;     /* the input is a list of them */
+    const char *side;  /* who is asked, for a fault */
+    size_t fields;
+    struct {
+        const char *name;
+        uint64_t plain, ulm;
+    } field[MOST_FIELDS];
+} now;
+
+static void write_input(void)
+{
+    const uint8_t *bytes = now.bytes;
+    printf(" x");
+    for (size_t i = 0; i < now.n; i++)
+        printf("%02x", bytes[now.halfwords ? i ^ 1 : i]); /* a halfword's high byte first */
+}
+
+static void write_question(void)
+{
+    printf("%s", entries[now.entry].name);
+    for (size_t i = 0; entries[now.entry].arguments[i] != 0; i++)
+        printf(entries[now.entry].arguments[i] == 'x' ? " x%08" PRIx64 : " %" PRIu64, now.numbers[i]);
+    if (now.entry != VALUE)
+        write_input();
+    printf("\n");
+}
+
+static void fail(const char *why)
+{
+    printf("seed %" PRIu64 ", input %" PRIu64 ": %s\n", seed_of_run, inputs + 1, why);
+    write_question();
+    for (size_t i = 0; i < now.fields; i++)
+        printf("%-17s plain %-20" PRIu64 " libulm %-20" PRIu64 "%s\n", now.field[i].name, now.field[i].plain,
+               now.field[i].ulm, now.field[i].plain == now.field[i].ulm ? "" : " differs");
+    fflush(stdout);
+    _exit(1);
+}
+
+static void fault(int signal)
+{
+    (void)signal;
+    printf("a fault in %s\n", now.side);
+    fail("memory was touched that was not lent, or the call didn't return");
+}
+
+/* ---- Lent memory ---- */
+
+static struct lent input, output;
+static struct chance ways;
+static int heap;
+
+/* What an output holds before the call, and what the plain implementation makes of it. */
+static uint8_t before[MOST_BYTES], expected[MOST_BYTES];
+
+void compare_open(uint64_t seed, int on_heap)
+{
+    struct sigaction action = { .sa_handler = fault };
+    sigaction(SIGSEGV, &action, NULL);
+    sigaction(SIGBUS, &action, NULL);
+    sigaction(SIGILL, &action, NULL);
+    sigaction(SIGFPE, &action, NULL);
+    lent_open(&input, MOST_BYTES);
+    lent_open(&output, MOST_BYTES);
+    seed_of_run = seed;
+    ways.state = ~seed;
+    heap = on_heap;
+    fill(&ways, before, sizeof before);
+}
+
+static enum way any_way(void)
+{
+    return heap ? ON_HEAP : (enum way)below(&ways, ON_HEAP);
+}
+
+static void ask(enum entry entry, const void *bytes, size_t n, uint64_t a, uint64_t b, uint64_t c)
+{
+    now.entry = entry;
+    now.bytes = bytes;
+    now.n = n;
+    now.halfwords = entry == WRITE_REQUEST || entry == WRITE_CENSOR;
+    now.numbers[0] = a;
+    now.numbers[1] = b;
+    now.numbers[2] = c;
+    now.fields = 0;
+    now.side = "the plain implementation";
+}
+
+static const uint8_t *lend_bytes(void)
+{
+    now.side = "libulm";
+    return lend(&input, now.bytes, now.n, any_way(), (unsigned)below(&ways, 64));
+}
+
+static const uint16_t *lend_list(void)
+{
+    now.side = "libulm";
+    unsigned odd = (unsigned)below(&ways, 64);
+    return (const uint16_t *)(void *)lend(&input, now.bytes, now.n, any_way(), now.n == 0 ? odd : odd & ~1u);
+}
+
+/* The output's contents before a call begin at any of 256 places, so that no byte is the same each time. */
+static const uint8_t *contents;
+
+static uint8_t *expect_output(size_t room)
+{
+    contents = before + below(&ways, 256 < sizeof before - room ? 256 : sizeof before - room + 1);
+    memcpy(expected, contents, room);
+    return room == 0 ? NULL : expected;
+}
+
+static uint8_t *lend_output(size_t room)
+{
+    return lend(&output, contents, room, any_way(), (unsigned)below(&ways, 64));
+}
+
+static void settle_output(uint32_t refusal, uint64_t length)
+{
+    size_t kept = refusal == 0 ? (size_t)length : 0;
+    if (kept > output.n || memcmp(output.at + kept, contents + kept, output.n - kept) != 0)
+        fail("output was changed on a refusal or past the reported length");
+    if (memcmp(output.at, expected, output.n) != 0)
+        fail("the output differs");
+    if (!taken_back(&output))
+        fail("memory beside the output was changed");
+}
+
+/* ---- Comparing ---- */
+
+static void same(const char *name, uint64_t plain, uint64_t ulm)
+{
+    now.field[now.fields].name = name;
+    now.field[now.fields].plain = plain;
+    now.field[now.fields].ulm = ulm;
+    now.fields++;
+}
+#define SAME(name) same(#name, p.name, u.name)
+#define SAME_EACH_HEADER                                                                                               \
+    SAME(size), SAME(channel), SAME(type), SAME(sequence), SAME(date), SAME(ms), SAME(segments), SAME(number)
+
+static void settle(void)
+{
+    for (size_t i = 0; i < now.fields; i++)
+        if (now.field[i].plain != now.field[i].ulm)
+            fail("the answers differ");
+    if (now.entry != VALUE) {
+        if (now.n != 0 && memcmp(input.at, now.bytes, now.n) != 0)
+            fail("the input was changed");
+        if (!taken_back(&input))
+            fail("memory beside the input was changed");
+    }
+    answers[now.entry][now.field[0].plain]++;
+    inputs++;
+}
+
+void compare_frame(const uint8_t *buf, size_t n, uint64_t place)
+{
+    ask(FRAME, buf, n, place, 0, 0);
+    plain_frame_answer p = plain_frame(buf, n, place);
+    ulm_frame_answer u = ulm_frame(lend_bytes(), n, place);
+    SAME(refusal), SAME(found), SAME(kind), SAME(second), SAME(start), SAME(size), SAME(next);
+    settle();
+}
+
+void compare_header(const uint8_t *msg, size_t n)
+{
+    ask(HEADER, msg, n, 0, 0, 0);
+    plain_header_answer p = plain_header(msg, n);
+    ulm_header_answer u = ulm_header(lend_bytes(), n);
+    SAME(refusal), SAME_EACH_HEADER;
+    settle();
+}
+
+void compare_set(const uint8_t *buf, size_t n, size_t room)
+{
+    ask(SET, buf, n, room, 0, 0);
+    plain_set_answer p = plain_set(buf, n, expect_output(room), room);
+    uint8_t *out = lend_output(room);
+    ulm_set_answer u = ulm_set(lend_bytes(), n, out, room);
+    SAME(refusal), SAME_EACH_HEADER, SAME(length);
+    settle_output(u.refusal, u.length);
+    settle();
+}
+
+void compare_write(uint8_t channel, uint8_t type, uint16_t sequence, uint16_t date, uint32_t ms, const uint8_t *body,
+                   size_t n, size_t room)
+{
+    ask(WRITE, body, n, channel, type, sequence);
+    now.numbers[3] = date;
+    now.numbers[4] = ms;
+    now.numbers[5] = room;
+    plain_written_answer p = plain_write(channel, type, sequence, date, ms, body, n, expect_output(room), room);
+    uint8_t *out = lend_output(room);
+    ulm_written_answer u = ulm_write(channel, type, sequence, date, ms, lend_bytes(), n, out, room);
+    SAME(refusal), SAME(length);
+    settle_output(u.refusal, u.length);
+    settle();
+}
+
+void compare_radial(const uint8_t *body, size_t n)
+{
+    ask(RADIAL, body, n, 0, 0, 0);
+    plain_radial_answer p = plain_radial(body, n);
+    ulm_radial_answer u = ulm_radial(lend_bytes(), n);
+    SAME(refusal), SAME(station), SAME(time), SAME(date), SAME(azimuth_number), SAME(azimuth), SAME(radial_length);
+    SAME(spacing), SAME(status), SAME(elevation_number), SAME(sector), SAME(elevation), SAME(blanking), SAME(indexing);
+    SAME(blocks);
+    settle();
+}
+
+void compare_block(const uint8_t *body, size_t n, uint32_t block)
+{
+    ask(BLOCK, body, n, block, 0, 0);
+    plain_block_answer p = plain_block(body, n, block);
+    ulm_block_answer u = ulm_block(lend_bytes(), n, block);
+    SAME(refusal), SAME(found), SAME(name), SAME(reserved), SAME(gates), SAME(first), SAME(interval), SAME(overlay);
+    SAME(noise), SAME(flags), SAME(word), SAME(scale), SAME(offset), SAME(start), SAME(size);
+    settle();
+}
+
+void compare_gates(const uint8_t *body, size_t n, uint32_t name)
+{
+    ask(GATES, body, n, name, 0, 0);
+    plain_gates_answer p = plain_gates(body, n, name);
+    ulm_gates_answer u = ulm_gates(lend_bytes(), n, name);
+    SAME(refusal), SAME(gates), SAME(word), SAME(scale), SAME(offset), SAME(first), SAME(interval), SAME(start);
+    SAME(size);
+    settle();
+}
+
+static uint64_t bits(float f)
+{
+    uint32_t x;
+    memcpy(&x, &f, sizeof x);
+    return x;
+}
+
+static void same_gate(plain_gate_answer p, ulm_gate_answer u)
+{
+    SAME(refusal), SAME(kind), same("value (bits)", bits(p.value), bits(u.value));
+    settle();
+}
+
+void compare_gate(const uint8_t *body, size_t n, uint32_t name, uint64_t gate)
+{
+    ask(GATE, body, n, name, gate, 0);
+    plain_gate_answer p = plain_gate(body, n, name, gate);
+    same_gate(p, ulm_gate(lend_bytes(), n, name, gate));
+}
+
+void compare_value(uint16_t code, uint32_t scale, uint32_t offset)
+{
+    ask(VALUE, NULL, 0, code, scale, offset);
+    plain_gate_answer p = plain_value(code, scale, offset);
+    now.side = "libulm";
+    same_gate(p, ulm_value(code, scale, offset));
+}
+
+void compare_request(const uint8_t *body, size_t n)
+{
+    ask(REQUEST, body, n, 0, 0, 0);
+    plain_request_answer p = plain_request(body, n);
+    ulm_request_answer u = ulm_request(lend_bytes(), n);
+    SAME(refusal), SAME(code);
+    settle();
+}
+
+static void same_list_written(plain_written_answer p, ulm_written_answer u)
+{
+    SAME(refusal), SAME(length);
+    settle_output(u.refusal, u.length);
+    settle();
+}
+
+void compare_write_request(const uint16_t *list, size_t n, size_t room)
+{
+    ask(WRITE_REQUEST, list, 2 * n, room, 0, 0);
+    plain_written_answer p = plain_write_request(list, n, expect_output(room), room);
+    uint8_t *out = lend_output(room);
+    same_list_written(p, ulm_write_request(lend_list(), n, out, room));
+}
+
+void compare_censor(const uint8_t *body, size_t n)
+{
+    ask(CENSOR, body, n, 0, 0, 0);
+    plain_censor_answer p = plain_censor(body, n);
+    ulm_censor_answer u = ulm_censor(lend_bytes(), n);
+    SAME(refusal), SAME(count);
+    for (size_t i = 0; i < 150; i++)
+        if (p.regions[i] != u.regions[i]) {
+            same("regions from 0, at", i, i);
+            same("regions", p.regions[i], u.regions[i]);
+            break;
+        }
+    settle();
+}
+
+void compare_write_censor(const uint16_t *list, size_t n, size_t room)
+{
+    ask(WRITE_CENSOR, list, 2 * n, room, 0, 0);
+    plain_written_answer p = plain_write_censor(list, n, expect_output(room), room);
+    uint8_t *out = lend_output(room);
+    same_list_written(p, ulm_write_censor(lend_list(), n, out, room));
+}
+
+void compare_map(const uint8_t *body, size_t n)
+{
+    ask(MAP, body, n, 0, 0, 0);
+    plain_map_answer p = plain_map(body, n);
+    ulm_map_answer u = ulm_map(lend_bytes(), n);
+    SAME(refusal), SAME(date), SAME(minutes), SAME(elevations);
+    settle();
+}
+
+void compare_map_code(const uint8_t *body, size_t n, uint64_t elevation, uint64_t azimuth, uint64_t kilometre)
+{
+    ask(MAP_CODE, body, n, elevation, azimuth, kilometre);
+    plain_map_code_answer p = plain_map_code(body, n, elevation, azimuth, kilometre);
+    ulm_map_code_answer u = ulm_map_code(lend_bytes(), n, elevation, azimuth, kilometre);
+    SAME(refusal), SAME(code);
+    settle();
+}
+
+/* ---- What was reached ---- */
+
+uint64_t compared(void)
+{
+    return inputs;
+}
+
+void write_answers(void)
+{
+    for (size_t i = 0; i < ENTRIES; i++) {
+        printf("%-14s accepted %-8" PRIu64, entries[i].name, answers[i][0]);
+        for (unsigned k = 1; k <= LAST_REFUSAL; k++)
+            if (answers[i][k] != 0)
+                printf(" %u: %" PRIu64, k, answers[i][k]);
+        printf("\n");
+    }
+}
+
+unsigned not_reached(void)
+{
+    unsigned missing = 0;
+    for (size_t i = 0; i < ENTRIES; i++)
+        for (unsigned k = 0; k <= LAST_REFUSAL; k++)
+            if ((k == 0 || (entries[i].refusals >> k & 1) != 0) && answers[i][k] == 0) {
+                printf("%s never gave %u\n", entries[i].name, k);
+                missing++;
+            }
+    return missing;
+}

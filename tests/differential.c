@@ -1,0 +1,1142 @@
+/*
+ * Asks libulm and the plain implementation the same questions and compares every member of every answer and every
+ * lent byte. First the edges, the same in each run: each field of each message at both sides of each limit, alone and in
+ * pairs, and arguments at their types' ends. Then chance from a seed: valid messages, and damaged ones.
+ *
+ *     differential [inputs N | seconds S] [seed X] [heap] [answers]
+ *
+ * N inputs by chance, or S seconds in all (the edges are always asked); by default 500,000 inputs, from seed 1.
+ * `heap` lends each slice as a heap block of its own, for valgrind; `answers` writes how often each entry gave each answer.
+ */
+#include <inttypes.h>
+#include <stdio.h>
+#include <stdlib.h>
+#include <string.h>
+#include <time.h>
+
+#include "compare.h"
+#include "make.h"
+
+#define COUNT(a) (sizeof(a) / sizeof *(a))
+
+static struct chance dice;
+
+static uint64_t pick(uint64_t n)
+{
+    return below(&dice, n);
+}
+
+static int one_in(uint64_t n)
+{
+    return pick(n) == 0;
+}
+
+#define ONE_OF(list) ((list)[pick(COUNT(list))])
+
+/* ---- Patches: what is changed in a message ---- */
+
+/* A number put at a place, or, with width 0, another length. */
+struct patch {
+    size_t at;
+    unsigned wide;
+    uint64_t value;
+};
+
+enum { MOST_PATCHES = 16384 };
+
+static struct patch patches[MOST_PATCHES];
+static size_t patch_count;
+
+static void patch(size_t at, unsigned wide, uint64_t value)
+{
+    if (patch_count < MOST_PATCHES)
+        patches[patch_count++] = (struct patch){ at, wide, value };
+}
+
+/* The limit of a field and its neighbours. */
+static void limit(size_t at, unsigned wide, uint64_t value)
+{
+    patch(at, wide, value - 1);
+    patch(at, wide, value);
+    patch(at, wide, value + 1);
+}
+
+static void all_ones(size_t at, unsigned wide)
+{
+    patch(at, wide, UINT64_MAX);
+}
+
+static void cut(size_t length)
+{
+    patch(0, 0, length);
+}
+
+/* The message that is asked, changed in place. */
+static uint8_t message[MOST_BYTES];
+static size_t message_size;
+
+static void apply(const struct patch *p)
+{
+    if (p->wide == 0) {
+        if (p->value > MOST_BYTES)
+            return;
+        for (size_t i = message_size; i < p->value; i++)
+            message[i] = (uint8_t)i;
+        message_size = p->value;
+    } else if (p->at <= message_size && p->wide <= message_size - p->at) {
+        put(message + p->at, p->wide, p->value);
+    }
+}
+
+static void start_from(const uint8_t *bytes, size_t n)
+{
+    memcpy(message, bytes, n);
+    message_size = n;
+}
+
+static void ask_patched(const uint8_t *bytes, size_t n, size_t i, size_t k, void (*ask)(void))
+{
+    start_from(bytes, n);
+    apply(&patches[i]);
+    apply(&patches[k]);
+    ask();
+}
+
+/* Asks of the message unchanged, of every patch alone, and of every pair, or of some by chance where they are many. */
+static void each_patch(const uint8_t *bytes, size_t n, size_t most_pairs, void (*ask)(void))
+{
+    size_t count = patch_count;
+    start_from(bytes, n);
+    ask();
+    for (size_t i = 0; i < count; i++)
+        ask_patched(bytes, n, i, i, ask);
+    if (count * count <= most_pairs)
+        for (size_t i = 0; i < count * count; i++)
+            ask_patched(bytes, n, i / count, i % count, ask);
+    else
+        for (size_t left = most_pairs; left > 0; left--)
+            ask_patched(bytes, n, pick(count), pick(count), ask);
+}
+
+/* Damages the message by chance: patches, and bytes anywhere. */
+static void damage(void)
+{
+    if (one_in(3))
+        return;
+    for (uint64_t left = 1 + pick(3); left > 0 && patch_count > 0; left--)
+        apply(&patches[pick(patch_count)]);
+    if (one_in(8) && message_size > 0)
+        for (uint64_t left = 1 + pick(4); left > 0; left--)
+            message[pick(message_size)] = (uint8_t)pick(256);
+    if (one_in(16))
+        message_size = pick(message_size + 1);
+}
+
+/* ---- Frames ---- */
+
+static const uint64_t far_places[] = { UINT64_MAX, UINT64_MAX - 1, UINT64_MAX - 11, UINT64_MAX - 12, UINT64_MAX / 2,
+                                       UINT64_MAX / 2 + 1, UINT32_MAX, UINT64_C(1) << 32 };
+
+static void patches_of_frame(size_t at, size_t body)
+{
+    for (uint64_t kind = 0; kind <= 6; kind++)
+        patch(at, 4, kind);
+    patch(at, 4, 256);
+    all_ones(at, 4);
+    all_ones(at + 4, 4);
+    limit(at + 8, 4, body);
+    limit(at + 8, 4, 131068);
+    all_ones(at + 8, 4);
+    patch(at + 8, 4, 0);
+    patch(at + 8, 4, UINT32_MAX - 11);
+}
+
+static void ask_frame_at_0(void)
+{
+    compare_frame(message, message_size, 0);
+}
+
+static void frame_edges(void)
+{
+    uint8_t body[40] = { 0 }, bytes[64];
+    size_t n = make_frame(bytes, 2, 7, body, 20);
+    for (size_t length = 0; length <= n; length++)
+        for (size_t place = 0; place <= length + 2; place++)
+            compare_frame(bytes, length, place);
+    for (size_t i = 0; i < COUNT(far_places); i++) {
+        compare_frame(bytes, n, far_places[i]);
+        compare_frame(NULL, 0, far_places[i]);
+    }
+    compare_frame(NULL, 0, 0);
+    patch_count = 0;
+    patches_of_frame(0, 20);
+    for (size_t length = 0; length <= n + 1; length++)
+        cut(length);
+    each_patch(bytes, n, SIZE_MAX, ask_frame_at_0);
+}
+
+/* The longest body, and one byte more and less of it and of the buffer. */
+static void long_frame_edges(void)
+{
+    static uint8_t bytes[131068 + 12 + 8];
+    fill(&dice, bytes, sizeof bytes);
+    put(bytes, 4, 2);
+    for (size_t size = 131066; size <= 131070; size++)
+        for (size_t length = size + 10; length <= size + 14; length++) {
+            put(bytes + 8, 4, size);
+            compare_frame(bytes, length < sizeof bytes ? length : sizeof bytes, 0);
+        }
+}
+
+static void frame_by_chance(void)
+{
+    size_t starts[5], count = 0, n = 0;
+    while (count < 1 + pick(4)) {
+        uint8_t body[96];
+        size_t size = pick(sizeof body);
+        fill(&dice, body, size);
+        starts[count++] = n;
+        n += make_frame(message + n, (uint32_t)pick(5), (uint32_t)chance(&dice), body, size);
+    }
+    starts[count] = n;
+    message_size = n;
+    size_t i = pick(count + 1), place = starts[i];
+    patch_count = 0;
+    if (i < count)
+        patches_of_frame(place, get(message + place + 8, 4));
+    damage();
+    if (one_in(16))
+        place = one_in(2) ? pick(n + 20) : ONE_OF(far_places);
+    compare_frame(message, message_size, place);
+}
+
+/* ---- Headers ---- */
+
+static const uint32_t types[] = { 0, 1, 2, 8, 9, 13, 14, 15, 16, 17, 18, 19, 30, 31, 32, 47, 63, 255 };
+static const uint32_t permitted[] = { 1, 2, 3, 4, 5, 6, 7, 8, 9, 10, 11, 12, 13, 15, 18, 31 };
+
+/* Patches of a message header at a place, in a message of that many bytes. */
+static void patches_of_header(size_t at, size_t bytes)
+{
+    limit(at, 2, bytes / 2);
+    limit(at, 2, 8);
+    limit(at, 2, 1208);
+    limit(at, 2, 65534);
+    patch(at, 2, bytes);
+    all_ones(at + 2, 1);
+    for (size_t i = 0; i < COUNT(types); i++)
+        patch(at + 3, 1, types[i]);
+    all_ones(at + 4, 2);
+    limit(at + 6, 2, 1);
+    all_ones(at + 6, 2);
+    limit(at + 8, 4, 86399999);
+    all_ones(at + 8, 4);
+    for (uint64_t n = 0; n <= 3; n++) {
+        patch(at + 12, 2, n);
+        patch(at + 14, 2, n);
+    }
+    limit(at + 12, 2, 128);
+    limit(at + 14, 2, 128);
+    patch(at + 12, 2, 256);
+    patch(at + 14, 2, 257);
+    all_ones(at + 12, 2);
+    all_ones(at + 14, 2);
+}
+
+static void ask_header(void)
+{
+    compare_header(message, message_size);
+}
+
+static struct make_segment any_segment(void)
+{
+    struct make_segment s = { .channel = (uint32_t)pick(256),
+                              .type = ONE_OF(permitted),
+                              .sequence = (uint32_t)pick(65536),
+                              .date = 1 + (uint32_t)pick(65535),
+                              .ms = (uint32_t)pick(86400000),
+                              .segments = 1 };
+    if (s.type != 31)
+        s.segments = one_in(4) ? 1 + (uint32_t)pick(128) : 1 + (uint32_t)pick(4);
+    s.number = 1 + (uint32_t)pick(s.segments);
+    return s;
+}
+
+static void header_edges_at(size_t data)
+{
+    static uint8_t bytes[131072 + 28];
+    struct make_segment s = { 3, 9, 5, 16000, 1000, 2, 2 };
+    size_t n = make_segment(bytes, &s, bytes + 28, data) - 12;
+    patch_count = 0;
+    patches_of_header(0, n);
+    for (size_t length = n < 18 ? 0 : n - 18; length <= n + 2; length++)
+        cut(length);
+    each_patch(bytes + 12, n, data > 100 ? 400 : SIZE_MAX, ask_header);
+}
+
+static void header_edges(void)
+{
+    static uint8_t bytes[12 + 2 * 65535];
+    header_edges_at(2);
+    header_edges_at(2400);
+    header_edges_at(2402);
+    compare_header(NULL, 0);
+    struct make_segment s = { 0, 0, 0, 1, 0, 1, 1 };
+    for (s.type = 0; s.type <= 255; s.type++)
+        compare_header(bytes + 12, make_segment(bytes, &s, NULL, 0) - 12);
+    /* The longest messages, with the length that fits. */
+    for (size_t size = 65530; size <= 65535; size++)
+        for (s.type = 30; s.type <= 32; s.type++) {
+            make_segment(bytes, &s, NULL, 0);
+            put(bytes + 12, 2, size);
+            compare_header(bytes + 12, 2 * size);
+        }
+}
+
+static void header_by_chance(void)
+{
+    struct make_segment s = any_segment();
+    size_t data = one_in(8) ? 2 * pick(s.type == 31 ? 2000 : 1202) : 2 * pick(20);
+    uint8_t bytes[28 + 4096];
+    fill(&dice, bytes, 28 + data);
+    size_t n = make_segment(bytes, &s, bytes + 28, data) - 12;
+    start_from(bytes + 12, n);
+    patch_count = 0;
+    patches_of_header(0, n);
+    cut(n - 1);
+    cut(n + 1);
+    cut(n + 2);
+    damage();
+    ask_header();
+}
+
+/* ---- Sets ---- */
+
+static size_t set_room; /* lent to a set's answer */
+
+static void ask_set(void)
+{
+    compare_set(message, message_size, set_room);
+}
+
+/* The set that is the message: its frames' places, its size and that of its data. */
+static struct {
+    size_t n, total, frames;
+    size_t start[128];
+} set;
+
+enum { BY_CHANCE = -1 };
+
+static void add_segment(const struct make_segment *m, int data)
+{
+    uint8_t bytes[2400];
+    size_t size = data == BY_CHANCE ? 2 * (one_in(8) ? pick(1201) : pick(8)) : (size_t)data;
+    fill(&dice, bytes, size);
+    set.start[set.frames++] = set.n;
+    set.n += make_segment(message + set.n, m, bytes, size);
+    set.total += size;
+}
+
+static void shuffle(uint32_t *order, size_t n)
+{
+    for (size_t i = n; i > 1; i--) {
+        size_t k = pick(i);
+        uint32_t kept = order[i - 1];
+        order[i - 1] = order[k];
+        order[k] = kept;
+    }
+}
+
+/* A set of N segments, each with that many bytes of data, in order or shuffled. */
+static void make_set(uint32_t segments, int data, int shuffled)
+{
+    struct make_segment m = any_segment();
+    uint32_t order[128];
+    m.type = segments > 1 && m.type == 31 ? 2 : m.type;
+    m.segments = segments;
+    for (uint32_t i = 0; i < segments; i++)
+        order[i] = i + 1;
+    if (shuffled)
+        shuffle(order, segments);
+    set.n = set.total = set.frames = 0;
+    for (uint32_t i = 0; i < segments; i++) {
+        m.sequence = (uint32_t)pick(65536);
+        m.number = order[i];
+        add_segment(&m, data);
+    }
+    message_size = set.n;
+}
+
+static void patches_of_set(size_t most_frames)
+{
+    patch_count = 0;
+    for (size_t i = 0; i < set.frames && i < most_frames; i++) {
+        size_t at = set.start[i], bytes = get(message + at + 8, 4);
+        patches_of_frame(at, bytes);
+        patches_of_header(at + 12, bytes);
+        for (unsigned k = 2; k <= 14; k++)
+            patch(at + 12 + k, 1, message[at + 12 + k] ^ 1);
+        cut(at);
+        cut(at + 11);
+        cut(at + 12);
+        cut(at + 27);
+    }
+    cut(set.n + 1);
+    cut(set.n + 12);
+    cut(set.n - 1);
+}
+
+/* Any room, most often one near what the joined data needs. */
+static size_t room_near(size_t needed)
+{
+    switch (pick(6)) {
+    case 0: return needed == 0 ? 0 : needed - 1;
+    case 1: return needed + pick(100);
+    case 2: return pick(needed + 1);
+    case 3: return one_in(4) ? 0 : needed;
+    default: return needed;
+    }
+}
+
+static void set_edges(void)
+{
+    static uint8_t bytes[MOST_BYTES];
+    for (size_t room = 0; room <= 2; room++)
+        compare_set(NULL, 0, room);
+    for (uint32_t segments = 1; segments <= 3; segments++) {
+        make_set(segments, 2 * (int)segments, 0);
+        memcpy(bytes, message, set.n);
+        patches_of_set(3);
+        for (set_room = set.total - 1; set_room <= set.total + 1; set_room++)
+            each_patch(bytes, set.n, 4000, ask_set);
+    }
+}
+
+/* 128 segments, the last one absent, and one patch among them at a time. */
+static void long_set_edges_at(int data, int shuffled)
+{
+    make_set(128, data, shuffled);
+    for (size_t room = set.total == 0 ? 0 : set.total - 1; room <= set.total + 1; room++)
+        compare_set(message, message_size, room);
+    compare_set(message, set.start[127], set.total);
+    patches_of_set(128);
+    for (unsigned left = 40; left > 0; left--) {
+        make_set(128, data, shuffled);
+        apply(&patches[pick(patch_count)]);
+        compare_set(message, message_size, set.total);
+    }
+}
+
+/* The longest sets: 128 segments, empty to full; one of the longest radial. */
+static void long_set_edges(void)
+{
+    for (int shuffled = 0; shuffled <= 1; shuffled++) {
+        long_set_edges_at(0, shuffled);
+        long_set_edges_at(2, shuffled);
+        long_set_edges_at(2400, shuffled);
+    }
+    struct make_segment s = { 1, 31, 2, 3, 4, 1, 1 };
+    message_size = make_segment(message, &s, message + 28, 131052);
+    for (size_t room = 131050; room <= 131054; room++)
+        compare_set(message, message_size, room);
+}
+
+/* Repeats, leaves out, swaps or mixes in a whole frame. */
+static void disorder(void)
+{
+    size_t i = pick(set.frames), k = pick(set.frames), at = set.start[i];
+    size_t size = 12 + get(message + at + 8, 4), other = 12 + get(message + set.start[k] + 8, 4);
+    switch (pick(4)) {
+    case 0:
+        memmove(message + message_size, message + set.start[k], other);
+        message_size += other;
+        break;
+    case 1:
+        memmove(message + at, message + at + size, message_size - at - size);
+        message_size -= size;
+        break;
+    case 2:
+        message_size += make_frame(message + message_size, (uint32_t)pick(5), 0, message + at, pick(30));
+        break;
+    default:
+        put(message + at + 26, 2, 1 + pick(set.frames + 1));
+        break;
+    }
+}
+
+static void set_by_chance(void)
+{
+    uint32_t segments = 1 + (uint32_t)(one_in(40) ? pick(128) : pick(5));
+    make_set(segments, BY_CHANCE, 1);
+    patches_of_set(6);
+    size_t room = room_near(set.total);
+    if (one_in(3))
+        disorder();
+    else
+        damage();
+    compare_set(message, message_size, room);
+}
+
+/* ---- Writing ---- */
+
+static const uint8_t *any_body(size_t n)
+{
+    static uint8_t bytes[MOST_BYTES];
+    static int filled;
+    if (!filled)
+        fill(&dice, bytes, sizeof bytes);
+    filled = 1;
+    return n == 0 ? NULL : bytes + pick(MOST_BYTES - n);
+}
+
+static size_t written(uint32_t type, size_t n)
+{
+    return n + 28 * (n == 0 || type == 31 ? 1 : (n + 2399) / 2400);
+}
+
+static void write_to_rooms(uint32_t type, uint32_t date, uint32_t ms, size_t n)
+{
+    size_t needed = written(type, n);
+    size_t rooms[] = { 0, 27, 28, needed - 1, needed, needed + 1, needed + 64 };
+    for (size_t i = 0; i < COUNT(rooms); i++)
+        compare_write((uint8_t)pick(256), (uint8_t)type, (uint16_t)pick(65536), (uint16_t)date, ms, any_body(n), n,
+                      rooms[i]);
+}
+
+static void write_edges(void)
+{
+    static const uint32_t dates[] = { 0, 1, 65535 }, times[] = { 0, 86399999, 86400000, UINT32_MAX };
+    static const size_t lengths[] = { 0, 1, 2, 3, 2398, 2399, 2400, 2401, 2402, 4800, 4802 };
+    static const size_t long_ones[] = { 131050, 131051, 131052, 131053, 131054, 304798, 304800, 304802, 307198, 307199,
+                                        307200, 307201, 307202, 400000, 400001 };
+    for (size_t t = 0; t < COUNT(types); t++)
+        for (size_t d = 0; d < COUNT(dates); d++)
+            for (size_t m = 0; m < COUNT(times); m++)
+                write_to_rooms(types[t], dates[d], times[m], lengths[(t + d + m) % COUNT(lengths)]);
+    for (uint32_t type = 0; type <= 255; type++)
+        compare_write(1, (uint8_t)type, 65535, 1, 0, NULL, 0, 28);
+    for (size_t i = 0; i < COUNT(lengths); i++)
+        for (uint32_t type = 30; type <= 32; type++)
+            write_to_rooms(type == 30 ? 2 : type, 16000, 1000, lengths[i]);
+    for (size_t i = 0; i < COUNT(long_ones); i++)
+        for (uint32_t type = 31; type <= 33; type++)
+            write_to_rooms(type == 33 ? 2 : type, one_in(8) ? 0 : 7, 9, long_ones[i]);
+}
+
+static void write_by_chance(void)
+{
+    uint32_t type = one_in(8) ? (uint32_t)pick(256) : ONE_OF(permitted);
+    uint32_t date = one_in(12) ? 0 : (uint32_t)pick(65536);
+    uint32_t ms = (uint32_t)(one_in(12) ? 86399990 + pick(20) : one_in(12) ? chance(&dice) : pick(86400000));
+    size_t n = one_in(60) ? pick(320000) : one_in(6) ? pick(6000) : pick(60);
+    if (!one_in(12))
+        n &= ~(size_t)1;
+    compare_write((uint8_t)pick(256), (uint8_t)type, (uint16_t)pick(65536), (uint16_t)date, ms, any_body(n), n,
+                  room_near(written(type, n)));
+}
+
+/* ---- Radials ---- */
+
+static const uint32_t odd_names[] = { 0, UINT32_MAX, 0x52564F4C, 0x52454C56, 0x52524144, 0x44535700, 0x44434650,
+                                      0x64726566, 0x46455244, 0x00524546, 0x44524500, 0x52454620 };
+static const uint32_t float_bits[] = { 0,          1,          0x007FFFFF, 0x00800000, 0x3F800000, 0x40000000,
+                                       0x42840000, 0x7F7FFFFF, 0x7F800000, 0x7F800001, 0x7FC00000, 0x7FFFFFFF,
+                                       0x80000000, 0x80000001, 0xBF800000, 0xC2720000, 0xFF7FFFFF, 0xFF800000,
+                                       0xFF800001, 0xFFFFFFFF, 0x43960000, 0x40358106, 0x47800000, 0x00000002 };
+static const uint64_t far_gates[] = { UINT64_MAX, UINT64_MAX / 2, UINT64_MAX / 2 + 1, UINT32_MAX, UINT64_C(1) << 32,
+                                      65535, 65536, 1840, 1841 };
+
+/* A finite scale above 0 and a finite offset, as they are met. */
+static uint32_t usual_float(void)
+{
+    static const uint32_t usual[] = { 0x40000000, 0x42840000, 0x3F800000, 0x43010000, 0x41800000, 0x43000000,
+                                      0x40358106, 0x43960000 };
+    return ONE_OF(usual);
+}
+
+static struct make_moment any_moment(uint32_t name)
+{
+    struct make_moment m = { name, (uint32_t)pick(12), one_in(3) ? 16 : 8, usual_float(), usual_float() };
+    if (one_in(24))
+        m.gates = (uint32_t)pick(1841);
+    if (one_in(6))
+        m.scale = one_in(2) ? ONE_OF(float_bits) : (uint32_t)chance(&dice);
+    if (one_in(6))
+        m.offset = one_in(2) ? ONE_OF(float_bits) : (uint32_t)chance(&dice);
+    return m;
+}
+
+static struct make_radial any_radial(void)
+{
+    struct make_radial r = { .constant = { 44, 12, 20 }, .moments = 1 + (uint32_t)pick(6) };
+    uint32_t order[6];
+    memcpy(order, make_names, sizeof order);
+    shuffle(order, 6);
+    for (unsigned k = 0; k < r.moments; k++)
+        r.moment[k] = any_moment(order[k]);
+    for (unsigned k = 0; k < 3; k++)
+        if (one_in(4))
+            r.constant[k] += (uint32_t)pick(12);
+    for (unsigned k = 0; k < 9; k++)
+        if (one_in(6))
+            r.gap[k] = (uint32_t)pick(6);
+    r.tail = one_in(4) ? (uint32_t)pick(40) : 0;
+    return r;
+}
+
+static void patches_of_constant(unsigned k, size_t at, size_t end)
+{
+    static const uint32_t least[] = { 44, 12, 20 };
+    patch(at, 4, make_names[k]);
+    patch(at, 4, 0x52564F4C);
+    patch(at, 4, 0x52454C56);
+    patch(at, 4, 0x52524144);
+    patch(at + 3, 1, 0);
+    limit(at + 4, 2, least[k]);
+    limit(at + 4, 2, get(message + at + 4, 2));
+    limit(at + 4, 2, end - at);
+    patch(at + 4, 2, 0);
+    all_ones(at + 4, 2);
+}
+
+static void patches_of_moment(size_t at, size_t end)
+{
+    for (size_t i = 0; i < COUNT(make_names); i++)
+        patch(at, 4, make_names[i]);
+    patch(at, 4, ONE_OF(odd_names));
+    limit(at + 8, 2, get(message + at + 8, 2));
+    limit(at + 8, 2, 1840);
+    limit(at + 8, 2, end - at - 28);
+    limit(at + 8, 2, (end - at - 28) / 2);
+    patch(at + 8, 2, 0);
+    all_ones(at + 8, 2);
+    limit(at + 19, 1, 8);
+    limit(at + 19, 1, 16);
+    patch(at + 19, 1, 0);
+    patch(at + 19, 1, 24);
+    patch(at + 19, 1, 32);
+    patch(at + 20, 4, ONE_OF(float_bits));
+    patch(at + 24, 4, ONE_OF(float_bits));
+}
+
+/* A pointer at both sides of the earliest place and of the last one that leaves enough. */
+static void patches_of_pointer(unsigned k, size_t end_before, size_t length)
+{
+    limit(32 + 4 * k, 4, end_before);
+    limit(32 + 4 * k, 4, length - 6);
+    limit(32 + 4 * k, 4, length - 28);
+    limit(32 + 4 * k, 4, length);
+    limit(32 + 4 * k, 4, 68);
+    patch(32 + 4 * k, 4, 0);
+    patch(32 + 4 * k, 4, get(message + 32, 4));
+    patch(32 + 4 * k, 4, get(message + 32 + 4 * k, 4) + 16);
+    patch(32 + 4 * k, 4, UINT64_C(1) << 31);
+    for (uint64_t back = 1; back <= 28; back += 9)
+        patch(32 + 4 * k, 4, UINT32_MAX - back);
+    all_ones(32 + 4 * k, 4);
+}
+
+/* Patches of the radial that is the message now. */
+static void patches_of_radial(void)
+{
+    size_t length = get(message + 18, 2), count = get(message + 30, 2), end = 68;
+    patch_count = 0;
+    for (unsigned k = 0; k < count; k++) {
+        size_t at = get(message + 32 + 4 * k, 4);
+        patches_of_pointer(k, end, length);
+        if (k < 3)
+            patches_of_constant(k, at, length);
+        else
+            patches_of_moment(at, length);
+        end = at + (k < 3 ? get(message + at + 4, 2) : 28 + get(message + at + 8, 2) * message[at + 19] / 8);
+    }
+    patch(16, 1, 1);
+    all_ones(16, 1);
+    patch(17, 1, 255);
+    limit(18, 2, length);
+    limit(18, 2, 68);
+    limit(18, 2, message_size);
+    limit(18, 2, end);
+    patch(18, 2, 0);
+    all_ones(18, 2);
+    limit(30, 2, 4);
+    limit(30, 2, 9);
+    limit(30, 2, count);
+    patch(30, 2, 0);
+    patch(30, 2, 256 + count);
+    all_ones(30, 2);
+    limit(0, 0, 68);
+    limit(0, 0, length);
+    cut(0);
+    cut(15);
+    cut(message_size + 3);
+}
+
+/* Every question about the radial. */
+static void ask_of_radial(uint32_t block, uint32_t name, uint64_t gate)
+{
+    compare_radial(message, message_size);
+    compare_block(message, message_size, block);
+    compare_gates(message, message_size, name);
+    compare_gate(message, message_size, name, gate);
+}
+
+static void ask_radial(void)
+{
+    uint32_t name = one_in(8) ? ONE_OF(odd_names) : ONE_OF(make_names);
+    ask_of_radial(one_in(16) ? (uint32_t)chance(&dice) : (uint32_t)pick(11), name,
+                  one_in(12) ? ONE_OF(far_gates) : pick(8));
+}
+
+/* Every block, name and gate of one radial. */
+static void ask_all_of_radial(void)
+{
+    for (uint32_t block = 0; block <= 10; block++)
+        compare_block(message, message_size, block);
+    compare_block(message, message_size, UINT32_MAX);
+    for (size_t i = 0; i < COUNT(make_names) + COUNT(odd_names); i++) {
+        uint32_t name = i < COUNT(make_names) ? make_names[i] : odd_names[i - COUNT(make_names)];
+        compare_gates(message, message_size, name);
+        for (uint64_t gate = 0; gate < 20; gate++)
+            compare_gate(message, message_size, name, gate);
+        for (size_t k = 0; k < COUNT(far_gates); k++)
+            compare_gate(message, message_size, name, far_gates[k]);
+    }
+}
+
+/* Cases 9 to 11 of document 01 and around them: no gaps, no gates; the fewest and the most blocks. */
+static void radial_edges(void)
+{
+    static uint8_t bytes[MOST_BYTES];
+    for (uint32_t moments = 1; moments <= 6; moments++) {
+        struct make_radial r = { .constant = { 44, 12, 20 }, .moments = moments };
+        for (unsigned k = 0; k < moments; k++)
+            r.moment[k] = (struct make_moment){ make_names[k], 2 * k, k % 2 == 0 ? 8 : 16, 0x40000000, 0x42840000 };
+        r.tail = moments % 2;
+        size_t n = make_radial(bytes, &r, &dice);
+        start_from(bytes, n);
+        ask_all_of_radial();
+        patches_of_radial();
+        each_patch(bytes, n, moments == 1 || moments == 6 ? 8000 : 1000, ask_radial);
+    }
+    compare_radial(NULL, 0);
+    compare_block(NULL, 0, 1);
+    compare_gates(NULL, 0, make_names[0]);
+    compare_gate(NULL, 0, make_names[0], 0);
+}
+
+/* Six moments of as many gates as there can be, and of one more or less. */
+static void full_radial_edges(void)
+{
+    for (uint32_t gates = 1839; gates <= 1841; gates++)
+        for (uint32_t word = 8; word <= 16; word += 8) {
+            struct make_radial r = { .constant = { 44, 12, 28 }, .moments = 6, .tail = word };
+            for (unsigned k = 0; k < 6; k++)
+                r.moment[k] = (struct make_moment){ make_names[k], gates, word, 0x40000000, 0x42840000 };
+            message_size = make_radial(message, &r, &dice);
+            for (uint64_t gate = 1830; gate < 1850; gate++)
+                ask_of_radial((uint32_t)gate % 10, make_names[gate % 6], gate);
+        }
+}
+
+/* A constant block as long as it can be, and a radial length at its type's end. */
+static void long_radial_edges(void)
+{
+    for (uint32_t longer = 0; longer <= 2; longer++) {
+        struct make_radial r = { .constant = { 44, 12, 65535 - 68 - 44 - 12 - 28 - longer }, .moments = 1 };
+        r.moment[0] = (struct make_moment){ make_names[0], longer, 8, 0x40000000, 0 };
+        r.tail = 100000;
+        message_size = make_radial(message, &r, &dice);
+        for (uint32_t block = 1; block <= 4; block++)
+            ask_of_radial(block, make_names[0], block);
+    }
+}
+
+static void radial_by_chance(void)
+{
+    struct make_radial r = any_radial();
+    message_size = make_radial(message, &r, &dice);
+    patches_of_radial();
+    damage();
+    ask_radial();
+}
+
+/* ---- Gate values ---- */
+
+static void value_edges(void)
+{
+    static const uint16_t codes[] = { 0, 1, 2, 3, 65, 66, 67, 255, 256, 257, 1023, 32767, 32768, 65534, 65535 };
+    for (size_t c = 0; c < COUNT(codes); c++)
+        for (size_t s = 0; s < COUNT(float_bits); s++)
+            for (size_t o = 0; o < COUNT(float_bits); o++)
+                compare_value(codes[c], float_bits[s], float_bits[o]);
+    for (uint32_t code = 0; code <= 65535; code += code < 300 ? 1 : 37)
+        compare_value((uint16_t)code, 0x40358106, 0xC2720000);
+}
+
+static void value_by_chance(void)
+{
+    uint32_t scale = one_in(4) ? ONE_OF(float_bits) : (uint32_t)chance(&dice);
+    uint32_t offset = one_in(4) ? ONE_OF(float_bits) : (uint32_t)chance(&dice);
+    compare_value((uint16_t)(one_in(8) ? pick(4) : pick(65536)), one_in(3) ? scale & 0x7FFFFFFF : scale, offset);
+}
+
+/* ---- Requests ---- */
+
+static const uint16_t requests[] = { 129, 130, 132, 136, 144, 160 };
+
+static void request_edges(void)
+{
+    static const uint16_t near[] = { 0, 1, 128, 129, 131, 160, 161, 192, 33024, 65535 };
+    uint8_t bytes[8] = { 0 };
+    compare_request(NULL, 0);
+    compare_write_request(NULL, 0, 0);
+    for (uint32_t code = 0; code <= 65535; code += code < 300 ? 1 : 251) {
+        put(bytes, 2, code);
+        compare_request(bytes, 2);
+    }
+    for (size_t i = 0; i < COUNT(requests); i++)
+        for (size_t k = 0; k < COUNT(near); k++)
+            for (size_t n = 0; n <= 4; n++) {
+                uint16_t list[4] = { i % 2 == 0 ? requests[i] : near[k], near[k], requests[i], 0 };
+                put(bytes, 2, list[0]);
+                compare_request(bytes, n);
+                for (size_t room = 0; room <= 3; room++)
+                    compare_write_request(list, n, room);
+            }
+}
+
+static void request_by_chance(void)
+{
+    uint16_t list[8] = { 0 };
+    uint8_t bytes[16];
+    size_t n = one_in(4) ? pick(8) : 1;
+    for (size_t i = 0; i < 8; i++)
+        list[i] = one_in(3) ? (uint16_t)chance(&dice) : (uint16_t)(ONE_OF(requests) + (one_in(6) ? pick(3) : 0));
+    for (size_t i = 0; i < 8; i++)
+        put(bytes + 2 * i, 2, list[i]);
+    compare_request(bytes, one_in(4) ? pick(16) : 2);
+    compare_write_request(list, n, pick(5));
+}
+
+/* ---- Censor zones ---- */
+
+static size_t censor_room;
+
+/* Asks of the message as a body, and, where its length is even, as a list. */
+static void ask_censor(void)
+{
+    static uint16_t list[MOST_BYTES / 2];
+    compare_censor(message, message_size);
+    for (size_t i = 0; i < message_size / 2; i++)
+        list[i] = (uint16_t)get(message + 2 * i, 2);
+    compare_write_censor(list, message_size / 2, censor_room);
+}
+
+static size_t censor_body(uint32_t count)
+{
+    uint16_t list[1 + 6 * 32];
+    size_t n = make_censor(list, count, &dice);
+    for (size_t i = 0; i < n; i++)
+        put(message + 2 * i, 2, list[i]);
+    return message_size = 2 * n;
+}
+
+static void patches_of_censor(void)
+{
+    static const uint16_t limits[] = { 511, 511, 360, 360, 5, 2 };
+    size_t n = message_size, count = get(message, 2);
+    patch_count = 0;
+    limit(0, 2, count);
+    limit(0, 2, 25);
+    patch(0, 2, 0);
+    patch(0, 2, 256 + count);
+    all_ones(0, 2);
+    for (size_t i = 0; i < 6 * count; i += i < 6 || i >= 6 * count - 7 ? 1 : 7) {
+        limit(2 + 2 * i, 2, limits[i % 6]);
+        patch(2 + 2 * i, 2, 0);
+        all_ones(2 + 2 * i, 2);
+    }
+    cut(0);
+    limit(0, 0, 2);
+    limit(0, 0, n);
+    cut(n < 12 ? 0 : n - 12);
+    cut(n + 2);
+    cut(n + 12);
+}
+
+static void censor_edges(void)
+{
+    static const uint32_t counts[] = { 0, 1, 2, 24, 25, 26 };
+    static uint8_t bytes[1024];
+    compare_censor(NULL, 0);
+    for (size_t room = 0; room <= 2; room++)
+        compare_write_censor(NULL, 0, room);
+    for (size_t i = 0; i < COUNT(counts); i++) {
+        size_t n = censor_body(counts[i]);
+        memcpy(bytes, message, n);
+        patches_of_censor();
+        for (censor_room = n - 1; censor_room <= n + 1; censor_room++)
+            each_patch(bytes, n, 1000, ask_censor);
+    }
+}
+
+static void censor_by_chance(void)
+{
+    size_t n = censor_body((uint32_t)pick(one_in(4) ? 27 : 5));
+    censor_room = room_near(n);
+    patches_of_censor();
+    damage();
+    ask_censor();
+}
+
+/* ---- Filter maps ---- */
+
+static const uint64_t far_numbers[] = { UINT64_MAX,           UINT64_MAX - 359,     UINT64_MAX / 360,
+                                        UINT64_MAX / 360 + 2, UINT64_C(1) << 32,    (UINT64_C(1) << 32) + 1,
+                                        UINT64_C(1) << 63,    65536,                UINT32_MAX };
+
+static void ask_code(void)
+{
+    uint64_t elevation = one_in(20) ? ONE_OF(far_numbers) : pick(7);
+    uint64_t azimuth = one_in(20) ? ONE_OF(far_numbers) : one_in(10) ? 355 + pick(10) : pick(360);
+    uint64_t kilometre = one_in(20) ? ONE_OF(far_numbers) : one_in(4) ? 505 + pick(10) : pick(512);
+    compare_map_code(message, message_size, elevation, azimuth, kilometre);
+}
+
+static void ask_map(void)
+{
+    compare_map(message, message_size);
+    ask_code();
+}
+
+/* Patches of one azimuth, whose zone count stands at a place; the place of the next. */
+static size_t patches_of_azimuth(size_t at)
+{
+    size_t zones = get(message + at, 2);
+    limit(at, 2, zones);
+    limit(at, 2, 1);
+    limit(at, 2, 20);
+    all_ones(at, 2);
+    limit(0, 0, at);
+    limit(0, 0, at + 2);
+    for (size_t k = 0; k < zones; k++) {
+        size_t zone = at + 2 + 4 * k;
+        limit(zone, 2, 2);
+        all_ones(zone, 2);
+        limit(zone + 2, 2, get(message + zone + 2, 2));
+        limit(zone + 2, 2, 511);
+        patch(zone + 2, 2, 0);
+        patch(zone + 2, 2, k == 0 ? 0 : get(message + zone - 2, 2));
+        all_ones(zone + 2, 2);
+        limit(0, 0, zone + 2);
+        cut(zone + 4);
+    }
+    return at + 2 + 4 * zones;
+}
+
+/* Patches of the header, of some azimuths by chance, and of the end. */
+static void patches_of_map(uint64_t one_azimuth_in)
+{
+    patch_count = 0;
+    limit(0, 2, 1);
+    all_ones(0, 2);
+    limit(2, 2, 1440);
+    all_ones(2, 2);
+    limit(4, 2, get(message + 4, 2));
+    limit(4, 2, 5);
+    patch(4, 2, 0);
+    all_ones(4, 2);
+    for (size_t length = 0; length <= 8; length++)
+        cut(length);
+    size_t n = message_size, last = 0;
+    for (size_t at = 6; at < n;) {
+        last = at;
+        at = one_in(one_azimuth_in) ? patches_of_azimuth(at) : at + 2 + 4 * get(message + at, 2);
+    }
+    patches_of_azimuth(last);
+    limit(0, 0, n);
+    cut(n + 2);
+    cut(n + 6);
+}
+
+/* Every kilometre of some azimuths, and numbers at their types' ends. */
+static void ask_all_codes(uint64_t elevations)
+{
+    for (uint64_t kilometre = 0; kilometre <= 513; kilometre++)
+        compare_map_code(message, message_size, 1 + pick(elevations), pick(360), kilometre);
+    for (uint64_t elevation = 0; elevation <= 7; elevation++)
+        for (uint64_t azimuth = 357; azimuth <= 361; azimuth++)
+            compare_map_code(message, message_size, elevation, azimuth % 361, 500 + 3 * elevation);
+    for (size_t i = 0; i < COUNT(far_numbers); i++) {
+        compare_map_code(message, message_size, far_numbers[i], 0, 0);
+        compare_map_code(message, message_size, 1, far_numbers[i], 0);
+        compare_map_code(message, message_size, 1, 0, far_numbers[i]);
+        compare_map_code(message, message_size, far_numbers[i], far_numbers[i], far_numbers[i]);
+    }
+}
+
+/* The header and one azimuth, cut off at every byte, with each field in range and out of it. */
+static void short_map_edges(void)
+{
+    static const uint16_t dates[] = { 0, 1 }, minutes[] = { 0, 1440, 1441 }, elevations[] = { 0, 1, 5, 6 },
+                          zones[] = { 0, 1, 2, 20, 21 }, codes[] = { 0, 2, 3 }, ends[] = { 0, 510, 511, 512 };
+    size_t all = COUNT(dates) * COUNT(minutes) * COUNT(elevations) * COUNT(zones) * COUNT(codes) * COUNT(ends);
+    for (size_t i = 0; i < all; i++) {
+        size_t k = i;
+        put(message, 2, dates[k % COUNT(dates)]), k /= COUNT(dates);
+        put(message + 2, 2, minutes[k % COUNT(minutes)]), k /= COUNT(minutes);
+        put(message + 4, 2, elevations[k % COUNT(elevations)]), k /= COUNT(elevations);
+        put(message + 6, 2, zones[k % COUNT(zones)]), k /= COUNT(zones);
+        put(message + 8, 2, codes[k % COUNT(codes)]), k /= COUNT(codes);
+        put(message + 10, 2, ends[k]);
+        put(message + 12, 2, pick(4));
+        for (message_size = 0; message_size <= 14; message_size++)
+            ask_map();
+    }
+}
+
+static void map_edges(void)
+{
+    static uint8_t bytes[147606];
+    static const uint32_t zones[] = { 1, 3, 20 };
+    compare_map(NULL, 0);
+    compare_map_code(NULL, 0, 1, 0, 0);
+    short_map_edges();
+    for (size_t i = 0; i < COUNT(zones); i++) {
+        size_t n = message_size = make_map(message, 1, zones[i], &dice);
+        memcpy(bytes, message, n);
+        ask_all_codes(1);
+        patches_of_map(120);
+        each_patch(bytes, n, 1500, ask_map);
+    }
+}
+
+/* Five elevations, and the longest map there is. */
+static void long_map_edges(void)
+{
+    struct chance twenty = { 0 };
+    message_size = make_map(message, 5, 4, &dice);
+    ask_all_codes(5);
+    put(message, 2, 65535);
+    put(message + 2, 2, 1440);
+    put(message + 4, 2, 5);
+    uint8_t azimuth[82];
+    put(azimuth, 2, 20);
+    for (size_t k = 0; k < 20; k++) {
+        put(azimuth + 2 + 4 * k, 2, below(&twenty, 3));
+        put(azimuth + 4 + 4 * k, 2, k == 19 ? 511 : 5 * k);
+    }
+    for (size_t i = 0; i < 1800; i++)
+        memcpy(message + 6 + 82 * i, azimuth, 82);
+    for (message_size = 147604; message_size <= 147608; message_size++)
+        ask_map();
+}
+
+static void map_by_chance(void)
+{
+    message_size = make_map(message, one_in(4) ? 1 + (uint32_t)pick(5) : 1, one_in(6) ? 20 : 1 + (uint32_t)pick(3), &dice);
+    patches_of_map(60);
+    damage();
+    ask_map();
+    ask_code();
+}
+
+/* ---- The run ---- */
+
+static void edges(void)
+{
+    frame_edges();
+    long_frame_edges();
+    header_edges();
+    set_edges();
+    long_set_edges();
+    write_edges();
+    radial_edges();
+    full_radial_edges();
+    long_radial_edges();
+    value_edges();
+    request_edges();
+    censor_edges();
+    map_edges();
+    long_map_edges();
+}
+
+/* Of sixteen steps. Radials are asked four questions each; maps are long and so are few. */
+static void step(void)
+{
+    switch (pick(16)) {
+    case 0: case 1: frame_by_chance(); break;
+    case 2: case 3: header_by_chance(); break;
+    case 4: case 5: set_by_chance(); break;
+    case 6: case 7: write_by_chance(); break;
+    case 8: value_by_chance(); break;
+    case 9: request_by_chance(); break;
+    case 10: case 11: censor_by_chance(); break;
+    case 12: map_by_chance(); break;
+    default: radial_by_chance(); break;
+    }
+}
+
+static double seconds_now(void)
+{
+    struct timespec t;
+    timespec_get(&t, TIME_UTC);
+    return (double)t.tv_sec + (double)t.tv_nsec / 1e9;
+}
+
+struct run {
+    uint64_t inputs, seconds, seed;
+    int heap, answers;
+};
+
+static uint64_t number_after(char **word)
+{
+    char *end = NULL;
+    uint64_t n = word[1] == NULL ? 0 : strtoull(word[1], &end, 0);
+    if (end == NULL || end == word[1] || *end != 0) {
+        fprintf(stderr, "a number is missing after %s\n", word[0]);
+        exit(2);
+    }
+    return n;
+}
+
+static struct run run_of(char **word)
+{
+    struct run r = { .inputs = 500000, .seed = 1 };
+    for (; *word != NULL; word++) {
+        if (strcmp(*word, "inputs") == 0)
+            r.inputs = number_after(word++);
+        else if (strcmp(*word, "seconds") == 0)
+            r.seconds = number_after(word++);
+        else if (strcmp(*word, "seed") == 0)
+            r.seed = number_after(word++);
+        else if (strcmp(*word, "heap") == 0)
+            r.heap = 1;
+        else if (strcmp(*word, "answers") == 0)
+            r.answers = 1;
+        else {
+            fprintf(stderr, "usage: differential [inputs N | seconds S] [seed X] [heap] [answers]\n");
+            exit(2);
+        }
+    }
+    return r;
+}
+
+int main(int count, char **arguments)
+{
+    (void)count;
+    struct run run = run_of(arguments + 1);
+    double until = seconds_now() + (double)run.seconds;
+    compare_open(run.seed, run.heap);
+    edges();
+    uint64_t asked = compared();
+    dice.state = run.seed;
+    while (run.seconds == 0 ? compared() - asked < run.inputs : seconds_now() < until)
+        step();
+    if (run.answers)
+        write_answers();
+    unsigned missing = not_reached();
+    printf("%" PRIu64 " inputs, 0 differences\n", compared());
+    return missing != 0;
+}
