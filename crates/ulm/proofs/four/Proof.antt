@@ -1,0 +1,28 @@
+use borrow.Author.Needs.{needs}
+use Rattle.ulm.proofs.four.Statement.{statement}
+use Rattle.ulm.proofs.four.Tie as tie
+use Rattle.ulm.proofs.four.Reads as reads
+use Rattle.ulm.proofs.four.Lts as lts
+
+-- src/lib.rt:349:6
+cast-t3 : tie.Need-cast-t3
+cast-t3 c = search needs
+
+-- src/lib.rt:349:31
+cast-t6 : tie.Need-cast-t6
+cast-t6 c = search needs
+
+-- src/lib.rt:349:59
+cast-t9 : tie.Need-cast-t9
+cast-t9 c = search needs
+
+-- src/lib.rt:349:85
+cast-t11 : tie.Need-cast-t11
+cast-t11 c = search needs
+
+-- src/lib.rt:346:1
+returns : tie.Need-returns
+returns c = ?
+
+pub four-spec : {M : Type 1} → statement M
+four-spec = tie.close (tie.spec cast-t3 cast-t6 cast-t9 cast-t11 returns)

@@ -1,0 +1,79 @@
+use borrow.Author.Needs.{needs}
+use Rattle.ulm.proofs.ulm_block.Statement.{statement}
+use Rattle.ulm.proofs.ulm_block.Tie as tie
+use Rattle.ulm.proofs.ulm_block.Reads as reads
+use Rattle.ulm.proofs.ulm_block.Lts as lts
+use Rattle.lookup.proofs.block.Reads as block-reads
+use Rattle.ulm.proofs.constant_block.Reads as constant-block-reads
+use Rattle.ulm.proofs.moment_block.Reads as moment-block-reads
+use Rattle.ulm.proofs.no_block.Reads as no-block-reads
+
+-- src/lib.rt:337:11
+block-requires : tie.Need-block-requires
+block-requires c κs = search needs
+
+-- src/lib.rt:338:31
+enum-known-k : tie.Need-enum-known-k
+enum-known-k c = search needs
+
+-- src/lib.rt:338:37
+constant-block-requires : tie.Need-constant-block-requires
+constant-block-requires c κs = search needs
+
+-- src/lib.rt:339:29
+enum-known-k-2 : tie.Need-enum-known-k-2
+enum-known-k-2 c = search needs
+
+-- src/lib.rt:339:38
+moment-block-requires : tie.Need-moment-block-requires
+moment-block-requires c κs = search needs
+
+-- src/lib.rt:340:32
+enum-told : tie.Need-enum-told
+enum-told c = search needs
+
+-- src/lib.rt:340:32
+no-block-requires : tie.Need-no-block-requires
+no-block-requires c κs = search needs
+
+-- src/lib.rt:341:30
+enum-known-number : tie.Need-enum-known-number
+enum-known-number c = search needs
+
+-- src/lib.rt:341:41
+no-block-requires-2 : tie.Need-no-block-requires-2
+no-block-requires-2 c κs = search needs
+
+-- src/lib.rt:333:1
+returns : tie.Need-returns
+returns c = ?
+
+-- src/lib.rt:333:1
+returns-2 : tie.Need-returns-2
+returns-2 c = ?
+
+-- src/lib.rt:333:1
+returns-3 : tie.Need-returns-3
+returns-3 c = ?
+
+-- src/lib.rt:333:1
+returns-4 : tie.Need-returns-4
+returns-4 c = ?
+
+pub ulm-block-spec : {M : Type 1} → statement M
+ulm-block-spec =
+    tie.close
+    (tie.spec
+    block-requires
+    enum-known-k
+    constant-block-requires
+    enum-known-k-2
+    moment-block-requires
+    enum-told
+    no-block-requires
+    enum-known-number
+    no-block-requires-2
+    returns
+    returns-2
+    returns-3
+    returns-4)

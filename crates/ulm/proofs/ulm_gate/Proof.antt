@@ -1,0 +1,27 @@
+use borrow.Author.Needs.{needs}
+use Rattle.ulm.proofs.ulm_gate.Statement.{statement}
+use Rattle.ulm.proofs.ulm_gate.Tie as tie
+use Rattle.ulm.proofs.ulm_gate.Reads as reads
+use Rattle.ulm.proofs.ulm_gate.Lts as lts
+use Rattle.gate.proofs.gate_value.Reads as gate-value-reads
+use Rattle.ulm.proofs.four.Reads as four-reads
+use Rattle.ulm.proofs.gate_face.Reads as gate-face-reads
+
+-- src/lib.rt:386:38
+four-requires : tie.Need-four-requires
+four-requires c κs = search needs
+
+-- src/lib.rt:386:15
+gate-value-requires : tie.Need-gate-value-requires
+gate-value-requires c κs = search needs
+
+-- src/lib.rt:386:5
+gate-face-requires : tie.Need-gate-face-requires
+gate-face-requires c κs = search needs
+
+-- src/lib.rt:382:1
+returns : tie.Need-returns
+returns c = ?
+
+pub ulm-gate-spec : {M : Type 1} → statement M
+ulm-gate-spec = tie.close (tie.spec four-requires gate-value-requires gate-face-requires returns)

@@ -1,0 +1,76 @@
+use borrow.Author.Needs.{needs}
+use Rattle.ulm.proofs.ulm_radial.Statement.{statement}
+use Rattle.ulm.proofs.ulm_radial.Tie as tie
+use Rattle.ulm.proofs.ulm_radial.Reads as reads
+use Rattle.ulm.proofs.ulm_radial.Lts as lts
+use Rattle.radial.proofs.read_radial.Reads as read-radial-reads
+
+-- src/lib.rt:246:9
+read-radial-requires : tie.Need-read-radial-requires
+read-radial-requires c κs = search needs
+
+-- src/lib.rt:249:18
+cast-t4 : tie.Need-cast-t4
+cast-t4 c = search needs
+
+-- src/lib.rt:252:15
+cast-t5 : tie.Need-cast-t5
+cast-t5 c = search needs
+
+-- src/lib.rt:253:25
+cast-t6 : tie.Need-cast-t6
+cast-t6 c = search needs
+
+-- src/lib.rt:255:24
+cast-t7 : tie.Need-cast-t7
+cast-t7 c = search needs
+
+-- src/lib.rt:256:18
+cast-t8 : tie.Need-cast-t8
+cast-t8 c = search needs
+
+-- src/lib.rt:257:17
+cast-t9 : tie.Need-cast-t9
+cast-t9 c = search needs
+
+-- src/lib.rt:258:27
+cast-t10 : tie.Need-cast-t10
+cast-t10 c = search needs
+
+-- src/lib.rt:259:17
+cast-t11 : tie.Need-cast-t11
+cast-t11 c = ?
+
+-- src/lib.rt:261:19
+cast-t12 : tie.Need-cast-t12
+cast-t12 c = ?
+
+-- src/lib.rt:262:19
+cast-t13 : tie.Need-cast-t13
+cast-t13 c = ?
+
+-- src/lib.rt:263:17
+cast-t14 : tie.Need-cast-t14
+cast-t14 c = search needs
+
+-- src/lib.rt:242:1
+returns : tie.Need-returns
+returns c = ?
+
+pub ulm-radial-spec : {M : Type 1} → statement M
+ulm-radial-spec =
+    tie.close
+    (tie.spec
+    read-radial-requires
+    cast-t4
+    cast-t5
+    cast-t6
+    cast-t7
+    cast-t8
+    cast-t9
+    cast-t10
+    cast-t11
+    cast-t12
+    cast-t13
+    cast-t14
+    returns)
