@@ -37,9 +37,6 @@ numbers-spell w b p (suc n) = (refl, numbers-spell w b (p + w) n)
 body-spells : (list : List ℕ) → Halfwords list → Spells (bodyOf list) 0 (map (field 2) list)
 body-spells list h = spells (map (field 2) list) (bodyOf list) 0 (numbers-fit list h) (take-length (bodyOf list))
 
-body-numbers : (list : List ℕ) → Halfwords list → nums 2 (bodyOf list) 0 (length list) ≡ list
-body-numbers list h = spelt-numbers 2 (bodyOf list) 0 list (body-spells list h)
-
 -- a body of n halfwords is that of the list that it holds
 numbers-body : (body : List ℕ) (n : ℕ) → Octets body → length body ≡ 2 * n → bodyOf (nums 2 body 0 n) ≡ body
 numbers-body body n o h =
