@@ -1,3 +1,5 @@
+use Rattle.ulm.proofs.FaceLaws.{four-is}
+use native.Mathlib.Omega.{arith}
 use borrow.Author.Needs.{needs}
 use Rattle.ulm.proofs.four.Statement.{statement}
 use Rattle.ulm.proofs.four.Tie as tie
@@ -22,7 +24,7 @@ cast-t11 c = search needs
 
 -- src/lib.rt:346:1
 returns : tie.Need-returns
-returns c = ?
+returns c = four-is (c .args .name) (search needs)
 
 pub four-spec : {M : Type 1} → statement M
 four-spec = tie.close (tie.spec cast-t3 cast-t6 cast-t9 cast-t11 returns)

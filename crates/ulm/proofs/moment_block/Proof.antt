@@ -1,3 +1,4 @@
+use native.Mathlib.Omega.{arith}
 use borrow.Author.Needs.{needs}
 use Rattle.ulm.proofs.moment_block.Statement.{statement}
 use Rattle.ulm.proofs.moment_block.Tie as tie
@@ -30,7 +31,7 @@ cast-t8 c = search needs
 
 -- src/lib.rt:325:15
 cast-t9 : tie.Need-cast-t9
-cast-t9 c = ?
+cast-t9 c = omega (arith, c .before .before .before .before .before .before .before .good)
 
 -- src/lib.rt:328:16
 cast-t10 : tie.Need-cast-t10

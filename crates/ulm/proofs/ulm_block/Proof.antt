@@ -1,3 +1,8 @@
+use Rattle.ulm.proofs.FaceLaws.{block-constant, block-moment, block-none, block-refused}
+use Rattle.lookup.specs.Told.{tellBlock}
+use Rattle.description.specs.Lookups.{blockOf}
+use mathlib.Core.Path.{_≡_, refl, ap, sym, _∙_}
+use denote.Ref.{now}
 use borrow.Author.Needs.{needs}
 use Rattle.ulm.proofs.ulm_block.Statement.{statement}
 use Rattle.ulm.proofs.ulm_block.Tie as tie
@@ -46,19 +51,27 @@ no-block-requires-2 c κs = search needs
 
 -- src/lib.rt:333:1
 returns : tie.Need-returns
-returns c = ?
+returns c =
+    let a = c .before .before .before .before .before .before .args in
+    c .constant-block .ensures ∙ block-constant (c .before .before .k .given .0 .0) (blockOf (now (a .body)) (a .block)) (ap tellBlock (sym (c .before .before .k .given .1)) ∙ c .before .before .before .before .block .ensures)
 
 -- src/lib.rt:333:1
 returns-2 : tie.Need-returns-2
-returns-2 c = ?
+returns-2 c =
+    let a = c .before .before .before .before .before .before .args in
+    c .moment-block .ensures ∙ block-moment (c .before .before .k2 .given .0 .0) (c .before .before .k2 .given .0 .1 .0) (blockOf (now (a .body)) (a .block)) (ap tellBlock (sym (c .before .before .k2 .given .1)) ∙ c .before .before .before .before .block .ensures)
 
 -- src/lib.rt:333:1
 returns-3 : tie.Need-returns-3
-returns-3 c = ?
+returns-3 c =
+    let a = c .before .before .before .before .before .args in
+    c .no-block .ensures ∙ block-none (blockOf (now (a .body)) (a .block)) (ap tellBlock (sym (c .before .enum-told .given .1)) ∙ c .before .before .before .block .ensures)
 
 -- src/lib.rt:333:1
 returns-4 : tie.Need-returns-4
-returns-4 c = ?
+returns-4 c =
+    let a = c .before .before .before .before .before .before .args in
+    c .no-block2 .ensures ∙ block-refused (blockOf (now (a .body)) (a .block)) (c .before .before .number .given .0 .0) (ap tellBlock (sym (c .before .before .number .given .1)) ∙ c .before .before .before .before .block .ensures)
 
 pub ulm-block-spec : {M : Type 1} → statement M
 ulm-block-spec =

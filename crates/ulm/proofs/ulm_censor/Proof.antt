@@ -19,7 +19,7 @@ cast-t5 c = search needs
 
 -- src/lib.rt:405:1
 returns : tie.Need-returns
-returns c = ?
+returns c = simp (c .before .before .before .read-censor .ensures)
 
 pub ulm-censor-spec : {M : Type 1} → statement M
 ulm-censor-spec = tie.close (tie.spec read-censor-requires cast-t4 cast-t5 returns)

@@ -1,3 +1,10 @@
+use Rattle.ulm.proofs.FaceLaws.{name-back}
+use Rattle.ulm.specs.Radials.{worthFace}
+use Rattle.gate.specs.Value.{gateOf}
+use Prim.Native.Nat.{ℕ}
+use mathlib.Core.List.{List}
+use mathlib.Core.Path.{ap, sym, _∙_}
+use denote.Ref.{now}
 use borrow.Author.Needs.{needs}
 use Rattle.ulm.proofs.ulm_gate.Statement.{statement}
 use Rattle.ulm.proofs.ulm_gate.Tie as tie
@@ -21,7 +28,9 @@ gate-face-requires c κs = search needs
 
 -- src/lib.rt:382:1
 returns : tie.Need-returns
-returns c = ?
+returns c =
+    let a = c .before .before .before .before .args in
+    c .gate-face .ensures ∙ ap worthFace (c .before .gate-value .ensures ∙ ap (λ (x : ℕ). gateOf (now (a .body)) x (a .gate)) (name-back (a .name) (c .before .before .four .result) (search needs) (c .before .before .four .ensures)))
 
 pub ulm-gate-spec : {M : Type 1} → statement M
 ulm-gate-spec = tie.close (tie.spec four-requires gate-value-requires gate-face-requires returns)

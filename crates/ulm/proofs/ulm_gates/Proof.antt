@@ -1,3 +1,13 @@
+use native.Mathlib.Omega.{arith}
+use Rattle.ulm.proofs.FaceLaws.{name-back, gates-given, gates-refused}
+use Rattle.lookup.specs.Told.{tellMoment, headShown}
+use Rattle.radial.specs.declared.MomentHead.{MomentHead}
+use Rattle.description.specs.Lookups.{momentOf}
+use Rattle.description.specs.Description.{Moment}
+use Rattle.wire.specs.Answers.{Answer, refused, given}
+use Prim.Native.Nat.{ℕ}
+use mathlib.Core.Path.{_≡_, refl, ap, sym, _∙_}
+use denote.Ref.{now}
 use borrow.Author.Needs.{needs}
 use Rattle.ulm.proofs.ulm_gates.Statement.{statement}
 use Rattle.ulm.proofs.ulm_gates.Tie as tie
@@ -65,11 +75,24 @@ cast-t17 c = search needs
 
 -- src/lib.rt:352:1
 returns : tie.Need-returns
-returns c = ?
+returns c =
+    let a = c .before .before .before .before .before .before .before .before .before .before .before .before .args in
+    let f = c .before .before .before .before .before .before .before .before .before .before .four in
+    let m = c .before .before .before .before .before .before .before .before .before .moment in
+    let h = c .before .before .before .before .before .before .before .h .given in
+    let e : given (h .0 .0) ≡ headShown (momentOf (now (a .body)) (a .name)) =
+        ap tellMoment (sym (h .1)) ∙ m .ensures ∙ ap (λ (x : ℕ). headShown (momentOf (now (a .body)) x)) (name-back (a .name) (f .result) (omega (arith, c .before .before .before .before .before .before .before .before .before .before .before .before .fits)) (f .ensures)) in
+    gates-given (momentOf (now (a .body)) (a .name)) (h .0 .0) (c .moment-size .result) _ e (c .moment-size .ensures) refl
 
 -- src/lib.rt:352:1
 returns-2 : tie.Need-returns-2
-returns-2 c = ?
+returns-2 c =
+    let a = c .before .before .before .before .before .before .args in
+    let f = c .before .before .before .before .four in
+    let m = c .before .before .before .moment in
+    let h = c .before .number .given in
+    gates-refused (momentOf (now (a .body)) (a .name)) (h .0 .0)
+    (ap tellMoment (sym (h .1)) ∙ m .ensures ∙ ap (λ (x : ℕ). headShown (momentOf (now (a .body)) x)) (name-back (a .name) (f .result) (search needs) (f .ensures)))
 
 pub ulm-gates-spec : {M : Type 1} → statement M
 ulm-gates-spec =

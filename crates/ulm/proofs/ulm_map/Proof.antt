@@ -35,11 +35,11 @@ cast-t11 c = search needs
 
 -- src/lib.rt:418:1
 returns : tie.Need-returns
-returns c = ?
+returns c = simp (← c .before .before .before .check-map .ensures, c .before .date .given .1)
 
 -- src/lib.rt:418:1
 returns-2 : tie.Need-returns-2
-returns-2 c = ?
+returns-2 c = simp (← c .before .before .before .check-map .ensures, c .before .number .given .1)
 
 pub ulm-map-spec : {M : Type 1} → statement M
 ulm-map-spec =

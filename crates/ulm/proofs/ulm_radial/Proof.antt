@@ -1,3 +1,7 @@
+use Rattle.ulm.proofs.FaceLaws.{radial-shown}
+use Rattle.description.specs.Refusal.{radialOf}
+use denote.Ref.{now}
+use native.Mathlib.Omega.{arith}
 use borrow.Author.Needs.{needs}
 use Rattle.ulm.proofs.ulm_radial.Statement.{statement}
 use Rattle.ulm.proofs.ulm_radial.Tie as tie
@@ -39,15 +43,15 @@ cast-t10 c = search needs
 
 -- src/lib.rt:259:17
 cast-t11 : tie.Need-cast-t11
-cast-t11 c = ?
+cast-t11 c = omega (arith, c .before .before .before .before .before .before .before .before .before .read-radial .ok)
 
 -- src/lib.rt:261:19
 cast-t12 : tie.Need-cast-t12
-cast-t12 c = ?
+cast-t12 c = omega (arith, c .before .before .before .before .before .before .before .before .before .before .read-radial .ok)
 
 -- src/lib.rt:262:19
 cast-t13 : tie.Need-cast-t13
-cast-t13 c = ?
+cast-t13 c = omega (arith, c .before .before .before .before .before .before .before .before .before .before .before .read-radial .ok)
 
 -- src/lib.rt:263:17
 cast-t14 : tie.Need-cast-t14
@@ -55,7 +59,7 @@ cast-t14 c = search needs
 
 -- src/lib.rt:242:1
 returns : tie.Need-returns
-returns c = ?
+returns c = simp (c .before .before .before .before .before .before .before .before .before .before .before .before .read-radial .ensures) (radial-shown (radialOf (now (c .before .before .before .before .before .before .before .before .before .before .before .before .before .before .args .body))))
 
 pub ulm-radial-spec : {M : Type 1} → statement M
 ulm-radial-spec =

@@ -27,11 +27,11 @@ cast-t7 c = search needs
 
 -- src/lib.rt:389:1
 returns : tie.Need-returns
-returns c = ?
+returns c = simp (← c .before .before .before .read-request .ensures, c .before .code .given .1)
 
 -- src/lib.rt:389:1
 returns-2 : tie.Need-returns-2
-returns-2 c = ?
+returns-2 c = simp (← c .before .before .before .read-request .ensures, c .before .number .given .1)
 
 pub ulm-request-spec : {M : Type 1} → statement M
 ulm-request-spec =

@@ -1,0 +1,2 @@
+-- The laws between the library's answers and the structs that C receives.
+pub mod FaceLaws
