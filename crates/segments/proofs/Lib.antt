@@ -1,2 +1,4 @@
 -- What the crates above cite of sets.
+pub mod OrderLaws
+pub mod FrameFacts
 pub mod CaseTable
