@@ -1,4 +1,5 @@
 -- What the crates above cite of sets.
 pub mod OrderLaws
 pub mod FrameFacts
+pub mod NumberedLaws
 pub mod CaseTable

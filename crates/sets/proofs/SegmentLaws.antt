@@ -37,19 +37,21 @@ module _ (s : List ℕ) (at : ℕ) (f : Frame) (l : FrameLies s at f) (k : f .ki
       let z = f .next - f .start in
       let fits : headerSize ≤ length (take z (drop (f .start) s)) = subst (λ (x : List ℕ). headerSize ≤ length x) (sym (l .body)) long in
       let w : headerSize ≤ z = room z (drop (f .start) s) fits in
-      let d : f .next - (f .start + headerSize) ≡ z - headerSize = omega arith in (
-        own-header (drop at s) (l .passes) (sym (l .kind) ∙ k) ∙ p .0,
-        p .1,
-        ap (λ (n : ℕ). n + headerSize) (l .start),
-        l .rest,
-        omega (arith, l .order),
-        l .within,
-        omega (arith, l .small),
-        ap (λ (n : ℕ). take n (drop (f .start + headerSize) s)) d
+      let d : f .next - (f .start + headerSize) ≡ z - headerSize = omega arith in
+      record {
+        passes = own-header (drop at s) (l .passes) (sym (l .kind) ∙ k) ∙ p .0;
+        header = p .1;
+        content =
+            ap (λ (n : ℕ). take n (drop (f .start + headerSize) s)) d
             ∙ ap (λ (x : List ℕ). take (z - headerSize) x) (sym (drop-drop headerSize (f .start) s))
             ∙ sym (drop-take headerSize z (drop (f .start) s))
-            ∙ ap (λ (x : List ℕ). drop headerSize x) (l .body),
-      )
+            ∙ ap (λ (x : List ℕ). drop headerSize x) (l .body);
+        rest = l .rest;
+        forward = omega (arith, l .start);
+        order = omega (arith, l .order);
+        within = l .within;
+        small = omega (arith, l .small);
+      }
     where
       room : (z : ℕ) (x : List ℕ) → headerSize ≤ length (take z x) → headerSize ≤ z
       room z x h = let q = length-take z x in omega arith

@@ -8,9 +8,9 @@ use lib.Dec.{eqb}
 use lib.ListN.{length, getD, take, drop}
 use Rattle.wire.specs.Checks.{pick, both, Check, first}
 use Rattle.wire.specs.Answers.{Answer, refused, given}
-use Rattle.frame.specs.Session.{headSize, sessionLimit, bodyIn, after}
+use Rattle.frame.specs.Session.{sessionLimit, after}
 use Rattle.message.specs.declared.Header.{Header}
-use Rattle.message.specs.Header.{headerSize, headerIn, mostSegments}
+use Rattle.message.specs.Header.{mostSegments}
 use Rattle.segments.specs.Segment.{Segment, segmentIn, ownChecks, numbered, found, headerNumbered, dataNumbered}
 use Rattle.segments.specs.Walk.{firstOr, seen, turnChecks, walk, count}
 use Rattle.sets.specs.declared.SegmentAnswer.{SegmentAnswer}
@@ -21,19 +21,26 @@ use Rattle.sets.specs.declared.Turn.the-variants.{Next, Refused as Stopp
 use Rattle.sets.specs.declared.Gathered.{Gathered}
 use Rattle.sets.specs.declared.Gathered.the-variants.{Ended, Refused as Broken}
 
--- a frame's own checks at a place of the buffer: its number, or the header, where the data begins and where the frame ends
+-- a segment at a place of the buffer: its frame passes its own checks, its data stands from `start` to the frame's end, `next`
+pub record SegmentLies (s : List ℕ) (at : ℕ) (h : Header) (start next : ℕ) : Type 0 where
+  pub passes : first (ownChecks (drop at s)) ≡ none
+  pub header : segmentIn (drop at s) .header ≡ h
+  pub content : take (next - start) (drop start s) ≡ segmentIn (drop at s) .content
+  pub rest : drop next s ≡ after (drop at s)
+  pub forward : at < start
+  pub order : start ≤ next
+  pub within : next ≤ length s
+  pub small : next ≤ start + sessionLimit .0
+
 abbrev pub SegmentRead : List ℕ → ℕ → SegmentAnswer → Type 0
 SegmentRead s at (Refused n) = first (ownChecks (drop at s)) ≡ some n
-SegmentRead s at (Read h start next) =
-    (first (ownChecks (drop at s)) ≡ none) × (headerIn (bodyIn (drop at s)) ≡ h) × (start ≡ at + headSize + headerSize)
-    × (drop next s ≡ after (drop at s))
-    × (start ≤ next)
-    × (next ≤ length s)
-    × (next ≤ start + sessionLimit .0)
-    × (take (next - start) (drop start s) ≡ segmentIn (drop at s) .content)
+SegmentRead s at (Read h start next) = SegmentLies s at h start next
 
 -- the arrays tell of the segments met: segment k + 1 at place k
 pub record Tells (s : List ℕ) (at : ℕ) (heads : Heads) (flags : List Bool) (starts ends : List ℕ) (gs : List Segment) : Type 0 where
+  pub flags-long : length flags ≡ mostSegments
+  pub starts-long : length starts ≡ mostSegments
+  pub ends-long : length ends ≡ mostSegments
   pub flag : (k : ℕ) → k < mostSegments → getD flags k false ≡ found (numbered gs (suc k))
   pub part : (k : ℕ) → k < mostSegments → take (getD ends k 0 - getD starts k 0) (drop (getD starts k 0) s) ≡ dataNumbered gs (suc k)
   pub after : (k : ℕ) → k < mostSegments → getD starts k 0 ≤ getD ends k 0
@@ -46,12 +53,15 @@ pub record Tells (s : List ℕ) (at : ℕ) (heads : Heads) (flags : List Bool) (
   pub place : at ≤ length s
 
 -- what one frame's turn leaves, where gs were met before it
+pub record GoesOn (s : List ℕ) (at : ℕ) (heads : Heads) (next : ℕ) (flags : List Bool) (starts ends : List ℕ) (gs : List Segment) : Type 0 where
+  pub passes : first (turnChecks gs (drop at s)) ≡ none
+  pub tells : Tells s next heads flags starts ends (gs ++ (segmentIn (drop at s) ∷ []))
+  pub rest : drop next s ≡ after (drop at s)
+  pub forward : at < next
+
 abbrev pub Turned : List ℕ → ℕ → List Bool → List ℕ → List ℕ → List Segment → Turn → Type 0
 Turned s at flags starts ends gs (Stopped n) = first (turnChecks gs (drop at s)) ≡ some n
-Turned s at flags starts ends gs (Next heads next) =
-    (first (turnChecks gs (drop at s)) ≡ none) × Tells s next heads flags starts ends (gs ++ (segmentIn (drop at s) ∷ []))
-    × (drop next s ≡ after (drop at s))
-    × (at < next)
+Turned s at flags starts ends gs (Next heads next) = GoesOn s at heads next flags starts ends gs
 
 -- the turn, whatever was met before it
 abbrev pub TurnTaken : List ℕ → ℕ → Heads → List Bool → List ℕ → List ℕ → List Bool → List ℕ → List ℕ → Turn → Type 0
