@@ -2,4 +2,5 @@
 pub mod OrderLaws
 pub mod FrameFacts
 pub mod NumberedLaws
+pub mod WalkLaws
 pub mod CaseTable

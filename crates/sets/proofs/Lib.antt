@@ -1,3 +1,5 @@
 -- What the functions' proofs cite.
 pub mod SegmentLaws
 pub mod TurnLaws
+pub mod GatherLaws
+pub mod ArrayLaws

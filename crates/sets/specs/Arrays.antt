@@ -5,7 +5,7 @@ use mathlib.Core.Bool.{Bool, true, false}
 use mathlib.Core.Option.{Option, none, some}
 use mathlib.Core.List.{List, [], _∷_, _++_}
 use lib.Dec.{eqb}
-use lib.ListN.{length, getD, take, drop}
+use lib.ListN.{length, getD, take, drop, replicate}
 use Rattle.wire.specs.Checks.{pick, both, Check, first}
 use Rattle.wire.specs.Answers.{Answer, refused, given}
 use Rattle.frame.specs.Session.{sessionLimit, after}
@@ -64,9 +64,15 @@ Turned s at flags starts ends gs (Stopped n) = first (turnChecks gs (drop at s))
 Turned s at flags starts ends gs (Next heads next) = GoesOn s at heads next flags starts ends gs
 
 -- the turn, whatever was met before it
-abbrev pub TurnTaken : List ℕ → ℕ → Heads → List Bool → List ℕ → List ℕ → List Bool → List ℕ → List ℕ → Turn → Type 0
-TurnTaken s at heads flags starts ends flags′ starts′ ends′ r =
-    (gs : List Segment) → Tells s at heads flags starts ends gs → Turned s at flags′ starts′ ends′ gs r
+pub record TurnTaken (s : List ℕ) (at : ℕ) (heads : Heads) (flags : List Bool) (starts ends : List ℕ) (flags′ : List Bool) (starts′ ends′ : List ℕ) (r : Turn)
+    : Type 0 where
+  pub turned : (gs : List Segment) → Tells s at heads flags starts ends gs → Turned s at flags′ starts′ ends′ gs r
+
+-- "all false at first": nothing was met
+pub record Blank (flags : List Bool) (starts ends : List ℕ) : Type 0 where
+  pub flags-blank : flags ≡ replicate mostSegments false
+  pub starts-blank : starts ≡ replicate mostSegments 0
+  pub ends-blank : ends ≡ replicate mostSegments 0
 
 -- what the first pass leaves
 pub record Met (s : List ℕ) (heads : Heads) (flags : List Bool) (starts ends : List ℕ) : Type 0 where
@@ -78,6 +84,13 @@ pub record Met (s : List ℕ) (heads : Heads) (flags : List Bool) (starts ends :
 abbrev pub Gathers : List ℕ → List Bool → List ℕ → List ℕ → Gathered → Type 0
 Gathers s flags starts ends (Broken n) = walk (length s) [] s ≡ refused n
 Gathers s flags starts ends (Ended heads) = Met s heads flags starts ends
+
+-- each part of the buffer ends at or after its start, and is no longer than a frame's body; it ends within the buffer
+abbrev pub Parts : List ℕ → List ℕ → Type 0
+Parts starts ends = (k : ℕ) → k < mostSegments → (getD starts k 0 ≤ getD ends k 0) × (getD ends k 0 ≤ getD starts k 0 + sessionLimit .0)
+
+abbrev pub Within : List ℕ → List ℕ → Type 0
+Within s ends = (k : ℕ) → k < mostSegments → getD ends k 0 ≤ length s
 
 -- of the arrays alone: the first n flags are all set, the length of the first n parts, and these joined
 unfoldable pub allSet : List Bool → ℕ → Bool

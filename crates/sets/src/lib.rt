@@ -1,19 +1,18 @@
 // A buffer of frames, in any order, joined into a lent output. Two passes: the first walks the frames and remembers where each segment's
 // data lies, the second copies. Nothing is written before 12 and 13 are known.
 ghost use mathlib.Core.Path.{_≡_};
-ghost use mathlib.Core.Bool.{Bool, false};
-ghost use mathlib.Core.List.{List};
-ghost use Prim.Native.Nat.{_+_, _≤_, _<_};
+ghost use mathlib.Core.List.{[]};
+ghost use Prim.Native.Nat.{_*_, _≤_};
 ghost use lib.Dec.{eqb};
-ghost use lib.ListN.{length, getD, replicate};
+ghost use lib.ListN.{length};
 ghost use Rattle.wire.specs.Checks.{pick, someBroken};
 ghost use Rattle.wire.specs.Answers.{Promise};
 ghost use Rattle.frame.specs.Session.{sessionLimit};
 ghost use Rattle.message.specs.Header.{mostSegments};
-ghost use Rattle.segments.specs.Segment.{Segment, agreeChecks};
+ghost use Rattle.segments.specs.Segment.{segmentIn, agreeChecks};
 ghost use Rattle.segments.specs.Walk.{filled, setOf};
 ghost use Rattle.sets.specs.Promises.{tellSet};
-ghost use Rattle.sets.specs.Arrays.{SegmentRead, TurnTaken, Gathers, allSet, partsLong, parts};
+ghost use Rattle.sets.specs.Arrays.{SegmentRead, TurnTaken, Blank, Gathers, Parts, Within, allSet, partsLong, parts};
 use frame::FrameAnswer;
 use message::Header;
 use message::HeaderAnswer;
@@ -143,4 +142,131 @@ fn take_turn(
             Turn::Next(Heads { first, one }, next)
         }
     }
+}
+
+// The header that no bytes spell: what is told of where no segment was met.
+fn no_header() -> Header
+    ensures { λ r. ⌜ r ≡ segmentIn [] .header ⌝ }
+{
+    Header {
+        size: Halfwords(0),
+        channel: 0,
+        kind: 0,
+        sequence: 0,
+        date: 0,
+        milliseconds: 0,
+        segments: 0,
+        number: 0,
+    }
+}
+
+// The first pass: each frame in turn, to the end of the buffer.
+fn gather(
+    frames: &[u8],
+    flags: &mut [bool; 128],
+    starts: &mut [usize; 128],
+    ends: &mut [usize; 128],
+) -> Gathered
+    requires { ⌜ Blank (now flags) (now starts) (now ends) ⌝ }
+    ensures { λ r. ⌜ Gathers (now (frames .entry)) (now (flags .exit)) (now (starts .exit)) (now (ends .exit)) r ⌝ }
+{
+    let mut at = 0;
+    let mut heads = Heads {
+        first: no_header(),
+        one: no_header(),
+    };
+    while at < frames.len() {
+        match take_turn(frames, at, heads, flags, starts, ends) {
+            Turn::Refused(n) => return Gathered::Refused(n),
+            Turn::Next(h, next) => {
+                heads = h;
+                at = next;
+            }
+        }
+    }
+    Gathered::Ended(heads)
+}
+
+// Whether the first n numbers were all seen.
+fn all_seen(flags: &[bool; 128], n: usize) -> bool
+    requires { ⌜ n ≤ mostSegments ⌝ }
+    ensures { λ r. ⌜ r ≡ allSet (now (flags .entry)) n ⌝ }
+{
+    let mut k = 0;
+    while k < n {
+        if !flags[k] {
+            return false;
+        }
+        k += 1;
+    }
+    true
+}
+
+// The length of the first n segments' data joined.
+fn joined_length(starts: &[usize; 128], ends: &[usize; 128], n: usize) -> usize
+    requires { ⌜ (n ≤ mostSegments) × Parts (now starts) (now ends) ⌝ }
+    ensures { λ r. ⌜ (r ≡ partsLong (now (starts .entry)) (now (ends .entry)) n) × (r ≤ n * sessionLimit .0) ⌝ }
+{
+    let mut sum = 0;
+    let mut k = 0;
+    while k < n {
+        sum += ends[k] - starts[k];
+        k += 1;
+    }
+    sum
+}
+
+fn copy(from: &[u8], to: &mut [u8])
+    requires { ⌜ length (now from) ≡ length (now to) ⌝ }
+    ensures { λ r. ⌜ now (to .exit) ≡ now (from .entry) ⌝ }
+{
+    let mut i = 0;
+    while i < to.len() {
+        to[i] = from[i];
+        i += 1;
+    }
+}
+
+// The second pass: the data of segments 1 to n, one after the other from the output's start.
+fn join(frames: &[u8], starts: &[usize; 128], ends: &[usize; 128], n: usize, out: &mut [u8])
+    requires { ⌜ (n ≤ mostSegments) × Parts (now starts) (now ends) × Within (now frames) (now ends) × (partsLong (now starts) (now ends) n ≤ length (now out)) ⌝ }
+    ensures { λ r. ⌜ now (out .exit) ≡ filled (parts (now (frames .entry)) (now (starts .entry)) (now (ends .entry)) n) (now (out .entry)) ⌝ }
+{
+    let mut place = 0;
+    let mut k = 0;
+    while k < n {
+        let start = starts[k];
+        let end = ends[k];
+        let next = place + (end - start);
+        copy(&frames[start..end], &mut out[place..next]);
+        place = next;
+        k += 1;
+    }
+}
+
+// A buffer of frames, read as a set into `out`.
+pub fn read_set(frames: &[u8], out: &mut [u8]) -> SetAnswer
+    ensures { λ r. ⌜ Promise tellSet (setOf (now (frames .entry)) (now (out .entry))) r (now (out .exit)) ⌝ }
+{
+    let mut flags = [false; 128];
+    let mut starts = [0usize; 128];
+    let mut ends = [0usize; 128];
+    let heads = match gather(frames, &mut flags, &mut starts, &mut ends) {
+        Gathered::Refused(n) => return SetAnswer::Refused(n),
+        Gathered::Ended(heads) => heads,
+    };
+    if !flags[0] {
+        return SetAnswer::Refused(refusal::ABSENT);
+    }
+    let n = heads.first.segments as usize;
+    if !all_seen(&flags, n) {
+        return SetAnswer::Refused(refusal::ABSENT);
+    }
+    let long = joined_length(&starts, &ends, n);
+    if out.len() < long {
+        return SetAnswer::Refused(refusal::OUTPUT_SMALL);
+    }
+    join(frames, &starts, &ends, n, out);
+    let one = heads.one;
+    SetAnswer::Set(one, Bytes(long as u32))
 }

@@ -39,7 +39,7 @@ disagrees-requires c κs = search needs
 
 -- src/lib.rt:132:17
 returns : tie.Need-returns
-returns c = λ gs t. turn-disagrees _ _ _ _ _ (lies (c .before .before .before .before)) _ _ _ _ gs t _ (c .before .before .first-of .ensures) (sym (c .before .disagrees .ensures) ∙ c .if1 .taken)
+returns c = record { turned = λ gs t. turn-disagrees _ _ _ _ _ (lies (c .before .before .before .before)) _ _ _ _ gs t _ (c .before .before .first-of .ensures) (sym (c .before .disagrees .ensures) ∙ c .if1 .taken) }
 
 -- src/lib.rt:134:21
 cast-k : tie.Need-cast-k
@@ -55,7 +55,7 @@ element-copy-out-if2 c = number-high _ _ _ _ _ (lies (c .before .before .before 
 
 -- src/lib.rt:136:17
 returns-2 : tie.Need-returns-2
-returns-2 c = λ gs t. turn-seen _ _ _ _ _ (lies (c .before .before .before .before .before .before .before)) _ _ _ _ gs t _ (c .before .before .before .before .before .first-of .ensures) (sym (c .before .before .before .before .disagrees .ensures) ∙ c .before .before .before .if1 .left) (c .if2 .taken)
+returns-2 c = record { turned = λ gs t. turn-seen _ _ _ _ _ (lies (c .before .before .before .before .before .before .before)) _ _ _ _ gs t _ (c .before .before .before .before .before .first-of .ensures) (sym (c .before .before .before .before .disagrees .ensures) ∙ c .before .before .before .if1 .left) (c .if2 .taken) }
 
 -- src/lib.rt:138:13
 element-write-flags : tie.Need-element-write-flags
@@ -83,11 +83,11 @@ one-of-requires c κs = search needs
 
 -- src/lib.rt:116:1
 returns-3 : tie.Need-returns-3
-returns-3 c = λ gs t. turn-refused (now (c .before .before .before .before .before .args .frames)) (c .before .before .before .before .before .args .at) gs _ (subst (λ (r : SegmentAnswer). SegmentRead (now (c .before .before .before .before .before .args .frames)) (c .before .before .before .before .before .args .at) r) (c .before .n .given .1) (c .before .before .before .segment-at .ensures))
+returns-3 c = record { turned = λ gs t. turn-refused (now (c .before .before .before .before .before .args .frames)) (c .before .before .before .before .before .args .at) gs _ (subst (λ (r : SegmentAnswer). SegmentRead (now (c .before .before .before .before .before .args .frames)) (c .before .before .before .before .before .args .at) r) (c .before .n .given .1) (c .before .before .before .segment-at .ensures)) }
 
 -- src/lib.rt:116:1
 returns-4 : tie.Need-returns-4
-returns-4 c = λ gs t. turn-on _ _ _ _ _ (lies (c .before .before .before .before .before .before .before .before .before)) _ _ _ _ gs t _ (c .before .before .before .before .before .before .before .first-of .ensures) (c .before .before .if2 .left) _ (c .one-of .ensures) (sym (c .before .before .before .before .before .before .disagrees .ensures) ∙ c .before .before .before .before .before .if1 .left)
+returns-4 c = record { turned = λ gs t. turn-on _ _ _ _ _ (lies (c .before .before .before .before .before .before .before .before .before)) _ _ _ _ gs t _ (c .before .before .before .before .before .before .before .first-of .ensures) (c .before .before .if2 .left) _ (c .one-of .ensures) (sym (c .before .before .before .before .before .before .disagrees .ensures) ∙ c .before .before .before .before .before .if1 .left) }
 
 pub take-turn-spec : {M : Type 1} → statement M
 take-turn-spec =
