@@ -6,9 +6,10 @@ use mathlib.Core.List.{List, [], _∷_, _++_, append-assoc, append-nil}
 use native.Mathlib.Omega.{arith}
 use native.Mathlib.Numerals.{add-one}
 use lib.ListN.{length, getD, set, take, drop, length-append, length-drop, drop-of-length-le}
-use lib.Seq.{take-all, take-suc, drop-cons, set-at, length-take-le}
+use lib.Seq.{take-all, take-at, drop-at, drop-drop, take-suc, drop-cons, set-at, length-take-le}
 use Rattle.wire.specs.Checks.{both}
 use Rattle.message.specs.Header.{mostSegments}
+use Rattle.segments.specs.Walk.{filled}
 use Rattle.segments.proofs.NumberedLaws.{by-eq}
 use Rattle.sets.specs.Arrays.{Parts, Within, allSet, partsLong, parts}
 
@@ -73,3 +74,53 @@ pub copied : (from to₀ to : List ℕ) (i : ℕ) → length from ≡ length to�
 copied from to₀ to i l m e =
     let n : length from ≤ i = omega arith in
     e ∙ rw (take-all i from n, drop-of-length-le to₀ {i = i} m) (append-nil from)
+
+-- ---- one part more in the output: `out` holds the first k parts and then what it held before
+module _ (s starts ends : List ℕ) (p : Parts starts ends) (w : Within s ends) (k n : ℕ) (low : k < n) (most : n ≤ mostSegments) (out₀ out : List ℕ)
+    (room : partsLong starts ends n ≤ length out₀) (place : ℕ) (is : place ≡ partsLong starts ends k) (same : length out ≡ length out₀)
+    (holds : out ≡ parts s starts ends k ++ drop place out₀) where
+  abbrev pub more : ℕ
+  more = getD ends k 0 - getD starts k 0
+
+  abbrev pub part : List ℕ
+  part = take more (drop (getD starts k 0) s)
+
+  long : length part ≡ more
+  long = part-long s starts ends k (p k (omega arith) .0) (w k (omega arith))
+
+  fits : place + more ≤ length out₀
+  fits = omega (arith, long-next starts ends k n low)
+
+  back : place + more - place ≡ more
+  back = omega arith
+
+  filled-long : length (parts s starts ends k) ≡ place
+  filled-long = parts-long s starts ends p w k (omega arith) ∙ sym is
+
+  pub join-fits : length part ≡ length (take (place + more - place) (drop place out))
+  join-fits =
+      let l : length (drop place out) ≡ length out - place = length-drop place out in
+      let m : place + more - place ≤ length (drop place out) = omega (arith, fits) in
+      long ∙ sym back ∙ sym (length-take-le (place + more - place) (drop place out) m)
+
+  pub join-more : (ys : List ℕ) → ys ≡ part
+      → take place out ++ (ys ++ drop (place + more - place) (drop place out)) ≡ parts s starts ends (k + 1) ++ drop (place + more) out₀
+  join-more ys e =
+      let a : take place out ≡ parts s starts ends k = ap (λ (x : List ℕ). take place x) holds ∙ take-at (parts s starts ends k) (drop place out₀) place filled-long in
+      let b : drop place out ≡ drop place out₀ = ap (λ (x : List ℕ). drop place x) holds ∙ drop-at (parts s starts ends k) (drop place out₀) place filled-long in
+      rw (a, b, e, back, parts-more s starts ends k, append-assoc, drop-drop)
+
+  pub join-long : (l : List ℕ) → l ≡ parts s starts ends (k + 1) ++ drop (place + more) out₀ → length l ≡ length out₀
+  join-long l e =
+      let a : length (parts s starts ends (k + 1)) ≡ partsLong starts ends (k + 1) = parts-long s starts ends p w (k + 1) (omega arith) in
+      let b : length (drop (place + more) out₀) ≡ length out₀ - (place + more) = length-drop (place + more) out₀ in
+      ap length e ∙ length-append (parts s starts ends (k + 1)) (drop (place + more) out₀) ∙ omega (arith, long-more starts ends k, fits)
+
+-- all parts are there
+pub joined-is : (s starts ends : List ℕ) → Parts starts ends → Within s ends → (k n : ℕ) → k ≡ n → n ≤ mostSegments → (out₀ out : List ℕ) (place : ℕ)
+    → place ≡ partsLong starts ends k
+    → out ≡ parts s starts ends k ++ drop place out₀
+    → out ≡ filled (parts s starts ends n) out₀
+joined-is s starts ends p w k n e most out₀ out place is holds =
+    let l : length (parts s starts ends n) ≡ place = parts-long s starts ends p w n most ∙ ap (λ (i : ℕ). partsLong starts ends i) (sym e) ∙ sym is in
+    holds ∙ rw (e, l)
