@@ -3,3 +3,5 @@ pub mod SegmentLaws
 pub mod TurnLaws
 pub mod GatherLaws
 pub mod ArrayLaws
+pub mod SetLaws
+pub mod OneAnswer

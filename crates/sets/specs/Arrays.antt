@@ -81,9 +81,12 @@ pub record Met (s : List ℕ) (heads : Heads) (flags : List Bool) (starts ends :
   pub walked : walk (length s) [] s ≡ given gs
   pub tells : Tells s at heads flags starts ends gs
 
-abbrev pub Gathers : List ℕ → List Bool → List ℕ → List ℕ → Gathered → Type 0
-Gathers s flags starts ends (Broken n) = walk (length s) [] s ≡ refused n
-Gathers s flags starts ends (Ended heads) = Met s heads flags starts ends
+abbrev pub GatheredBy : List ℕ → List Bool → List ℕ → List ℕ → Gathered → Type 0
+GatheredBy s flags starts ends (Broken n) = walk (length s) [] s ≡ refused n
+GatheredBy s flags starts ends (Ended heads) = Met s heads flags starts ends
+
+pub record Gathers (s : List ℕ) (flags : List Bool) (starts ends : List ℕ) (r : Gathered) : Type 0 where
+  pub gathered : GatheredBy s flags starts ends r
 
 -- each part of the buffer ends at or after its start, and is no longer than a frame's body; it ends within the buffer
 abbrev pub Parts : List ℕ → List ℕ → Type 0

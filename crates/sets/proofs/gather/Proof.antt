@@ -38,7 +38,7 @@ enum-known-n c = search needs
 
 -- src/lib.rt:180:33
 returns : tie.Need-returns Inv-loop μ-loop
-returns c = going-stops _ _ _ _ _ _ (c .before .before .before .before .before .before .before .before .loop .inv) (c .before .before .before .before .before .before .before .loop-test .taken) _ _ _ _ _ (c .before .before .before .take-turn .ensures) (c .before .n .given .1)
+returns c = record { gathered = going-stops _ _ _ _ _ _ (c .before .before .before .before .before .before .before .before .loop .inv) (c .before .before .before .before .before .before .before .loop-test .taken) _ _ _ _ _ (c .before .before .before .take-turn .ensures) (c .before .n .given .1) }
 
 -- src/lib.rt:181:24
 enum-known-h : tie.Need-enum-known-h Inv-loop μ-loop
@@ -54,7 +54,7 @@ loop-again c = going-on _ _ _ _ _ _ (c .before .before .before .before .before .
 
 -- src/lib.rt:164:1
 returns-2 : tie.Need-returns-2 Inv-loop μ-loop
-returns-2 c = going-ends _ _ _ _ _ _ (c .before .loop .inv) (c .loop-test .left)
+returns-2 c = record { gathered = going-ends _ _ _ _ _ _ (c .before .loop .inv) (c .loop-test .left) }
 
 pub gather-spec : {M : Type 1} → statement M
 gather-spec =
