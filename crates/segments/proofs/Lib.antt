@@ -3,4 +3,7 @@ pub mod OrderLaws
 pub mod FrameFacts
 pub mod NumberedLaws
 pub mod WalkLaws
+pub mod PrefixLaws
+pub mod FrameLists
+pub mod OrderFree
 pub mod CaseTable

@@ -8,7 +8,7 @@ use lib.ListN.{length}
 use borrow.Author.Tests.{eq-eqb, ne-eqb}
 use Rattle.wire.specs.Checks.{first, decide}
 use Rattle.wire.specs.Answers.{Answer, refused, given}
-use Rattle.wire.proofs.CheckLaws.{decide-none, decide-some}
+use Rattle.wire.proofs.CheckLaws.{never, passed, decide-none, decide-some}
 use Rattle.frame.specs.Session.{after}
 use Rattle.segments.specs.Segment.{Segment, segmentIn}
 use Rattle.segments.specs.Walk.{turnChecks, walk}
@@ -34,3 +34,12 @@ unfolding walk
 walk-goes turns gs rest l e =
     let q = ne-eqb (length rest) 0 (λ z. omega arith) in
     rw q (decide-none (turnChecks gs rest) refused (walk turns (gs ++ (segmentIn rest ∷ [])) (after rest)) e)
+
+-- a walk that goes to the end: what its next turn said
+pub walk-went : (turns : ℕ) (gs gs′ : List Segment) (rest : List ℕ) → 0 < length rest → walk (suc turns) gs rest ≡ given gs′
+    → (first (turnChecks gs rest) ≡ none) × (walk turns (gs ++ (segmentIn rest ∷ [])) (after rest) ≡ given gs′)
+unfolding walk
+walk-went turns gs gs′ rest l e =
+    let q = ne-eqb (length rest) 0 (λ z. omega arith) in
+    let e′ : decide (turnChecks gs rest) refused (walk turns (gs ++ (segmentIn rest ∷ [])) (after rest)) ≡ given gs′ = rw q at e in
+    passed (turnChecks gs rest) refused (walk turns (gs ++ (segmentIn rest ∷ [])) (after rest)) (given gs′) e′ (λ n p. never (cc p))

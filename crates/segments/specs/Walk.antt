@@ -21,11 +21,13 @@ firstOr (g ∷ gs) h = g .header
 abbrev pub seen : List Segment → ℕ → Bool
 seen gs k = found (numbered gs k)
 
--- one frame's turn, where the segments gs were met before it: its own checks, 10, 11
+-- 10 and 11 of a header, where the segments gs were met before it
+abbrev pub metChecks : List Segment → Header → List Check
+metChecks gs h = agreeChecks (firstOr gs h) h ++ (check 11 (seen gs (h .number)) ∷ [])
+
+-- one frame's turn: its own checks, 10, 11
 abbrev pub turnChecks : List Segment → List ℕ → List Check
-turnChecks gs rest =
-    ownChecks rest
-    ++ (agreeChecks (firstOr gs (segmentIn rest .header)) (segmentIn rest .header) ++ (check 11 (seen gs (segmentIn rest .header .number)) ∷ []))
+turnChecks gs rest = ownChecks rest ++ metChecks gs (segmentIn rest .header)
 
 -- "A set is a buffer of frames and nothing else": each frame in turn, to the end of the buffer. The segments met, in the buffer's order,
 -- or the number at which the walk stops. A frame takes bytes, so there are no more turns than bytes.

@@ -15,7 +15,7 @@ use Rattle.frame.specs.Session.{headSize, sessionLimit, bodyIn, after, frameChe
 use Rattle.message.specs.declared.Header.{Header}
 use Rattle.message.specs.Header.{headerIn, headerSize, mostSegments, headerChecks}
 use Rattle.segments.specs.Segment.{Segment, segmentIn, notData, ownChecks, agreeChecks, numbered, found, orNothing, headerNumbered, dataNumbered}
-use Rattle.segments.specs.Walk.{firstOr, seen, turnChecks, count}
+use Rattle.segments.specs.Walk.{firstOr, seen, metChecks, turnChecks, count}
 use Rattle.segments.proofs.OrderLaws.{first-append-none, first-append-some, first-same-some, first-same-none}
 use Rattle.segments.proofs.FrameFacts.{HeaderFits, header-fits}
 use Rattle.segments.proofs.NumberedLaws.{by-eq, not-found, numbered-same, numbered-other, first-more}
@@ -27,10 +27,6 @@ header o = orNothing o .header
 
 abbrev content : Option Segment → List ℕ
 content o = orNothing o .content
-
--- 10 and 11, which follow a frame's own checks
-abbrev metChecks : List Segment → Header → List Check
-metChecks gs h = agreeChecks (firstOr gs h) h ++ (check 11 (seen gs (h .number)) ∷ [])
 
 disagree : (gs : List Segment) (h lead : Header) → firstOr gs h ≡ lead → someBroken (agreeChecks lead h) ≡ true → first (metChecks gs h) ≡ some 10
 disagree gs h lead e b =
