@@ -6,4 +6,7 @@ pub mod WalkLaws
 pub mod PrefixLaws
 pub mod FrameLists
 pub mod OrderFree
+pub mod Accepted
+pub mod OutputApart
+pub mod AnyOrder
 pub mod CaseTable
