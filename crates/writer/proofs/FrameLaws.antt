@@ -1,0 +1,2 @@
+-- Laws of written frames. Assumes nothing.
+use Prim.Native.Nat.{ℕ}

@@ -1,0 +1,82 @@
+use borrow.Author.Needs.{needs}
+use Rattle.writer.proofs.write_frame.Statement.{statement}
+use Rattle.writer.proofs.write_frame.Tie as tie
+use Rattle.writer.proofs.write_frame.Reads as reads
+use Rattle.writer.proofs.write_frame.Lts as lts
+use Rattle.writer.proofs.copy.Reads as copy-reads
+use Rattle.writer.proofs.heads_of.Reads as heads-of-reads
+
+-- src/lib.rt:110:53
+cast-t10 : tie.Need-cast-t10
+cast-t10 c = search needs
+
+-- src/lib.rt:110:44
+add-t11 : tie.Need-add-t11
+add-t11 c = search needs
+
+-- src/lib.rt:110:16
+heads-of-requires : tie.Need-heads-of-requires
+heads-of-requires c κs = search needs
+
+-- src/lib.rt:111:15
+add-end : tie.Need-add-end
+add-end c = search needs
+
+-- src/lib.rt:112:10
+slice-aggregate-copy : tie.Need-slice-aggregate-copy
+slice-aggregate-copy c = search needs
+
+-- src/lib.rt:112:17
+slice-relend-prefix-copy : tie.Need-slice-relend-prefix-copy
+slice-relend-prefix-copy c = search needs
+
+-- src/lib.rt:112:17
+slice-aggregate-copy-2 : tie.Need-slice-aggregate-copy-2
+slice-aggregate-copy-2 c = ?
+
+-- src/lib.rt:112:5
+copy-requires : tie.Need-copy-requires
+copy-requires c κs = ?
+
+-- src/lib.rt:113:16
+sub-copy : tie.Need-sub-copy
+sub-copy c = search needs
+
+-- src/lib.rt:113:16
+part-copy-start : tie.Need-part-copy-start
+part-copy-start c = search needs
+
+-- src/lib.rt:113:16
+part-copy-end : tie.Need-part-copy-end
+part-copy-end c = search needs
+
+-- src/lib.rt:113:5
+copy-requires-2 : tie.Need-copy-requires-2
+copy-requires-2 c κs = search needs
+
+-- src/lib.rt:106:1
+same-length : tie.Need-same-length
+same-length c = search needs
+
+-- src/lib.rt:106:1
+returns : tie.Need-returns
+returns c = ?
+
+pub write-frame-spec : {M : Type 1} → statement M
+write-frame-spec =
+    tie.close
+    (tie.spec
+    cast-t10
+    add-t11
+    heads-of-requires
+    add-end
+    slice-aggregate-copy
+    slice-relend-prefix-copy
+    slice-aggregate-copy-2
+    copy-requires
+    sub-copy
+    part-copy-start
+    part-copy-end
+    copy-requires-2
+    same-length
+    returns)
