@@ -2,3 +2,7 @@
 pub mod CopyLaws
 pub mod CutLaws
 pub mod FrameLaws
+pub mod LoopLaws
+pub mod EntryLaws
+pub mod OneAnswer
+pub mod Cases

@@ -86,7 +86,7 @@ fn segments_of(kind: u8, body: &[u8]) -> usize
 
 // All frames from the start of the output, which has room for them.
 fn write_frames(given: Given, n: u16, body: &[u8], out: &mut [u8])
-    requires { ⌜ (n ≡ length (segmentsOf (given .kind) (now body))) × (length (now body) ≤ longest (given .kind) .0) × (length (framesOf given (now body)) ≤ length (now out)) ⌝ }
+    requires { ⌜ (n ≡ length (segmentsOf (given .kind) (now body))) × (length (now body) ≤ 307200) × (length (framesOf given (now body)) ≤ length (now out)) ⌝ }
     ensures { λ r. ⌜ now (out .exit) ≡ framesOf given (now (body .entry)) ++ drop (length (framesOf given (now (body .entry)))) (now (out .entry)) ⌝ }
 {
     let mut k: u16 = 1;
@@ -104,7 +104,7 @@ fn write_frames(given: Given, n: u16, body: &[u8], out: &mut [u8])
 
 // One frame at the start of a part of the output.
 fn write_frame(given: Given, n: u16, k: u16, part: &[u8], out: &mut [u8])
-    requires { ⌜ (length (now part) ≤ 131052) × (28 + length (now part) ≤ length (now out)) ⌝ }
+    requires { ⌜ (length (now part) ≤ 307200) × (28 + length (now part) ≤ length (now out)) ⌝ }
     ensures { λ r. ⌜ now (out .exit) ≡ frameOf given n k (now (part .entry)) ++ drop (28 + length (now (part .entry))) (now (out .entry)) ⌝ }
 {
     let head = heads_of(given, n, k, Bytes(HEADER + part.len() as u32));

@@ -1,3 +1,9 @@
+use Rattle.writer.proofs.FrameLaws.{heads-length, frame-done}
+use Rattle.wire.specs.Sizes.{bytes}
+use denote.Ref.{now}
+use lib.Seq.{length-take-le}
+use lib.ListN.{length}
+use mathlib.Core.Path.{sym, ap, _∙_}
 use borrow.Author.Needs.{needs}
 use Rattle.writer.proofs.write_frame.Statement.{statement}
 use Rattle.writer.proofs.write_frame.Tie as tie
@@ -32,11 +38,13 @@ slice-relend-prefix-copy c = search needs
 
 -- src/lib.rt:112:17
 slice-aggregate-copy-2 : tie.Need-slice-aggregate-copy-2
-slice-aggregate-copy-2 c = ?
+slice-aggregate-copy-2 c = sym (length-take-le 28 (now (c .before .before .before .before .before .args .out)) (search needs))
 
 -- src/lib.rt:112:5
 copy-requires : tie.Need-copy-requires
-copy-requires c κs = ?
+copy-requires c κs =
+    ap length (c .before .before .heads-of .ensures) ∙ heads-length _ _ _ _
+    ∙ sym (length-take-le 28 (now (c .before .before .before .before .before .args .out)) (search needs))
 
 -- src/lib.rt:113:16
 sub-copy : tie.Need-sub-copy
@@ -60,7 +68,10 @@ same-length c = search needs
 
 -- src/lib.rt:106:1
 returns : tie.Need-returns
-returns c = ?
+returns c =
+    frame-done _ _ _ _ _ _ _
+    (c .before .before .before .before .before .before .copy .ensures ∙ c .before .before .before .before .before .before .before .before .before .heads-of .ensures)
+    (c .before .before .copy2 .ensures)
 
 pub write-frame-spec : {M : Type 1} → statement M
 write-frame-spec =
