@@ -5,4 +5,4 @@ pub mod FrameLaws
 pub mod LoopLaws
 pub mod EntryLaws
 pub mod OneAnswer
-pub mod Cases
+pub mod CaseTable

@@ -57,10 +57,11 @@ framesFrom given n k (part ∷ more) = frameOf given n k part ++ framesFrom give
 unfoldable pub framesOf : Given → List ℕ → List ℕ
 framesOf given body = framesFrom given (length (segmentsOf (given .kind) body)) 1 (segmentsOf (given .kind) body)
 
--- "body to write above 307,200 bytes, or above 131,052 for type 31": there, what a session body holds besides the header
+-- "body to write above 307,200 bytes,"
 abbrev pub longestBody : Bytes
 longestBody = bytes 307200
 
+-- "or above 131,052 for type 31": what a session body holds besides the message header
 abbrev pub longestRadial : Bytes
 longestRadial = bytes (sessionLimit .0 - headerSize)
 

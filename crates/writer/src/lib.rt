@@ -38,6 +38,7 @@ const LONGEST_RADIAL: usize = 131052;
 
 const RADIAL: u8 = 31;
 
+// The body as frames from the start of the output, and their length. Where it is refused nothing is written.
 pub fn write_message(given: Given, body: &[u8], out: &mut [u8]) -> WriteAnswer
     ensures { λ r. ⌜ Promise tellWrite (writeOf given (now (body .entry)) (now (out .entry))) r (now (out .exit)) ⌝ }
 {
