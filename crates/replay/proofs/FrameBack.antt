@@ -1,25 +1,23 @@
 -- One written frame, read: it passes every check, and gives its header, its data and what follows. Assumes nothing.
-use Prim.Native.Nat.{ℕ, zero, suc, _+_, _-_, _*_, _/_, _%_, _^_, _≤_, _<_}
+use Prim.Native.Nat.{ℕ, _+_, _/_, _%_, _≤_}
 use native.Mathlib.Omega.{arith}
-use mathlib.Core.Path.{_≡_, refl, sym, ap, subst, _∙_}
-use mathlib.Core.Bool.{Bool, true, false, not}
-use mathlib.Core.List.{List, [], _∷_, _++_, append-assoc}
-use lib.Dec.{ltb, eqb}
+use mathlib.Core.Path.{_≡_, refl, ap, _∙_}
+use mathlib.Core.Bool.{false}
+use mathlib.Core.List.{List, _++_}
 use lib.ListN.{length, take, drop, length-append}
 use lib.Seq.{take-at, drop-at}
-use borrow.Author.Tests.{lt-ltb, le-ltb, eq-eqb, ne-eqb}
-use Rattle.wire.specs.Checks.{both, Check, AllHold}
+use borrow.Author.Tests.{le-ltb, eq-eqb}
+use Rattle.wire.specs.Checks.{AllHold}
 use Rattle.wire.specs.Numbers.{num}
 use Rattle.wire.specs.Tables.{render, Fit}
 use Rattle.wire.specs.Sizes.{bytes, halved}
 use Rattle.wire.specs.declared.Bytes.{Bytes}
-use Rattle.wire.proofs.CheckLaws.{all-hold-join}
-use Rattle.frame.specs.Session.{headTable, dataKind, headSize, kindIn, sizeIn, bodyIn, after, frameChecks}
+use Rattle.frame.specs.Session.{headTable, dataKind, headSize, kindIn, sizeIn, bodyIn, after}
 use Rattle.frame.proofs.StreamLaws.{head-reads-back}
-use Rattle.message.specs.Header.{headerTable, headerSize, headerIn, dataIn, notPermitted, radialCut, segmentTooLarge, dateTooLow, timeTooHigh, valueChecks, headerChecks}
+use Rattle.message.specs.Header.{headerTable, headerIn, dataIn, notPermitted, radialCut, segmentTooLarge, dateTooLow, timeTooHigh, valueChecks, headerChecks}
 use Rattle.message.specs.declared.Header.{Header}
 use Rattle.message.proofs.HeaderLaws.{header-is}
-use Rattle.segments.specs.Segment.{Segment, segmentIn, ownChecks}
+use Rattle.segments.specs.Segment.{segmentIn, ownChecks}
 use Rattle.writer.specs.Writing.{headerFor, heads, frameOf}
 use Rattle.writer.specs.declared.Given.{Given}
 use Rattle.writer.proofs.FrameLaws.{frame-length}

@@ -1,16 +1,15 @@
 -- The segments of a body that may be written: each fits into a frame. Assumes nothing.
-use Prim.Native.Nat.{ℕ, zero, suc, _+_, _-_, _/_, _%_, _≤_, _<_}
+use Prim.Native.Nat.{ℕ, zero, suc, _+_, _-_, _/_, _%_, _≤_}
 use native.Mathlib.Omega.{arith}
-use mathlib.Core.Path.{_≡_, refl, sym, ap, _∙_}
+use mathlib.Core.Path.{_≡_, refl, ap, _∙_}
 use mathlib.Core.Bool.{Bool, true, false, not}
-use mathlib.Core.List.{List, [], _∷_, _++_}
+use mathlib.Core.List.{List, [], _∷_}
 use lib.Dec.{ltb, eqb}
 use lib.ListN.{length, take, drop, length-drop}
 use lib.Seq.{length-take-le}
-use borrow.Author.Tests.{le-ltb, ltb-true, ltb-false, eqb-true}
+use borrow.Author.Tests.{le-ltb, ltb-true, ltb-false}
 use Rattle.wire.specs.Checks.{pick, both}
-use Rattle.wire.specs.Sizes.{bytes, halved}
-use Rattle.message.specs.Header.{radialCut, segmentTooLarge}
+use Rattle.message.specs.Header.{radialCut}
 use Rattle.writer.specs.Writing.{cut, segmentsOf, longest, longestRadial, longestBody}
 use Rattle.replay.proofs.FrameBack.{PartFits}
 

@@ -1,19 +1,17 @@
 -- Demand 2, proved: what an accepted write put down comes back. Assumes nothing.
-use Prim.Native.Nat.{ℕ, _+_, _%_, _≤_, _<_}
+use Prim.Native.Nat.{ℕ, _%_, _≤_, _<_}
 use native.Mathlib.Omega.{arith}
-use mathlib.Core.Path.{_≡_, refl, sym, ap, _∙_}
-use mathlib.Core.Bool.{Bool, true, false, not}
-use mathlib.Core.List.{List, [], _∷_, _++_}
+use mathlib.Core.Path.{_≡_, refl, ap, _∙_}
+use mathlib.Core.List.{List, [], _++_}
 use lib.ListN.{length, take, drop}
 use lib.Seq.{take-at}
 use borrow.Author.Tests.{ltb-false, eqb-true, not-false}
 use Rattle.wire.specs.Sizes.{bytes}
 use Rattle.wire.specs.Checks.{AllHold}
-use Rattle.wire.specs.Answers.{given}
 use Rattle.wire.specs.declared.Bytes.{Bytes}
 use Rattle.wire.proofs.CheckLaws.{all-hold}
 use Rattle.wire.proofs.AnswerLaws.{outcome-given}
-use Rattle.segments.specs.Walk.{walk, finish, setOf}
+use Rattle.segments.specs.Walk.{finish, setOf}
 use Rattle.segments.specs.Theorems.{accepted}
 use Rattle.writer.specs.Writing.{segmentsOf, framesFrom, framesOf, longest, writeChecks, writeOf}
 use Rattle.writer.specs.declared.Given.{Given}

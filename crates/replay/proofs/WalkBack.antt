@@ -1,20 +1,18 @@
 -- All frames of a written message, walked: the segments met are those that were written, in order. Assumes nothing.
 use Prim.Native.Nat.{ℕ, zero, suc, _+_, _≤_, _<_}
 use native.Mathlib.Omega.{arith}
-use native.Mathlib.Numerals.{add-one}
 use mathlib.Core.Path.{_≡_, refl, sym, ap, subst, _∙_}
-use mathlib.Core.Bool.{Bool, true, false, not}
-use mathlib.Core.Option.{Option, none, some}
+use mathlib.Core.Bool.{false, not}
+use mathlib.Core.Option.{none}
 use mathlib.Core.List.{List, [], _∷_, _++_, append-assoc, append-nil}
-use lib.Dec.{ltb, eqb}
+use lib.Dec.{eqb}
 use lib.ListN.{length, length-append}
 use borrow.Author.Tests.{eq-eqb, ne-eqb}
-use Rattle.wire.specs.Checks.{pick, Check, check, first, decide, AllHold}
+use Rattle.wire.specs.Checks.{Check, check, AllHold}
 use Rattle.wire.specs.Sizes.{bytes}
-use Rattle.wire.specs.Answers.{Answer, refused, given}
+use Rattle.wire.specs.Answers.{refused, given}
 use Rattle.wire.proofs.CheckLaws.{decide-none, none-broken, all-hold-join}
 use Rattle.frame.specs.Session.{after}
-use Rattle.message.specs.declared.Header.{Header}
 use Rattle.segments.specs.Segment.{Segment, segmentIn, ownChecks, agreeChecks, numbered, found}
 use Rattle.segments.specs.Walk.{firstOr, seen, turnChecks, walk}
 use Rattle.writer.specs.Writing.{headerFor, frameOf, framesFrom}

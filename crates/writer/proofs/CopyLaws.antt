@@ -2,10 +2,10 @@
 use Prim.Native.Nat.{ℕ, suc, _+_, _≤_, _<_}
 use native.Mathlib.Omega.{arith}
 use native.Mathlib.Numerals.{add-one}
-use mathlib.Core.Path.{_≡_, refl, sym, ap, _∙_}
+use mathlib.Core.Path.{_≡_, sym, ap, _∙_}
 use mathlib.Core.List.{List, [], _∷_, _++_, append-assoc, append-nil}
 use lib.ListN.{length, getD, take, drop, set, length-set, drop-of-length-le}
-use lib.Seq.{drop-cons, take-suc, set-at, length-take-le, take-all, drop-length}
+use lib.Seq.{drop-cons, take-suc, set-at, length-take-le, take-all}
 
 -- so far copied: the first i of the one before the rest of the other
 abbrev pub Copied : List ℕ → List ℕ → List ℕ → ℕ → Type 0

@@ -5,8 +5,8 @@ use mathlib.Core.Path.{_≡_, refl, sym, ap, _∙_}
 use mathlib.Core.List.{List, [], _∷_, _++_}
 use lib.Dec.{ltb}
 use lib.ListN.{length, drop}
-use Rattle.wire.specs.Checks.{pick, Check, check, decide, someBroken}
-use Rattle.wire.specs.Answers.{Answer, given, Outcome, refusal, Promise}
+use Rattle.wire.specs.Checks.{pick, check, someBroken}
+use Rattle.wire.specs.Answers.{given, Outcome, refusal, Promise}
 use Rattle.wire.specs.Sizes.{bytes, odd}
 use Rattle.wire.specs.declared.Bytes.{Bytes}
 use Rattle.wire.proofs.CheckLaws.{decide-same}

@@ -1,15 +1,14 @@
 -- Laws of one written frame: its length, and the output after it is written. Assumes nothing.
-use Prim.Native.Nat.{ℕ, _+_, _-_, _*_, _≤_}
+use Prim.Native.Nat.{ℕ, _+_, _-_, _*_}
 use native.Mathlib.Omega.{arith}
 use mathlib.Core.Path.{_≡_, refl, sym, ap, _∙_}
-use mathlib.Core.List.{List, [], _∷_, _++_, append-assoc, append-nil}
-use lib.ListN.{length, take, drop, length-append, length-drop, drop-of-length-le}
-use lib.Seq.{take-at, drop-at, drop-drop, length-take-le}
+use mathlib.Core.List.{List, [], _∷_, _++_, append-assoc}
+use lib.ListN.{length, take, drop, length-append}
+use lib.Seq.{take-at, drop-at, drop-drop}
 use Rattle.wire.specs.Sizes.{bytes}
 use Rattle.wire.specs.declared.Bytes.{Bytes}
-use Rattle.wire.proofs.ListLaws.{part-is}
 use Rattle.writer.specs.declared.Given.{Given}
-use Rattle.writer.specs.Writing.{heads, frameOf, framesFrom, framesOf, segmentsOf}
+use Rattle.writer.specs.Writing.{heads, frameOf, framesFrom}
 use Rattle.writer.proofs.CutLaws.{joined}
 
 pub heads-length : (given : Given) (n k : ℕ) (size : Bytes) → length (heads given n k size) ≡ 28

@@ -1,5 +1,5 @@
+-- `write_frame` meets its contract: the heads, then the data, and the rest as it was. Assumes nothing.
 use Rattle.writer.proofs.FrameLaws.{heads-length, frame-done}
-use Rattle.wire.specs.Sizes.{bytes}
 use denote.Ref.{now}
 use lib.Seq.{length-take-le}
 use lib.ListN.{length}
@@ -7,66 +7,48 @@ use mathlib.Core.Path.{sym, ap, _∙_}
 use borrow.Author.Needs.{needs}
 use Rattle.writer.proofs.write_frame.Statement.{statement}
 use Rattle.writer.proofs.write_frame.Tie as tie
-use Rattle.writer.proofs.write_frame.Reads as reads
-use Rattle.writer.proofs.write_frame.Lts as lts
-use Rattle.writer.proofs.copy.Reads as copy-reads
-use Rattle.writer.proofs.heads_of.Reads as heads-of-reads
 
--- src/lib.rt:110:53
 cast-t10 : tie.Need-cast-t10
 cast-t10 c = search needs
 
--- src/lib.rt:110:44
 add-t11 : tie.Need-add-t11
 add-t11 c = search needs
 
--- src/lib.rt:110:16
 heads-of-requires : tie.Need-heads-of-requires
 heads-of-requires c κs = search needs
 
--- src/lib.rt:111:15
 add-end : tie.Need-add-end
 add-end c = search needs
 
--- src/lib.rt:112:10
 slice-aggregate-copy : tie.Need-slice-aggregate-copy
 slice-aggregate-copy c = search needs
 
--- src/lib.rt:112:17
 slice-relend-prefix-copy : tie.Need-slice-relend-prefix-copy
 slice-relend-prefix-copy c = search needs
 
--- src/lib.rt:112:17
 slice-aggregate-copy-2 : tie.Need-slice-aggregate-copy-2
 slice-aggregate-copy-2 c = sym (length-take-le 28 (now (c .before .before .before .before .before .args .out)) (search needs))
 
--- src/lib.rt:112:5
 copy-requires : tie.Need-copy-requires
 copy-requires c κs =
     ap length (c .before .before .heads-of .ensures) ∙ heads-length _ _ _ _
     ∙ sym (length-take-le 28 (now (c .before .before .before .before .before .args .out)) (search needs))
 
--- src/lib.rt:113:16
 sub-copy : tie.Need-sub-copy
 sub-copy c = search needs
 
--- src/lib.rt:113:16
 part-copy-start : tie.Need-part-copy-start
 part-copy-start c = search needs
 
--- src/lib.rt:113:16
 part-copy-end : tie.Need-part-copy-end
 part-copy-end c = search needs
 
--- src/lib.rt:113:5
 copy-requires-2 : tie.Need-copy-requires-2
 copy-requires-2 c κs = search needs
 
--- src/lib.rt:106:1
 same-length : tie.Need-same-length
 same-length c = search needs
 
--- src/lib.rt:106:1
 returns : tie.Need-returns
 returns c =
     frame-done _ _ _ _ _ _ _

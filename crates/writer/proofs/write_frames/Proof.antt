@@ -1,3 +1,4 @@
+-- `write_frames` meets its contract: a turn of its loop writes one frame more, and the last part follows. Assumes nothing.
 use Rattle.writer.proofs.LoopLaws.{ends-kept}
 use Rattle.writer.proofs.LoopLaws.{Writing, begins, kept, long, turn-fits, turn-suits, again, last-suits, last-fits, ends}
 use native.Mathlib.Omega.{arith}
@@ -5,9 +6,6 @@ use Prim.Native.Nat.{_-_}
 use borrow.Author.Needs.{needs}
 use Rattle.writer.proofs.write_frames.Statement.{statement}
 use Rattle.writer.proofs.write_frames.Tie as tie
-use Rattle.writer.proofs.write_frames.Reads as reads
-use Rattle.writer.proofs.write_frames.Lts as lts
-use Rattle.writer.proofs.write_frame.Reads as write-frame-reads
 
 abbrev Inv-loop : tie.InvT-loop
 Inv-loop given n body out₀ k₀ start₀ place₀ out k start place = Writing given n body out₀ out k start place
@@ -15,95 +13,72 @@ Inv-loop given n body out₀ k₀ start₀ place₀ out k start place = Writing 
 abbrev μ-loop : tie.MeasureT-loop
 μ-loop given n body out₀ k₀ start₀ place₀ out k start place = n - k
 
--- src/lib.rt:95:5
 loop-holds : tie.Need-loop-holds Inv-loop μ-loop
 loop-holds c = begins _ _ _ _ (c .before .before .pre .0) (c .before .before .pre .2)
 
--- src/lib.rt:96:19
 add-end : tie.Need-add-end Inv-loop μ-loop
 add-end c = omega (arith, long _ _ _ _ _ _ _ _ (c .before .loop .inv) (c .loop-test .taken))
 
--- src/lib.rt:97:34
 sub-write-frame : tie.Need-sub-write-frame Inv-loop μ-loop
 sub-write-frame c = search needs
 
--- src/lib.rt:97:34
 part-write-frame-start : tie.Need-part-write-frame-start Inv-loop μ-loop
 part-write-frame-start c = search needs
 
--- src/lib.rt:97:34
 part-write-frame-end : tie.Need-part-write-frame-end Inv-loop μ-loop
 part-write-frame-end c = long _ _ _ _ _ _ _ _ (c .before .loop .inv) (c .loop-test .taken)
 
--- src/lib.rt:97:53
 sub-write-frame-2 : tie.Need-sub-write-frame-2 Inv-loop μ-loop
 sub-write-frame-2 c = omega (arith, turn-fits _ _ _ _ _ _ _ _ (c .before .before .loop .inv) (c .before .loop-test .taken), kept _ _ _ _ _ _ _ _ (c .before .before .loop .inv))
 
--- src/lib.rt:97:53
 part-write-frame-start-2 : tie.Need-part-write-frame-start-2 Inv-loop μ-loop
 part-write-frame-start-2 c = omega (arith, turn-fits _ _ _ _ _ _ _ _ (c .before .before .loop .inv) (c .before .loop-test .taken), kept _ _ _ _ _ _ _ _ (c .before .before .loop .inv))
 
--- src/lib.rt:97:53
 part-write-frame-end-2 : tie.Need-part-write-frame-end-2 Inv-loop μ-loop
 part-write-frame-end-2 c = search needs
 
--- src/lib.rt:97:9
 write-frame-requires : tie.Need-write-frame-requires Inv-loop μ-loop
 write-frame-requires c κs = turn-suits _ _ _ _ _ _ _ _ (c .before .before .before .loop .inv) (c .before .before .loop-test .taken)
 
--- src/lib.rt:98:17
 add-place : tie.Need-add-place Inv-loop μ-loop
 add-place c = omega (arith, turn-fits _ _ _ _ _ _ _ _ (c .before .before .before .before .before .before .loop .inv) (c .before .before .before .before .before .loop-test .taken))
 
--- src/lib.rt:98:17
 add-place-2 : tie.Need-add-place-2 Inv-loop μ-loop
 add-place-2 c = omega (arith, turn-fits _ _ _ _ _ _ _ _ (c .before .before .before .before .before .before .loop .inv) (c .before .before .before .before .before .loop-test .taken))
 
--- src/lib.rt:100:9
 add-k : tie.Need-add-k Inv-loop μ-loop
 add-k c = search needs
 
--- src/lib.rt:95:5
 loop-less : tie.Need-loop-less Inv-loop μ-loop
 loop-less c = search needs
 
--- src/lib.rt:95:5
 loop-again : tie.Need-loop-again Inv-loop μ-loop
 loop-again c = again _ _ _ _ _ _ _ _ (c .before .before .before .before .before .before .loop .inv) (c .before .before .before .before .before .loop-test .taken) _ (c .before .before .write-frame .ensures)
 
--- src/lib.rt:102:30
 sub-write-frame-3 : tie.Need-sub-write-frame-3 Inv-loop μ-loop
 sub-write-frame-3 c = search needs
 
--- src/lib.rt:102:30
 part-write-frame-start-3 : tie.Need-part-write-frame-start-3 Inv-loop μ-loop
 part-write-frame-start-3 c = search needs
 
--- src/lib.rt:102:30
 part-write-frame-end-3 : tie.Need-part-write-frame-end-3 Inv-loop μ-loop
 part-write-frame-end-3 c = search needs
 
--- src/lib.rt:102:46
 sub-write-frame-4 : tie.Need-sub-write-frame-4 Inv-loop μ-loop
 sub-write-frame-4 c = last-fits _ _ _ _ _ _ _ _ (c .before .before .loop .inv) (c .before .loop-test .left)
 
--- src/lib.rt:102:46
 part-write-frame-start-4 : tie.Need-part-write-frame-start-4 Inv-loop μ-loop
 part-write-frame-start-4 c = last-fits _ _ _ _ _ _ _ _ (c .before .before .loop .inv) (c .before .loop-test .left)
 
--- src/lib.rt:102:46
 part-write-frame-end-4 : tie.Need-part-write-frame-end-4 Inv-loop μ-loop
 part-write-frame-end-4 c = search needs
 
--- src/lib.rt:102:5
 write-frame-requires-2 : tie.Need-write-frame-requires-2 Inv-loop μ-loop
 write-frame-requires-2 c κs = last-suits _ _ _ _ _ _ _ _ (c .before .before .before .loop .inv) (c .before .before .loop-test .left) (c .before .before .before .before .before .before .pre .1)
 
--- src/lib.rt:88:1
 same-length : tie.Need-same-length Inv-loop μ-loop
 same-length c = ends-kept _ _ _ _ _ _ _ _ (c .before .before .before .before .before .before .loop .inv) (c .before .before .before .before .before .loop-test .left) _ (c .before .before .write-frame2 .ensures)
 
--- src/lib.rt:88:1
 returns : tie.Need-returns Inv-loop μ-loop
 returns c = ends _ _ _ _ _ _ _ _ (c .before .before .before .before .before .before .loop .inv) (c .before .before .before .before .before .loop-test .left) _ (c .before .before .write-frame2 .ensures)
 

@@ -1,26 +1,17 @@
+-- `write_message` meets its contract: one test for each number, in the rule's order. Assumes nothing.
 use Rattle.writer.proofs.EntryLaws.{whole-is, most, write-decides, promised}
 use Rattle.writer.specs.declared.WriteAnswer.the-variants.{Refused}
 use borrow.Author.Tests.{lt-ltb, le-ltb, eq-eqb, ne-eqb}
-use lib.ListN.{length}
-use mathlib.Core.Path.{_∙_, sym}
+use mathlib.Core.Path.{_∙_}
 use native.Mathlib.Omega.{arith}
 use denote.Ref.{now}
 use borrow.Author.Needs.{needs}
 use Rattle.writer.proofs.write_message.Statement.{statement}
 use Rattle.writer.proofs.write_message.Tie as tie
-use Rattle.writer.proofs.write_message.Reads as reads
-use Rattle.writer.proofs.write_message.Lts as lts
-use Rattle.message.proofs.breaks_time.Reads as breaks-time-reads
-use Rattle.message.proofs.breaks_type.Reads as breaks-type-reads
-use Rattle.writer.proofs.longest_of.Reads as longest-of-reads
-use Rattle.writer.proofs.segments_of.Reads as segments-of-reads
-use Rattle.writer.proofs.write_frames.Reads as write-frames-reads
 
--- src/lib.rt:44:8
 breaks-type-requires : tie.Need-breaks-type-requires
 breaks-type-requires c κs = search needs
 
--- src/lib.rt:45:9
 returns : tie.Need-returns
 returns c =
     let a = c .before .before .before .before .args in
@@ -31,11 +22,9 @@ returns c =
       c .if1 .taken,
     ))
 
--- src/lib.rt:47:8
 breaks-time-requires : tie.Need-breaks-time-requires
 breaks-time-requires c κs = search needs
 
--- src/lib.rt:48:9
 returns-2 : tie.Need-returns-2
 returns-2 c =
     let a = c .before .before .before .before .before .before .args in
@@ -48,7 +37,6 @@ returns-2 c =
       c .if2 .taken,
     ))
 
--- src/lib.rt:51:9
 returns-3 : tie.Need-returns-3
 returns-3 c =
     let a = c .before .before .before .before .before .before .before .args in
@@ -62,11 +50,9 @@ returns-3 c =
       ne-eqb _ _ (c .if3 .taken),
     ))
 
--- src/lib.rt:53:8
 longest-of-requires : tie.Need-longest-of-requires
 longest-of-requires c κs = search needs
 
--- src/lib.rt:54:9
 returns-4 : tie.Need-returns-4
 returns-4 c =
     let a = c .before .before .before .before .before .before .before .before .before .args in
@@ -82,23 +68,19 @@ returns-4 c =
       lt-ltb _ _ (c .if4 .taken),
     ))
 
--- src/lib.rt:56:9
 segments-of-requires : tie.Need-segments-of-requires
 segments-of-requires c κs = search needs
 
--- src/lib.rt:57:30
 mul-whole : tie.Need-mul-whole
 mul-whole c =
     let a = c .before .before .before .before .before .before .before .before .before .before .args in
     omega (arith, most (a .given .kind) (now (a .body)) _ _ (c .before .before .longest-of .ensures) (c .before .if4 .left) (c .segments-of .ensures))
 
--- src/lib.rt:57:17
 add-whole : tie.Need-add-whole
 add-whole c =
     let a = c .before .before .before .before .before .before .before .before .before .before .args in
     omega (arith, most (a .given .kind) (now (a .body)) _ _ (c .before .before .longest-of .ensures) (c .before .if4 .left) (c .segments-of .ensures))
 
--- src/lib.rt:59:9
 returns-5 : tie.Need-returns-5
 returns-5 c =
     let a = c .before .before .before .before .before .before .before .before .before .before .before .args in
@@ -116,13 +98,11 @@ returns-5 c =
       lt-ltb _ _ (c .if5 .taken),
     ))
 
--- src/lib.rt:61:25
 cast-write-frames : tie.Need-cast-write-frames
 cast-write-frames c =
     let a = c .before .before .before .before .before .before .before .before .before .before .before .args in
     omega (arith, most (a .given .kind) (now (a .body)) _ _ (c .before .before .before .longest-of .ensures) (c .before .before .if4 .left) (c .before .segments-of .ensures))
 
--- src/lib.rt:61:5
 write-frames-requires : tie.Need-write-frames-requires
 write-frames-requires c κs =
     let a = c .before .before .before .before .before .before .before .before .before .before .before .before .args in (
@@ -131,17 +111,14 @@ write-frames-requires c κs =
       rw (← whole-is (a .given) (now (a .body)) _ (c .before .before .segments-of .ensures)) (c .before .if5 .left),
     )
 
--- src/lib.rt:62:32
 cast-t15 : tie.Need-cast-t15
 cast-t15 c =
     let a = c .before .before .before .before .before .before .before .before .before .before .before .before .before .before .before .args in
     omega (arith, most (a .given .kind) (now (a .body)) _ _ (c .before .before .before .before .before .before .before .longest-of .ensures) (c .before .before .before .before .before .before .if4 .left) (c .before .before .before .before .before .segments-of .ensures))
 
--- src/lib.rt:41:1
 same-length : tie.Need-same-length
 same-length c = search needs
 
--- src/lib.rt:41:1
 returns-6 : tie.Need-returns-6
 returns-6 c =
     let a = c .before .before .before .before .before .before .before .before .before .before .before .before .before .before .before .args in
