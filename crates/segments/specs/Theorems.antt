@@ -1,0 +1,39 @@
+-- What is proved of sets, as statements.
+use Prim.Native.Nat.{ℕ, _+_, _≤_}
+use mathlib.Core.Path.{_≡_}
+use mathlib.Core.Logic.{_↔_}
+use mathlib.Core.List.{List, flatten, List·Memᴰ, List·Permᴰ}
+use lib.ListN.{length, take}
+use Rattle.wire.specs.Answers.{Answer, refused, given, Outcome}
+use Rattle.wire.specs.Sizes.{bytes}
+use Rattle.frame.specs.Session.{headSize, sizeIn}
+use Rattle.message.specs.declared.Header.{Header}
+use Rattle.segments.specs.Walk.{SetSays, filled, setOf}
+use Rattle.segments.specs.Whole.{Whole}
+
+-- the outcome that accepts: segment 1's header h, and the body with its length at the start of the output
+abbrev pub accepted : Header → List ℕ → List ℕ → Outcome SetSays
+accepted h body out = record { answer = given (record { header = h; long = bytes (length body) }); output = filled body out }
+
+-- a set is accepted exactly if it is whole and the output has room for its body
+abbrev pub AcceptedExactlyIfWhole : Type 0
+AcceptedExactlyIfWhole = (frames out : List ℕ) (h : Header) (body : List ℕ)
+    → (setOf frames out ≡ accepted h body out) ↔ (Whole frames h body × (length body ≤ length out))
+
+-- a set's answer does not depend on what the output held before, only on how long it is; nor do the bytes of the body
+abbrev pub AnswerApartFromOutput : Type 0
+AnswerApartFromOutput = (frames out out′ : List ℕ) → length out ≡ length out′
+    → (setOf frames out .answer ≡ setOf frames out′ .answer)
+    × ((s : SetSays) → setOf frames out .answer ≡ given s → take (s .long .0) (setOf frames out .output) ≡ take (s .long .0) (setOf frames out′ .output))
+
+-- every one of these is a whole frame: as many bytes as its own head says
+abbrev pub WholeFrames : List (List ℕ) → Type 0
+WholeFrames each = (f : List ℕ) → List·Memᴰ f each → length f ≡ headSize + sizeIn f .0
+
+-- if a set is accepted, any rearrangement of its whole frames, with output of the same length, is accepted with the same header and body;
+-- one refused as 12 or as 13 is refused by the same number in every rearrangement
+abbrev pub AnyOrder : Type 0
+AnyOrder = (each each′ : List (List ℕ)) (out out′ : List ℕ) → List·Permᴰ each each′ → WholeFrames each → length out ≡ length out′
+    → ((h : Header) (body : List ℕ) → setOf (flatten each) out ≡ accepted h body out → setOf (flatten each′) out′ ≡ accepted h body out′)
+    × (setOf (flatten each) out .answer ≡ refused 12 → setOf (flatten each′) out′ .answer ≡ refused 12)
+    × (setOf (flatten each) out .answer ≡ refused 13 → setOf (flatten each′) out′ .answer ≡ refused 13)

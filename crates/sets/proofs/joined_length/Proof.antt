@@ -1,0 +1,81 @@
+use denote.Ref.{now}
+use native.Mathlib.Omega.{arith}
+use mathlib.Core.Path.{_≡_, refl, subst}
+use Prim.Native.Nat.{ℕ, _-_, _*_, _≤_}
+use Rattle.frame.specs.Session.{sessionLimit}
+use Rattle.sets.specs.Arrays.{partsLong}
+use Rattle.sets.proofs.ArrayLaws.{long-more}
+use borrow.Author.Needs.{needs}
+use Rattle.sets.proofs.joined_length.Statement.{statement}
+use Rattle.sets.proofs.joined_length.Tie as tie
+use Rattle.sets.proofs.joined_length.Reads as reads
+use Rattle.sets.proofs.joined_length.Lts as lts
+
+abbrev Inv-loop : tie.InvT-loop
+Inv-loop starts ends n sum₀ k₀ sum k = (k ≤ n) × (sum ≡ partsLong starts ends k) × (sum ≤ k * sessionLimit .0)
+
+abbrev μ-loop : tie.MeasureT-loop
+μ-loop starts ends n sum₀ k₀ sum k = n - k
+
+-- src/lib.rt:212:5
+loop-holds : tie.Need-loop-holds Inv-loop μ-loop
+unfolding partsLong
+loop-holds c = (omega arith, refl, omega arith)
+
+-- src/lib.rt:213:16
+mul-sum : tie.Need-mul-sum Inv-loop μ-loop
+mul-sum c = omega arith
+
+-- src/lib.rt:213:16
+element-copy-out-sum : tie.Need-element-copy-out-sum Inv-loop μ-loop
+element-copy-out-sum c = omega arith
+
+-- src/lib.rt:213:26
+mul-sum-2 : tie.Need-mul-sum-2 Inv-loop μ-loop
+mul-sum-2 c = omega arith
+
+-- src/lib.rt:213:26
+element-copy-out-sum-2 : tie.Need-element-copy-out-sum-2 Inv-loop μ-loop
+element-copy-out-sum-2 c = omega arith
+
+-- src/lib.rt:213:16
+sub-sum : tie.Need-sub-sum Inv-loop μ-loop
+sub-sum c = (c .before .before .before .before .pre .1 (c .before .before .before .loop .k) (omega arith)) .0
+
+-- src/lib.rt:213:9
+add-sum : tie.Need-add-sum Inv-loop μ-loop
+add-sum c = omega (arith, (c .before .before .before .before .pre .1 (c .before .before .before .loop .k) (omega arith)))
+
+-- src/lib.rt:214:9
+add-k : tie.Need-add-k Inv-loop μ-loop
+add-k c = omega arith
+
+-- src/lib.rt:212:5
+loop-less : tie.Need-loop-less Inv-loop μ-loop
+loop-less c = omega arith
+
+-- src/lib.rt:212:5
+loop-again : tie.Need-loop-again Inv-loop μ-loop
+loop-again c = (omega arith, omega (arith, long-more (now (c .before .before .before .before .args .starts)) (now (c .before .before .before .before .args .ends)) (c .before .before .before .loop .k)), omega (arith, (c .before .before .before .before .pre .1 (c .before .before .before .loop .k) (omega arith))))
+
+-- src/lib.rt:206:1
+returns : tie.Need-returns Inv-loop μ-loop
+returns c = let e : c .before .loop .k ≡ c .before .before .args .n = omega arith in subst (λ (i : ℕ). (c .before .loop .sum ≡ partsLong (now (c .before .before .args .starts)) (now (c .before .before .args .ends)) i) × (c .before .loop .sum ≤ i * sessionLimit .0)) e (c .before .loop .inv .1, c .before .loop .inv .2)
+
+pub joined-length-spec : {M : Type 1} → statement M
+joined-length-spec =
+    tie.close
+    (tie.spec
+    Inv-loop
+    μ-loop
+    loop-holds
+    mul-sum
+    element-copy-out-sum
+    mul-sum-2
+    element-copy-out-sum-2
+    sub-sum
+    add-sum
+    add-k
+    loop-less
+    loop-again
+    returns)

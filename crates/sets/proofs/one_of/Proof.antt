@@ -1,0 +1,17 @@
+use borrow.Author.Tests.{eq-eqb, ne-eqb}
+use borrow.Author.Needs.{needs}
+use Rattle.sets.proofs.one_of.Statement.{statement}
+use Rattle.sets.proofs.one_of.Tie as tie
+use Rattle.sets.proofs.one_of.Reads as reads
+use Rattle.sets.proofs.one_of.Lts as lts
+
+-- src/lib.rt:110:9
+returns : tie.Need-returns
+returns c = simp (eq-eqb _ _ (c .if1 .taken))
+
+-- src/lib.rt:106:1
+returns-2 : tie.Need-returns-2
+returns-2 c = simp (ne-eqb _ _ (c .if1 .left))
+
+pub one-of-spec : {M : Type 1} → statement M
+one-of-spec = tie.close (tie.spec returns returns-2)

@@ -1,0 +1,272 @@
+// A buffer of frames, in any order, joined into a lent output. Two passes: the first walks the frames and remembers where each segment's
+// data lies, the second copies. Nothing is written before 12 and 13 are known.
+ghost use mathlib.Core.Path.{_≡_};
+ghost use mathlib.Core.List.{[]};
+ghost use Prim.Native.Nat.{_*_, _≤_};
+ghost use lib.Dec.{eqb};
+ghost use lib.ListN.{length};
+ghost use Rattle.wire.specs.Checks.{pick, someBroken};
+ghost use Rattle.wire.specs.Answers.{Promise};
+ghost use Rattle.frame.specs.Session.{sessionLimit};
+ghost use Rattle.message.specs.Header.{mostSegments};
+ghost use Rattle.segments.specs.Segment.{segmentIn, agreeChecks};
+ghost use Rattle.segments.specs.Walk.{filled, setOf};
+ghost use Rattle.sets.specs.Promises.{tellSet};
+ghost use Rattle.sets.specs.Arrays.{SegmentRead, TurnTaken, Blank, Gathers, Parts, Within, allSet, partsLong, parts};
+use frame::FrameAnswer;
+use message::Header;
+use message::HeaderAnswer;
+use wire::Bytes;
+use wire::Halfwords;
+use wire::refusal;
+
+// Segment 1's header, and the length of the joined data.
+pub enum SetAnswer {
+    Set(Header, Bytes),
+    Refused(u8),
+}
+
+const DATA: u32 = 2;
+
+const HEADER: usize = 16;
+
+// The header of the set's first frame, and that of segment 1.
+struct Heads {
+    first: Header,
+    one: Header,
+}
+
+// A segment in the buffer: its header, where its data begins, and where its frame ends.
+enum SegmentAnswer {
+    Read(Header, usize, usize),
+    Refused(u8),
+}
+
+enum Turn {
+    Next(Heads, usize),
+    Refused(u8),
+}
+
+enum Gathered {
+    Ended(Heads),
+    Refused(u8),
+}
+
+fn segment_at(frames: &[u8], at: usize) -> SegmentAnswer
+    ensures { λ r. ⌜ SegmentRead (now (frames .entry)) at r ⌝ }
+{
+    match frame::frame_at(frames, at) {
+        FrameAnswer::End => SegmentAnswer::Refused(refusal::FRAME_CUT_OFF),
+        FrameAnswer::Refused(n) => SegmentAnswer::Refused(n),
+        FrameAnswer::Read(f) => {
+            if f.kind != DATA {
+                return SegmentAnswer::Refused(refusal::NOT_DATA);
+            }
+            let start = f.start;
+            let next = f.next;
+            match message::read_header(&frames[start..next]) {
+                HeaderAnswer::Refused(n) => SegmentAnswer::Refused(n),
+                HeaderAnswer::Read(h) => SegmentAnswer::Read(h, start + HEADER, next),
+            }
+        }
+    }
+}
+
+// Whether a header disagrees with the first one.
+fn disagrees(first: Header, h: Header) -> bool
+    ensures { λ r. ⌜ r ≡ someBroken (agreeChecks first h) ⌝ }
+{
+    if h.channel != first.channel {
+        return true;
+    }
+    if h.kind != first.kind {
+        return true;
+    }
+    if h.date != first.date {
+        return true;
+    }
+    if h.milliseconds != first.milliseconds {
+        return true;
+    }
+    h.segments != first.segments
+}
+
+// The first frame's header: this one, if it stands at the buffer's start.
+fn first_of(at: usize, first: Header, h: Header) -> Header
+    ensures { λ r. ⌜ r ≡ pick (eqb at 0) h first ⌝ }
+{
+    if at == 0 {
+        return h;
+    }
+    first
+}
+
+// Segment 1's header: this one, if it has the number 1.
+fn one_of(one: Header, h: Header) -> Header
+    ensures { λ r. ⌜ r ≡ pick (eqb (h .number) 1) h one ⌝ }
+{
+    if h.number == 1 {
+        return h;
+    }
+    one
+}
+
+// One frame's turn: it is refused, or its number is set as seen and the place of its data remembered.
+fn take_turn(
+    frames: &[u8],
+    at: usize,
+    heads: Heads,
+    flags: &mut [bool; 128],
+    starts: &mut [usize; 128],
+    ends: &mut [usize; 128],
+) -> Turn
+    ensures { λ r. ⌜ TurnTaken (now (frames .entry)) at heads (now (flags .entry)) (now (starts .entry)) (now (ends .entry)) (now (flags .exit)) (now (starts .exit)) (now (ends .exit)) r ⌝ }
+{
+    match segment_at(frames, at) {
+        SegmentAnswer::Refused(n) => Turn::Refused(n),
+        SegmentAnswer::Read(h, start, next) => {
+            let lead = heads.first;
+            let first = first_of(at, lead, h);
+            if disagrees(first, h) {
+                return Turn::Refused(refusal::DISAGREES);
+            }
+            let k = h.number as usize - 1;
+            if flags[k] {
+                return Turn::Refused(refusal::ALREADY_SEEN);
+            }
+            flags[k] = true;
+            starts[k] = start;
+            ends[k] = next;
+            let met = heads.one;
+            let one = one_of(met, h);
+            Turn::Next(Heads { first, one }, next)
+        }
+    }
+}
+
+// The header that no bytes spell: what is told of where no segment was met.
+fn no_header() -> Header
+    ensures { λ r. ⌜ r ≡ segmentIn [] .header ⌝ }
+{
+    Header {
+        size: Halfwords(0),
+        channel: 0,
+        kind: 0,
+        sequence: 0,
+        date: 0,
+        milliseconds: 0,
+        segments: 0,
+        number: 0,
+    }
+}
+
+// The first pass: each frame in turn, to the end of the buffer.
+fn gather(
+    frames: &[u8],
+    flags: &mut [bool; 128],
+    starts: &mut [usize; 128],
+    ends: &mut [usize; 128],
+) -> Gathered
+    requires { ⌜ Blank (now flags) (now starts) (now ends) ⌝ }
+    ensures { λ r. ⌜ Gathers (now (frames .entry)) (now (flags .exit)) (now (starts .exit)) (now (ends .exit)) r ⌝ }
+{
+    let mut at = 0;
+    let mut heads = Heads {
+        first: no_header(),
+        one: no_header(),
+    };
+    while at < frames.len() {
+        match take_turn(frames, at, heads, flags, starts, ends) {
+            Turn::Refused(n) => return Gathered::Refused(n),
+            Turn::Next(h, next) => {
+                heads = h;
+                at = next;
+            }
+        }
+    }
+    Gathered::Ended(heads)
+}
+
+// Whether the first n numbers were all seen.
+fn all_seen(flags: &[bool; 128], n: usize) -> bool
+    requires { ⌜ n ≤ mostSegments ⌝ }
+    ensures { λ r. ⌜ r ≡ allSet (now (flags .entry)) n ⌝ }
+{
+    let mut k = 0;
+    while k < n {
+        if !flags[k] {
+            return false;
+        }
+        k += 1;
+    }
+    true
+}
+
+// The length of the first n segments' data joined.
+fn joined_length(starts: &[usize; 128], ends: &[usize; 128], n: usize) -> usize
+    requires { ⌜ (n ≤ mostSegments) × Parts (now starts) (now ends) ⌝ }
+    ensures { λ r. ⌜ (r ≡ partsLong (now (starts .entry)) (now (ends .entry)) n) × (r ≤ n * sessionLimit .0) ⌝ }
+{
+    let mut sum = 0;
+    let mut k = 0;
+    while k < n {
+        sum += ends[k] - starts[k];
+        k += 1;
+    }
+    sum
+}
+
+fn copy(from: &[u8], to: &mut [u8])
+    requires { ⌜ length (now from) ≡ length (now to) ⌝ }
+    ensures { λ r. ⌜ now (to .exit) ≡ now (from .entry) ⌝ }
+{
+    let mut i = 0;
+    while i < to.len() {
+        to[i] = from[i];
+        i += 1;
+    }
+}
+
+// The second pass: the data of segments 1 to n, one after the other from the output's start.
+fn join(frames: &[u8], starts: &[usize; 128], ends: &[usize; 128], n: usize, out: &mut [u8])
+    requires { ⌜ (n ≤ mostSegments) × Parts (now starts) (now ends) × Within (now frames) (now ends) × (partsLong (now starts) (now ends) n ≤ length (now out)) ⌝ }
+    ensures { λ r. ⌜ now (out .exit) ≡ filled (parts (now (frames .entry)) (now (starts .entry)) (now (ends .entry)) n) (now (out .entry)) ⌝ }
+{
+    let mut place = 0;
+    let mut k = 0;
+    while k < n {
+        let start = starts[k];
+        let end = ends[k];
+        let next = place + (end - start);
+        copy(&frames[start..end], &mut out[place..next]);
+        place = next;
+        k += 1;
+    }
+}
+
+// A buffer of frames, read as a set into `out`.
+pub fn read_set(frames: &[u8], out: &mut [u8]) -> SetAnswer
+    ensures { λ r. ⌜ Promise tellSet (setOf (now (frames .entry)) (now (out .entry))) r (now (out .exit)) ⌝ }
+{
+    let mut flags = [false; 128];
+    let mut starts = [0usize; 128];
+    let mut ends = [0usize; 128];
+    let heads = match gather(frames, &mut flags, &mut starts, &mut ends) {
+        Gathered::Refused(n) => return SetAnswer::Refused(n),
+        Gathered::Ended(heads) => heads,
+    };
+    if !flags[0] {
+        return SetAnswer::Refused(refusal::ABSENT);
+    }
+    let n = heads.first.segments as usize;
+    if !all_seen(&flags, n) {
+        return SetAnswer::Refused(refusal::ABSENT);
+    }
+    let long = joined_length(&starts, &ends, n);
+    if out.len() < long {
+        return SetAnswer::Refused(refusal::OUTPUT_SMALL);
+    }
+    join(frames, &starts, &ends, n, out);
+    let one = heads.one;
+    SetAnswer::Set(one, Bytes(long as u32))
+}

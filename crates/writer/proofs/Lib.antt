@@ -1,0 +1,8 @@
+-- What the crates above cite of written frames.
+pub mod CopyLaws
+pub mod CutLaws
+pub mod FrameLaws
+pub mod LoopLaws
+pub mod EntryLaws
+pub mod OneAnswer
+pub mod CaseTable

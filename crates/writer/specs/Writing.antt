@@ -1,0 +1,85 @@
+-- "Writing": a body is cut into segments, and each becomes a data frame with its header.
+use Prim.Native.Nat.{ℕ, zero, suc, _+_, _-_}
+use mathlib.Core.List.{List, [], _∷_, _++_}
+use lib.Dec.{ltb, eqb}
+use lib.ListN.{length, take, drop}
+use Rattle.wire.specs.Tables.{render}
+use Rattle.wire.specs.Checks.{pick, Check, check}
+use Rattle.wire.specs.Answers.{Outcome, outcome}
+use Rattle.wire.specs.Sizes.{bytes, halved, odd}
+use Rattle.wire.specs.declared.Bytes.{Bytes}
+use Rattle.frame.specs.Session.{headTable, dataKind, sessionLimit}
+use Rattle.message.specs.Header.{headerTable, headerSize, notPermitted, radialType, timeChecks}
+use Rattle.message.specs.declared.Header.{Header}
+use Rattle.writer.specs.declared.Given.{Given}
+
+-- "a body is cut into data of 2,400 bytes each, the last one shorter or full. An empty body makes one segment."
+abbrev pub segmentData : Bytes
+segmentData = bytes 2400
+
+-- at most `cuts` cuts are made; each takes bytes away, so no body can be cut more often than it has bytes
+unfoldable pub cut : ℕ → List ℕ → List (List ℕ)
+cut zero body = body ∷ []
+cut (suc cuts) body =
+    pick (ltb (segmentData .0) (length body)) (take (segmentData .0) body ∷ cut cuts (drop (segmentData .0) body)) (body ∷ [])
+
+-- "Type 31 makes one frame always."
+abbrev pub segmentsOf : ℕ → List ℕ → List (List ℕ)
+segmentsOf kind body = pick (eqb kind radialType) (body ∷ []) (cut (length body) body)
+
+-- "every segment repeats the given channel, type, sequence number, date and milliseconds": the header of number k of n in a message of that size
+abbrev pub headerFor : Given → ℕ → ℕ → Bytes → Header
+headerFor given n k size = record {
+  size = halved size;
+  channel = given .channel;
+  kind = given .kind;
+  sequence = given .sequence;
+  date = given .date;
+  milliseconds = given .milliseconds;
+  segments = n;
+  number = k;
+}
+
+-- "The session's second number is 0": what stands before the segment's data
+unfoldable pub heads : Given → ℕ → ℕ → Bytes → List ℕ
+heads given n k size = render (headTable dataKind 0 size) ++ render (headerTable (headerFor given n k size))
+
+-- the frame of a segment, whose data is `part`
+unfoldable pub frameOf : Given → ℕ → ℕ → List ℕ → List ℕ
+frameOf given n k part = heads given n k (bytes (headerSize + length part)) ++ part
+
+-- "frames are written in order from number 1 to N": those from number k on
+unfoldable pub framesFrom : Given → ℕ → ℕ → List (List ℕ) → List ℕ
+framesFrom given n k [] = []
+framesFrom given n k (part ∷ more) = frameOf given n k part ++ framesFrom given n (k + 1) more
+
+-- "N is the number of segments"
+unfoldable pub framesOf : Given → List ℕ → List ℕ
+framesOf given body = framesFrom given (length (segmentsOf (given .kind) body)) 1 (segmentsOf (given .kind) body)
+
+-- "body to write above 307,200 bytes,"
+abbrev pub longestBody : Bytes
+longestBody = bytes 307200
+
+-- "or above 131,052 for type 31": what a session body holds besides the message header
+abbrev pub longestRadial : Bytes
+longestRadial = bytes (sessionLimit .0 - headerSize)
+
+abbrev pub longest : ℕ → Bytes
+longest kind = pick (eqb kind radialType) longestRadial longestBody
+
+-- "Frame writer: 6, 8, 25, 26, 13."
+abbrev pub writeChecks : Given → List ℕ → ℕ → List Check
+writeChecks given body room =
+    check 6 (notPermitted (given .kind))
+    ∷ timeChecks (given .date) (given .milliseconds)
+    ++ (check 25 (odd (length body))
+    ∷ check 26 (ltb (longest (given .kind) .0) (length body))
+    ∷ check 13 (ltb room (length (framesOf given body)))
+    ∷ [])
+
+-- what the writer answers, the length of what it wrote, and the output then: "fills its output from the start, .. and leaves the rest"
+unfoldable pub writeOf : Given → List ℕ → List ℕ → Outcome Bytes
+writeOf given body out =
+    outcome (writeChecks given body (length out)) out (bytes (length (framesOf given body)))
+    (framesOf given body ++ drop (length (framesOf given body)) out)

@@ -1,0 +1,167 @@
+// Frames written: a body is cut into segments, and each becomes a data frame in the lent output.
+ghost use mathlib.Core.Path.{_≡_};
+ghost use mathlib.Core.List.{_++_};
+ghost use Prim.Native.Nat.{_+_, _≤_, _<_};
+ghost use lib.ListN.{length, drop};
+ghost use Rattle.wire.specs.Answers.{Promise};
+ghost use Rattle.writer.specs.Writing.{segmentsOf, heads, frameOf, framesOf, longest, writeOf};
+ghost use Rattle.writer.specs.Promises.{tellWrite};
+use wire::Bytes;
+use wire::refusal;
+
+// What every segment repeats. `kind` is the type of Table I, a word that the language keeps for itself.
+pub struct Given {
+    pub channel: u8,
+    pub kind: u8,
+    pub sequence: u16,
+    pub date: u16,
+    pub milliseconds: u32,
+}
+
+pub enum WriteAnswer {
+    Written(Bytes),
+    Refused(u8),
+}
+
+const DATA_KIND: u8 = 2;
+
+const HEADER: u32 = 16;
+
+// The bytes before a segment's data: the session's 12 and the header's 16.
+const HEADS: usize = 28;
+
+const SEGMENT_DATA: usize = 2400;
+
+const LONGEST_BODY: usize = 307200;
+
+const LONGEST_RADIAL: usize = 131052;
+
+const RADIAL: u8 = 31;
+
+// The body as frames from the start of the output, and their length. Where it is refused nothing is written.
+pub fn write_message(given: Given, body: &[u8], out: &mut [u8]) -> WriteAnswer
+    ensures { λ r. ⌜ Promise tellWrite (writeOf given (now (body .entry)) (now (out .entry))) r (now (out .exit)) ⌝ }
+{
+    if message::breaks_type(given.kind) {
+        return WriteAnswer::Refused(refusal::TYPE);
+    }
+    if message::breaks_time(given.date, given.milliseconds) {
+        return WriteAnswer::Refused(refusal::DATE_OR_TIME);
+    }
+    if body.len() % 2 != 0 {
+        return WriteAnswer::Refused(refusal::ODD_BODY);
+    }
+    if longest_of(given.kind) < body.len() {
+        return WriteAnswer::Refused(refusal::LONG_BODY);
+    }
+    let n = segments_of(given.kind, body);
+    let whole = body.len() + HEADS * n;
+    if out.len() < whole {
+        return WriteAnswer::Refused(refusal::OUTPUT_SMALL);
+    }
+    write_frames(given, n as u16, body, out);
+    WriteAnswer::Written(Bytes(whole as u32))
+}
+
+fn longest_of(kind: u8) -> usize
+    ensures { λ r. ⌜ r ≡ longest kind .0 ⌝ }
+{
+    if kind == RADIAL {
+        return LONGEST_RADIAL;
+    }
+    LONGEST_BODY
+}
+
+// The number of segments: one more for each 2,400 bytes that another follows.
+fn segments_of(kind: u8, body: &[u8]) -> usize
+    ensures { λ r. ⌜ r ≡ length (segmentsOf kind (now (body .entry))) ⌝ }
+{
+    if kind == RADIAL {
+        return 1;
+    }
+    if body.len() == 0 {
+        return 1;
+    }
+    (body.len() - 1) / SEGMENT_DATA + 1
+}
+
+// All frames from the start of the output, which has room for them.
+fn write_frames(given: Given, n: u16, body: &[u8], out: &mut [u8])
+    requires { ⌜ (n ≡ length (segmentsOf (given .kind) (now body))) × (length (now body) ≤ 307200) × (length (framesOf given (now body)) ≤ length (now out)) ⌝ }
+    ensures { λ r. ⌜ now (out .exit) ≡ framesOf given (now (body .entry)) ++ drop (length (framesOf given (now (body .entry)))) (now (out .entry)) ⌝ }
+{
+    let mut k: u16 = 1;
+    let mut start = 0;
+    let mut place = 0;
+    while k < n {
+        let end = start + SEGMENT_DATA;
+        write_frame(given, n, k, &body[start..end], &mut out[place..]);
+        place = place + HEADS + SEGMENT_DATA;
+        start = end;
+        k += 1;
+    }
+    write_frame(given, n, k, &body[start..], &mut out[place..]);
+}
+
+// One frame at the start of a part of the output.
+fn write_frame(given: Given, n: u16, k: u16, part: &[u8], out: &mut [u8])
+    requires { ⌜ (length (now part) ≤ 307200) × (28 + length (now part) ≤ length (now out)) ⌝ }
+    ensures { λ r. ⌜ now (out .exit) ≡ frameOf given n k (now (part .entry)) ++ drop (28 + length (now (part .entry))) (now (out .entry)) ⌝ }
+{
+    let head = heads_of(given, n, k, Bytes(HEADER + part.len() as u32));
+    let end = HEADS + part.len();
+    copy(&head, &mut out[..HEADS]);
+    copy(part, &mut out[HEADS..end]);
+}
+
+// The bytes before the data of segment k of n, which is a message of `size` with its header.
+fn heads_of(given: Given, n: u16, k: u16, size: Bytes) -> [u8; 28]
+    ensures { λ r. ⌜ r ≡ heads given n k size ⌝ }
+{
+    let long = size.0;
+    let half = wire::to_halfwords(size);
+    let halfwords = half.0;
+    let time = given.milliseconds;
+    [
+        0,
+        0,
+        0,
+        DATA_KIND,
+        0,
+        0,
+        0,
+        0,
+        (long / 256 / 256 / 256 % 256) as u8,
+        (long / 256 / 256 % 256) as u8,
+        (long / 256 % 256) as u8,
+        (long % 256) as u8,
+        (halfwords / 256 % 256) as u8,
+        (halfwords % 256) as u8,
+        given.channel,
+        given.kind,
+        (given.sequence / 256 % 256) as u8,
+        (given.sequence % 256) as u8,
+        (given.date / 256 % 256) as u8,
+        (given.date % 256) as u8,
+        (time / 256 / 256 / 256 % 256) as u8,
+        (time / 256 / 256 % 256) as u8,
+        (time / 256 % 256) as u8,
+        (time % 256) as u8,
+        (n / 256 % 256) as u8,
+        (n % 256) as u8,
+        (k / 256 % 256) as u8,
+        (k % 256) as u8,
+    ]
+}
+
+// One part onto another of the same length.
+fn copy(from: &[u8], to: &mut [u8])
+    requires { ⌜ length (now from) ≡ length (now to) ⌝ }
+    ensures { λ r. ⌜ now (to .exit) ≡ now (from .entry) ⌝ }
+{
+    let mut i = 0;
+    while i < from.len() {
+        to[i] = from[i];
+        i += 1;
+    }
+}
