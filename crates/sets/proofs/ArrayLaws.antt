@@ -18,9 +18,11 @@ both-false : (b : Bool) → both b false ≡ false
 both-false true = refl
 both-false false = refl
 
-pub set-more : (flags : List Bool) (k : ℕ) → allSet flags k ≡ true → getD flags k false ≡ true → allSet flags (k + 1) ≡ true
+-- one number more: its flag stands one place before it
+pub set-more : (flags : List Bool) (number : ℕ) → 1 ≤ number → allSet flags (number - 1) ≡ true → getD flags (number - 1) false ≡ true
+    → allSet flags (number + 1 - 1) ≡ true
 unfolding allSet
-set-more flags k a b = rw add-one (simp (a, b))
+set-more flags number l a b = let e : number + 1 - 1 ≡ suc (number - 1) = omega arith in rw e (simp (a, b))
 
 pub set-stops : (flags : List Bool) (k n : ℕ) → k < n → getD flags k false ≡ false → allSet flags n ≡ false
 unfolding allSet

@@ -187,17 +187,17 @@ fn gather(
     Gathered::Ended(heads)
 }
 
-// Whether the first n numbers were all seen.
+// Whether each of the numbers 1 to n was seen.
 fn all_seen(flags: &[bool; 128], n: usize) -> bool
     requires { ⌜ n ≤ mostSegments ⌝ }
     ensures { λ r. ⌜ r ≡ allSet (now (flags .entry)) n ⌝ }
 {
-    let mut k = 0;
-    while k < n {
-        if !flags[k] {
+    let mut number = 1;
+    while number <= n {
+        if !flags[number - 1] {
             return false;
         }
-        k += 1;
+        number += 1;
     }
     true
 }

@@ -3,7 +3,7 @@ use borrow.Author.Tests.{not-true, not-false}
 use native.Mathlib.Omega.{arith}
 use mathlib.Core.Bool.{true}
 use mathlib.Core.Path.{_≡_, refl, sym, ap, _∙_}
-use Prim.Native.Nat.{ℕ, _-_, _≤_}
+use Prim.Native.Nat.{ℕ, _+_, _-_, _≤_, _<_}
 use Rattle.sets.specs.Arrays.{allSet}
 use Rattle.sets.proofs.ArrayLaws.{set-more, set-stops}
 use borrow.Author.Needs.{needs}
@@ -13,15 +13,19 @@ use Rattle.sets.proofs.all_seen.Reads as reads
 use Rattle.sets.proofs.all_seen.Lts as lts
 
 abbrev Inv-loop : tie.InvT-loop
-Inv-loop flags n k₀ k = (k ≤ n) × (allSet flags k ≡ true)
+Inv-loop flags n number₀ number = (1 ≤ number) × (number ≤ n + 1) × (allSet flags (number - 1) ≡ true)
 
 abbrev μ-loop : tie.MeasureT-loop
-μ-loop flags n k₀ k = n - k
+μ-loop flags n number₀ number = n + 1 - number
 
 -- src/lib.rt:196:5
 loop-holds : tie.Need-loop-holds Inv-loop μ-loop
 unfolding allSet
-loop-holds c = (omega arith, refl)
+loop-holds c = (omega arith, omega arith, refl)
+
+-- src/lib.rt:197:19
+sub-if1 : tie.Need-sub-if1 Inv-loop μ-loop
+sub-if1 c = omega arith
 
 -- src/lib.rt:197:13
 element-copy-out-if1 : tie.Need-element-copy-out-if1 Inv-loop μ-loop
@@ -29,11 +33,11 @@ element-copy-out-if1 c = omega arith
 
 -- src/lib.rt:198:13
 returns : tie.Need-returns Inv-loop μ-loop
-returns c = sym (set-stops _ _ _ (c .before .before .loop-test .taken) (not-true _ (c .if1 .taken)))
+returns c = let l : c .before .before .before .loop .number - 1 < c .before .before .before .before .args .n = omega arith in sym (set-stops _ _ _ l (not-true _ (c .if1 .taken)))
 
 -- src/lib.rt:200:9
-add-k : tie.Need-add-k Inv-loop μ-loop
-add-k c = omega arith
+add-number : tie.Need-add-number Inv-loop μ-loop
+add-number c = omega arith
 
 -- src/lib.rt:196:5
 loop-less : tie.Need-loop-less Inv-loop μ-loop
@@ -41,11 +45,11 @@ loop-less c = omega arith
 
 -- src/lib.rt:196:5
 loop-again : tie.Need-loop-again Inv-loop μ-loop
-loop-again c = (omega arith, set-more _ _ (c .before .before .before .loop .inv .1) (not-false _ (c .if1 .left)))
+loop-again c = (omega arith, omega arith, set-more _ _ (c .before .before .before .loop .inv .0) (c .before .before .before .loop .inv .2) (not-false _ (c .if1 .left)))
 
 -- src/lib.rt:191:1
 returns-2 : tie.Need-returns-2 Inv-loop μ-loop
-returns-2 c = let e : c .before .loop .k ≡ c .before .before .args .n = omega arith in sym (c .before .loop .inv .1) ∙ ap (λ (i : ℕ). allSet (now (c .before .before .args .flags)) i) e
+returns-2 c = let e : c .before .loop .number - 1 ≡ c .before .before .args .n = omega arith in sym (c .before .loop .inv .2) ∙ ap (λ (i : ℕ). allSet (now (c .before .before .args .flags)) i) e
 
 pub all-seen-spec : {M : Type 1} → statement M
 all-seen-spec =
@@ -54,9 +58,10 @@ all-seen-spec =
     Inv-loop
     μ-loop
     loop-holds
+    sub-if1
     element-copy-out-if1
     returns
-    add-k
+    add-number
     loop-less
     loop-again
     returns-2)
