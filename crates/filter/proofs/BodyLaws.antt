@@ -13,7 +13,7 @@ use Rattle.wire.specs.Checks.{Check, check, decide, first}
 use Rattle.wire.specs.Answers.{Answer, refused, given, rule}
 use Rattle.wire.proofs.CheckLaws.{decide-append, decide-none, decide-some, all-hold}
 use Rattle.map.specs.Map.{azimuths, mostElevations, lastKilometre, Zone, codeFrom, codeAt}
-use Rattle.map.specs.Reading.{value, elevationsSize, elevationsChecks, dateIn, minutesIn, segmentsIn, headChecks, mapChecks, mapIn, Summary, summary, summaryOf, askedChecks, codeOf}
+use Rattle.map.specs.Reading.{value, elevationsSize, elevationsChecks, dateIn, minutesIn, segmentsIn, headChecks, leftoverChecks, mapChecks, mapIn, Summary, summary, summaryOf, askedChecks, codeOf}
 use Rattle.map.proofs.Accepted.{elevations-long, elevations-count}
 use Rattle.map.proofs.CheckFacts.{MapFacts, map-facts}
 use Rattle.map.proofs.Places.{asked-there, asked-zones}
@@ -26,11 +26,8 @@ use Rattle.filter.proofs.StepLaws.{step-first, step-none, part-stops, p
 abbrev segments : List ℕ → List Check
 segments b = elevationsChecks (segmentsIn b) (drop 6 b)
 
-abbrev leftover : List ℕ → List Check
-leftover b = check 23 (ltb (6 + elevationsSize (segmentsIn b) (drop 6 b)) (length b)) ∷ []
-
 pub head-stop : (b : List ℕ) (n : ℕ) → Stop n ≡ headStep b → Stop n ≡ bodyStep b
-head-stop b n e = sym (part-stops (headChecks b) (segments b ++ leftover b) (segmentsIn b) (Next (segmentsIn b)) n (sym e))
+head-stop b n e = sym (part-stops (headChecks b) (segments b ++ leftoverChecks b) (segmentsIn b) (Next (segmentsIn b)) n (sym e))
 
 -- ---- the three fields passed
 module _ (b : List ℕ) (m : ℕ) (e : Next m ≡ headStep b) where
@@ -44,15 +41,15 @@ module _ (b : List ℕ) (m : ℕ) (e : Next m ≡ headStep b) where
   count-is : segmentsIn b ≡ m
   count-is = step-none (headChecks b) (segmentsIn b) m (sym e) .1
 
-  body-is : bodyStep b ≡ decide (segments b ++ leftover b) Stop (Next (segmentsIn b))
-  body-is = part-passes (headChecks b) (segments b ++ leftover b) (segmentsIn b) (Next (segmentsIn b)) m (sym e)
+  body-is : bodyStep b ≡ decide (segments b ++ leftoverChecks b) Stop (Next (segmentsIn b))
+  body-is = part-passes (headChecks b) (segments b ++ leftoverChecks b) (segmentsIn b) (Next (segmentsIn b)) m (sym e)
 
   counted : elevationsStep m (drop 6 b) ≡ elevationsStep (segmentsIn b) (drop 6 b)
   counted = ap (λ (k : ℕ). elevationsStep k (drop 6 b)) (sym count-is)
 
   pub segments-stop : (n : ℕ) → Stop n ≡ elevationsStep m (drop 6 b) → Stop n ≡ bodyStep b
   segments-stop n f =
-      sym (body-is ∙ part-stops (segments b) (leftover b) (elevationsSize (segmentsIn b) (drop 6 b)) (Next (segmentsIn b)) n (sym (f ∙ counted)))
+      sym (body-is ∙ part-stops (segments b) (leftoverChecks b) (elevationsSize (segmentsIn b) (drop 6 b)) (Next (segmentsIn b)) n (sym (f ∙ counted)))
 
   -- ---- and the elevation segments
   module _ (s : ℕ) (f : Next s ≡ elevationsStep m (drop 6 b)) where
@@ -66,9 +63,9 @@ module _ (b : List ℕ) (m : ℕ) (e : Next m ≡ headStep b) where
         let k = simp length-drop at l in
         omega (arith, size-is, head-long)
 
-    left-is : bodyStep b ≡ decide (leftover b) Stop (Next (segmentsIn b))
+    left-is : bodyStep b ≡ decide (leftoverChecks b) Stop (Next (segmentsIn b))
     left-is =
-        body-is ∙ part-passes (segments b) (leftover b) (elevationsSize (segmentsIn b) (drop 6 b)) (Next (segmentsIn b)) s (sym (f ∙ counted))
+        body-is ∙ part-passes (segments b) (leftoverChecks b) (elevationsSize (segmentsIn b) (drop 6 b)) (Next (segmentsIn b)) s (sym (f ∙ counted))
 
     pub body-left : 6 + s < length b → Stop 23 ≡ bodyStep b
     body-left h =

@@ -11,7 +11,7 @@ use Rattle.wire.specs.Numbers.{num}
 use Rattle.wire.specs.Checks.{either, both, Check, check, AllHold}
 use Rattle.wire.proofs.CheckLaws.{never, all-hold-append, all-hold-join}
 use Rattle.map.specs.Map.{mostMinutes, mostElevations, mostZones, mostCode, lastKilometre}
-use Rattle.map.specs.Reading.{value, after, endBroken, zonesChecks, azimuthChecks, azimuthSize, azimuthsSize, azimuthsChecks, elevationsSize, elevationsChecks, dateIn, minutesIn, segmentsIn, mapChecks}
+use Rattle.map.specs.Reading.{value, after, endBroken, zonesChecks, azimuthChecks, azimuthSize, azimuthsSize, azimuthsChecks, elevationsSize, elevationsChecks, dateIn, minutesIn, segmentsIn, leftoverChecks, mapChecks}
 use Rattle.map.proofs.FieldLaws.{either-false, both-false}
 
 -- ---- the end field
@@ -97,13 +97,10 @@ pub record MapFacts (b : List ℕ) : Type 0 where
   pub elevations : AllHold (elevationsChecks (segmentsIn b) (drop 6 b))
   pub whole : length b ≤ 6 + elevationsSize (segmentsIn b) (drop 6 b)
 
-abbrev leftover : List ℕ → List Check
-leftover b = check 23 (ltb (6 + elevationsSize (segmentsIn b) (drop 6 b)) (length b)) ∷ []
-
 pub map-facts : (b : List ℕ) → AllHold (mapChecks b) → MapFacts b
 map-facts b p =
     let q = either-false (ltb (segmentsIn b) 1) (ltb mostElevations (segmentsIn b)) (p .1 .1 .1 .1 .1 .0) in
-    let r = all-hold-append (elevationsChecks (segmentsIn b) (drop 6 b)) (leftover b) (p .1 .1 .1 .1 .1 .1) in
+    let r = all-hold-append (elevationsChecks (segmentsIn b) (drop 6 b)) (leftoverChecks b) (p .1 .1 .1 .1 .1 .1) in
     let l : 2 ≤ length (drop 4 b) = ltb-false (length (drop 4 b)) 2 (p .1 .1 .1 .1 .0) in
     let k = simp length-drop at l in
     record {
@@ -131,7 +128,7 @@ map-holds b f =
               le-ltb (length (drop 4 b)) 2 k,
               (
                 simp (le-ltb (segmentsIn b) 1 (f .some), le-ltb mostElevations (segmentsIn b) (f .most)),
-                all-hold-join (elevationsChecks (segmentsIn b) (drop 6 b)) (leftover b) (f .elevations)
+                all-hold-join (elevationsChecks (segmentsIn b) (drop 6 b)) (leftoverChecks b) (f .elevations)
                     (le-ltb (6 + elevationsSize (segmentsIn b) (drop 6 b)) (length b) (f .whole), tt),
               ),
             ),

@@ -75,11 +75,11 @@ headChecks b =
     ++ fieldChecks (drop 4 b) (either (ltb (segmentsIn b) 1) (ltb mostElevations (segmentsIn b)))
 
 -- "leftovers 23 last"
+abbrev pub leftoverChecks : List ℕ → List Check
+leftoverChecks b = check 23 (ltb (6 + elevationsSize (segmentsIn b) (drop 6 b)) (length b)) ∷ []
+
 abbrev pub mapChecks : List ℕ → List Check
-mapChecks b =
-    headChecks b
-    ++ elevationsChecks (segmentsIn b) (drop 6 b)
-    ++ (check 23 (ltb (6 + elevationsSize (segmentsIn b) (drop 6 b)) (length b)) ∷ [])
+mapChecks b = headChecks b ++ elevationsChecks (segmentsIn b) (drop 6 b) ++ leftoverChecks b
 
 -- ---- the map that stands in the bytes
 unfoldable pub zonesIn : ℕ → List ℕ → List Zone
