@@ -1,18 +1,16 @@
 -- The theorems that specs/Statements.antt states. Assumes nothing.
-use Prim.Native.Nat.{ℕ, _-_, _≤_, _<_}
+use Prim.Native.Nat.{ℕ, _-_}
 use native.Mathlib.Omega.{arith}
-use mathlib.Core.Path.{_≡_, refl, sym, ap, _∙_, subst}
-use mathlib.Core.List.{List, [], _++_}
+use mathlib.Core.Path.{_≡_, sym, ap, _∙_, subst}
+use mathlib.Core.List.{List, []}
 use lib.ListN.{length, getD}
-use Rattle.wire.specs.Numbers.{Octets}
-use Rattle.wire.specs.Checks.{AllHold, decide, first}
-use Rattle.wire.specs.Answers.{Answer, refused, given, rule}
+use Rattle.wire.specs.Answers.{refused, given, rule}
 use Rattle.wire.proofs.CheckLaws.{all-hold, none-broken, decide-none, decide-append}
 use Rattle.wire.proofs.AnswerLaws.{rule-given}
 use Rattle.map.specs.Map.{FilterMap, mapBytes, AzimuthInRange, ElevationInRange, InRange, codeAt}
-use Rattle.map.specs.Reading.{segmentsIn, mapChecks, mapIn, mapOf, summary, Summary, summaryOf, askedChecks, codeOf}
+use Rattle.map.specs.Reading.{segmentsIn, mapChecks, mapIn, mapOf, summary, askedChecks}
 use Rattle.map.specs.Statements.{AcceptedExactly, OneMap, OneCode, CheckAnswers, QueryAnswers}
-use Rattle.map.proofs.Accepted.{accepted-range, accepted-bytes, elevations-count}
+use Rattle.map.proofs.Accepted.{accepted-range, accepted-bytes}
 use Rattle.map.proofs.Rendered.{rendered-pass, rendered-read, segments-is}
 use Rattle.map.proofs.Coverage.{each-at, one-zone}
 
