@@ -1,36 +1,30 @@
 -- The whole body from its parts: the three fields, the elevation segments, the leftovers. Assumes nothing.
 use Prim.Native.Nat.{ℕ, _+_, _*_, _-_, _≤_, _<_}
 use native.Mathlib.Omega.{arith}
-use mathlib.Core.Path.{_≡_, refl, sym, ap, _∙_, subst}
-use mathlib.Core.Bool.{true, false}
-use mathlib.Core.Option.{none, some}
-use mathlib.Core.List.{List, [], _∷_, _++_}
-use lib.Dec.{ltb}
+use mathlib.Core.Path.{_≡_, sym, ap, _∙_}
+use mathlib.Core.List.{List, _++_}
 use lib.ListN.{length, drop, length-drop}
 use borrow.Author.Tests.{lt-ltb, le-ltb, ltb-false, eq-eqb, ne-eqb}
-use Rattle.wire.specs.Numbers.{num, fetched}
-use Rattle.wire.specs.Checks.{Check, check, decide, first}
-use Rattle.wire.specs.Answers.{Answer, refused, given, rule}
+use Rattle.wire.specs.Numbers.{fetched}
+use Rattle.wire.specs.Checks.{Check, decide}
+use Rattle.wire.specs.Answers.{refused, given, rule}
 use Rattle.wire.proofs.CheckLaws.{decide-append, decide-none, decide-some, all-hold}
 use Rattle.map.specs.Map.{azimuths, mostElevations, lastKilometre, Zone, codeFrom, codeAt}
-use Rattle.map.specs.Reading.{value, elevationsSize, elevationsChecks, dateIn, minutesIn, segmentsIn, headChecks, mapChecks, mapIn, Summary, summary, summaryOf, askedChecks, codeOf}
-use Rattle.map.proofs.Accepted.{elevations-long, elevations-count}
+use Rattle.map.specs.Reading.{runSize, runChecks, elevationPart, dateIn, minutesIn, segmentsIn, headChecks, leftoverChecks, mapChecks, mapIn, Summary, summary, summaryOf, askedChecks, codeOf}
+use Rattle.map.proofs.Runs.{run-count, run-long}
+use Rattle.map.proofs.Accepted.{elevation-long}
 use Rattle.map.proofs.CheckFacts.{MapFacts, map-facts}
 use Rattle.map.proofs.Places.{asked-there, asked-zones}
-use Rattle.filter.specs.declared.Step.{Step}
 use Rattle.filter.specs.declared.Step.the-variants.{Next, Stop}
-use Rattle.filter.specs.Steps.{stepBy, elevationsStep, headStep, bodyStep, PassFits, codeThere}
+use Rattle.filter.specs.Steps.{runStep, headStep, bodyStep, PassFits, codeThere}
 use Rattle.filter.proofs.PartLaws.{fetched-value}
 use Rattle.filter.proofs.StepLaws.{step-first, step-none, part-stops, part-passes}
 
 abbrev segments : List ℕ → List Check
-segments b = elevationsChecks (segmentsIn b) (drop 6 b)
-
-abbrev leftover : List ℕ → List Check
-leftover b = check 23 (ltb (6 + elevationsSize (segmentsIn b) (drop 6 b)) (length b)) ∷ []
+segments b = runChecks elevationPart (segmentsIn b) (drop 6 b)
 
 pub head-stop : (b : List ℕ) (n : ℕ) → Stop n ≡ headStep b → Stop n ≡ bodyStep b
-head-stop b n e = sym (part-stops (headChecks b) (segments b ++ leftover b) (segmentsIn b) (Next (segmentsIn b)) n (sym e))
+head-stop b n e = sym (part-stops (headChecks b) (segments b ++ leftoverChecks b) (segmentsIn b) (Next (segmentsIn b)) n (sym e))
 
 -- ---- the three fields passed
 module _ (b : List ℕ) (m : ℕ) (e : Next m ≡ headStep b) where
@@ -44,41 +38,41 @@ module _ (b : List ℕ) (m : ℕ) (e : Next m ≡ headStep b) where
   count-is : segmentsIn b ≡ m
   count-is = step-none (headChecks b) (segmentsIn b) m (sym e) .1
 
-  body-is : bodyStep b ≡ decide (segments b ++ leftover b) Stop (Next (segmentsIn b))
-  body-is = part-passes (headChecks b) (segments b ++ leftover b) (segmentsIn b) (Next (segmentsIn b)) m (sym e)
+  body-is : bodyStep b ≡ decide (segments b ++ leftoverChecks b) Stop (Next (segmentsIn b))
+  body-is = part-passes (headChecks b) (segments b ++ leftoverChecks b) (segmentsIn b) (Next (segmentsIn b)) m (sym e)
 
-  counted : elevationsStep m (drop 6 b) ≡ elevationsStep (segmentsIn b) (drop 6 b)
-  counted = ap (λ (k : ℕ). elevationsStep k (drop 6 b)) (sym count-is)
+  counted : runStep elevationPart m (drop 6 b) ≡ runStep elevationPart (segmentsIn b) (drop 6 b)
+  counted = ap (λ (k : ℕ). runStep elevationPart k (drop 6 b)) (sym count-is)
 
-  pub segments-stop : (n : ℕ) → Stop n ≡ elevationsStep m (drop 6 b) → Stop n ≡ bodyStep b
+  pub segments-stop : (n : ℕ) → Stop n ≡ runStep elevationPart m (drop 6 b) → Stop n ≡ bodyStep b
   segments-stop n f =
-      sym (body-is ∙ part-stops (segments b) (leftover b) (elevationsSize (segmentsIn b) (drop 6 b)) (Next (segmentsIn b)) n (sym (f ∙ counted)))
+      sym (body-is ∙ part-stops (segments b) (leftoverChecks b) (runSize elevationPart (segmentsIn b) (drop 6 b)) (Next (segmentsIn b)) n (sym (f ∙ counted)))
 
   -- ---- and the elevation segments
-  module _ (s : ℕ) (f : Next s ≡ elevationsStep m (drop 6 b)) where
-    size-is : elevationsSize (segmentsIn b) (drop 6 b) ≡ s
-    size-is = step-none (segments b) (elevationsSize (segmentsIn b) (drop 6 b)) s (sym (f ∙ counted)) .1
+  module _ (s : ℕ) (f : Next s ≡ runStep elevationPart m (drop 6 b)) where
+    size-is : runSize elevationPart (segmentsIn b) (drop 6 b) ≡ s
+    size-is = step-none (segments b) (runSize elevationPart (segmentsIn b) (drop 6 b)) s (sym (f ∙ counted)) .1
 
     pub segments-fit : 6 + s ≤ length b
     segments-fit =
-        let p = step-none (segments b) (elevationsSize (segmentsIn b) (drop 6 b)) s (sym (f ∙ counted)) in
-        let l : elevationsSize (segmentsIn b) (drop 6 b) ≤ length (drop 6 b) = elevations-long (segmentsIn b) (drop 6 b) (all-hold (segments b) (p .0)) in
+        let p = step-none (segments b) (runSize elevationPart (segmentsIn b) (drop 6 b)) s (sym (f ∙ counted)) in
+        let l : runSize elevationPart (segmentsIn b) (drop 6 b) ≤ length (drop 6 b) = run-long elevationPart elevation-long (segmentsIn b) (drop 6 b) (all-hold (segments b) (p .0)) in
         let k = simp length-drop at l in
         omega (arith, size-is, head-long)
 
-    left-is : bodyStep b ≡ decide (leftover b) Stop (Next (segmentsIn b))
+    left-is : bodyStep b ≡ decide (leftoverChecks b) Stop (Next (segmentsIn b))
     left-is =
-        body-is ∙ part-passes (segments b) (leftover b) (elevationsSize (segmentsIn b) (drop 6 b)) (Next (segmentsIn b)) s (sym (f ∙ counted))
+        body-is ∙ part-passes (segments b) (leftoverChecks b) (runSize elevationPart (segmentsIn b) (drop 6 b)) (Next (segmentsIn b)) s (sym (f ∙ counted))
 
     pub body-left : 6 + s < length b → Stop 23 ≡ bodyStep b
     body-left h =
-        let l : 6 + elevationsSize (segmentsIn b) (drop 6 b) < length b = omega (arith, size-is) in
-        sym (left-is ∙ simp (lt-ltb (6 + elevationsSize (segmentsIn b) (drop 6 b)) (length b) l))
+        let l : 6 + runSize elevationPart (segmentsIn b) (drop 6 b) < length b = omega (arith, size-is) in
+        sym (left-is ∙ simp (lt-ltb (6 + runSize elevationPart (segmentsIn b) (drop 6 b)) (length b) l))
 
     pub body-next : length b ≤ 6 + s → Next m ≡ bodyStep b
     body-next h =
-        let l : length b ≤ 6 + elevationsSize (segmentsIn b) (drop 6 b) = omega (arith, size-is) in
-        ap Next (sym count-is) ∙ sym (left-is ∙ simp (le-ltb (6 + elevationsSize (segmentsIn b) (drop 6 b)) (length b) l))
+        let l : length b ≤ 6 + runSize elevationPart (segmentsIn b) (drop 6 b) = omega (arith, size-is) in
+        ap Next (sym count-is) ∙ sym (left-is ∙ simp (le-ltb (6 + runSize elevationPart (segmentsIn b) (drop 6 b)) (length b) l))
 
 -- ---- what is answered of it
 pub map-stop : (b : List ℕ) (n : ℕ) → Stop n ≡ bodyStep b → refused n ≡ summaryOf b
@@ -91,7 +85,7 @@ map-given b m e =
     let h = map-facts b (all-hold (mapChecks b) p) .here in
     let d : fetched 2 b 0 ≡ dateIn b = fetched-value b 0 (omega arith) in
     let q : fetched 2 b 2 ≡ minutesIn b = fetched-value b 2 (omega arith) in
-    let n : fetched 2 b 4 ≡ length (mapIn b .elevations) = fetched-value b 4 (omega arith) ∙ sym (elevations-count (segmentsIn b) (drop 6 b)) in
+    let n : fetched 2 b 4 ≡ length (mapIn b .elevations) = fetched-value b 4 (omega arith) ∙ sym (run-count elevationPart (segmentsIn b) (drop 6 b)) in
     let s : _≡_ {A = Summary} (record { date = fetched 2 b 0; minutes = fetched 2 b 2; elevations = fetched 2 b 4 }) (summary (mapIn b))
     = λ i. record { date = d i; minutes = q i; elevations = n i } in
     ap given s ∙ sym (decide-none (mapChecks b) refused (given (summary (mapIn b))) p)

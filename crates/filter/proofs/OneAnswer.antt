@@ -1,8 +1,5 @@
 -- Each entry's answer is told apart from every other, so its promise holds of one answer alone. Assumes nothing.
-use Prim.Native.Nat.{ℕ}
-use mathlib.Core.Path.{_≡_, ap}
-use mathlib.Core.List.{List}
-use Rattle.wire.specs.Answers.{Answer, refused, given}
+use mathlib.Core.Path.{_≡_}
 use Rattle.wire.proofs.CheckLaws.{never}
 use Rattle.wire.proofs.AnswerLaws.{only-answer}
 use Rattle.map.specs.Reading.{Summary, summaryOf, codeOf}

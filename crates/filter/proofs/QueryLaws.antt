@@ -1,29 +1,28 @@
 -- The walk of a query in a checked body: past azimuths, then past zones. Assumes nothing.
 use Prim.Native.Nat.{ℕ, zero, suc, _+_, _*_, _-_, _≤_, _<_}
-use native.Mathlib.Nat.{add-zero}
 use native.Mathlib.Omega.{arith}
 use mathlib.Core.Path.{_≡_, refl, sym, ap, _∙_, subst}
-use mathlib.Core.List.{List, [], _∷_, _++_}
+use mathlib.Core.List.{List, _∷_}
 use lib.ListN.{length, drop}
 use lib.Seq.{drop-drop}
 use borrow.Author.Tests.{le-leb, lt-leb}
-use Rattle.wire.specs.Numbers.{num, fetched}
+use Rattle.wire.specs.Numbers.{fetched}
 use Rattle.map.specs.Map.{Zone, codeFrom}
-use Rattle.map.specs.Reading.{value, after, azimuthSize, azimuthsSize, zonesIn}
+use Rattle.map.specs.Reading.{value, after, zonesIn, runSize, azimuthPart}
 use Rattle.filter.proofs.PartLaws.{fetched-value, next-value, next-rest}
 use Rattle.filter.proofs.StepLaws.{less-one}
 
 -- ---- past azimuths
 pub pass-turn : (left at : ℕ) (b : List ℕ) → 0 < left
-    → azimuthsSize left (drop at b) ≡ azimuthSize (drop at b) + azimuthsSize (left - 1) (drop (at + azimuthSize (drop at b)) b)
-unfolding azimuthsSize
+    → runSize azimuthPart left (drop at b) ≡ azimuthPart .size (drop at b) + runSize azimuthPart (left - 1) (drop (at + azimuthPart .size (drop at b)) b)
+unfolding runSize
 pass-turn zero at b h = absurd (omega arith)
 pass-turn (suc l) at b h =
-    let s = azimuthSize (drop at b) in
-    ap (λ (x : List ℕ). s + azimuthsSize l x) (drop-drop s at b) ∙ ap (λ (k : ℕ). s + azimuthsSize k (drop (at + s) b)) (sym (less-one l))
+    let s = azimuthPart .size (drop at b) in
+    ap (λ (x : List ℕ). s + runSize azimuthPart l x) (drop-drop s at b) ∙ ap (λ (k : ℕ). s + runSize azimuthPart k (drop (at + s) b)) (sym (less-one l))
 
-pub pass-done : (left : ℕ) (b : List ℕ) → left ≤ 0 → azimuthsSize left b ≡ 0
-unfolding azimuthsSize
+pub pass-done : (left : ℕ) (b : List ℕ) → left ≤ 0 → runSize azimuthPart left b ≡ 0
+unfolding runSize
 pass-done zero b h = refl
 pass-done (suc l) b h = absurd (omega arith)
 
@@ -31,8 +30,8 @@ pass-done (suc l) b h = absurd (omega arith)
 pub record Looking (b : List ℕ) (kilometre left at : ℕ) : Type 0 where
   pub from : ℕ
   pub low : from ≤ kilometre
-  pub sized : at + 4 * left ≡ azimuthSize b
-  pub same : codeFrom from (zonesIn left (drop at b)) kilometre ≡ codeFrom 0 (zonesIn (value b) (after b)) kilometre
+  pub sized : at + 4 * left ≡ azimuthPart .size b
+  pub same : codeFrom from (zonesIn left (drop at b)) kilometre ≡ codeFrom 0 (azimuthPart .read b) kilometre
 
 zoneAt : List ℕ → ℕ → Zone
 zoneAt b at = record { code = value (drop at b); end = value (after (drop at b)) }
@@ -65,7 +64,7 @@ module _ (at : ℕ) (b : List ℕ) (kilometre from : ℕ) (there : at + 4 ≤ le
       ∙ ap (λ (k′ : ℕ). codeFrom (suc (value (after (drop at b)))) (zonesIn k′ (drop (at + 4) b)) kilometre) (less-one l)
       ∙ sym (ap (λ (zs : List Zone). codeFrom from zs kilometre) (zones-more l at b) ∙ e)
 
-module _ (b : List ℕ) (kilometre : ℕ) (whole : azimuthSize b ≤ length b) where
+module _ (b : List ℕ) (kilometre : ℕ) (whole : azimuthPart .size b ≤ length b) where
   pub looking-start : (n : ℕ) → n ≡ fetched 2 b 0 → Looking b kilometre n 2
   looking-start n e =
       let v : n ≡ value b = e ∙ fetched-value b 0 (omega arith) in
@@ -80,7 +79,7 @@ module _ (b : List ℕ) (kilometre : ℕ) (whole : azimuthSize b ≤ length b) w
     pub looking-there : at + 4 ≤ length b
     looking-there = omega (arith, k .sized)
 
-    pub looking-here : kilometre ≤ fetched 2 b (at + 2) → fetched 2 b at ≡ codeFrom 0 (zonesIn (value b) (after b)) kilometre
+    pub looking-here : kilometre ≤ fetched 2 b (at + 2) → fetched 2 b at ≡ codeFrom 0 (azimuthPart .read b) kilometre
     looking-here h = look-here at b kilometre (k .from) looking-there (k .low) left more h ∙ k .same
 
     pub looking-on : fetched 2 b (at + 2) < kilometre → Looking b kilometre (left - 1) (at + 4)
@@ -92,7 +91,7 @@ module _ (b : List ℕ) (kilometre : ℕ) (whole : azimuthSize b ≤ length b) w
           same = look-on at b kilometre (k .from) looking-there (k .low) left more h ∙ k .same;
         }
 
-  pub looking-done : (left at : ℕ) → Looking b kilometre left at → left ≤ 0 → 0 ≡ codeFrom 0 (zonesIn (value b) (after b)) kilometre
+  pub looking-done : (left at : ℕ) → Looking b kilometre left at → left ≤ 0 → 0 ≡ codeFrom 0 (azimuthPart .read b) kilometre
   unfolding codeFrom zonesIn
   looking-done zero at k h = k .same
   looking-done (suc l) at k h = absurd (omega arith)

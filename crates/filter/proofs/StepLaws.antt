@@ -3,23 +3,22 @@ use Prim.Native.Nat.{ℕ, zero, suc, _+_, _*_, _-_, _≤_, _<_}
 use native.Mathlib.Nat.{add-zero, zero-add, add-assoc}
 use native.Mathlib.Numerals.{add-one}
 use native.Mathlib.Omega.{arith}
-use mathlib.Core.Path.{_≡_, refl, sym, ap, _∙_, subst}
+use mathlib.Core.Path.{_≡_, refl, sym, ap, _∙_}
 use mathlib.Core.Bool.{true, false}
 use mathlib.Core.Option.{none, some}
-use mathlib.Core.List.{List, [], _∷_, _++_}
+use mathlib.Core.List.{List, _++_}
 use lib.Dec.{ltb}
 use lib.ListN.{length, drop, length-drop}
 use lib.Seq.{drop-drop}
 use borrow.Author.Tests.{lt-ltb, le-ltb}
-use Rattle.wire.specs.Numbers.{num, fetched}
+use Rattle.wire.specs.Numbers.{fetched}
 use Rattle.wire.specs.Checks.{Check, decide, first, AllHold}
 use Rattle.wire.proofs.CheckLaws.{never, passed, stopped, decide-append, decide-none, decide-some, all-hold}
-use Rattle.map.specs.Map.{azimuths, mostCode, mostZones}
-use Rattle.map.specs.Reading.{value, after, endBroken, zoneChecks, zonesChecks, azimuthChecks, azimuthSize, azimuthsSize, azimuthsChecks, elevationsSize, elevationsChecks}
-use Rattle.map.proofs.Accepted.{azimuth-long, azimuths-long}
+use Rattle.map.specs.Map.{mostCode, mostZones}
+use Rattle.map.specs.Reading.{value, after, endBroken, zoneChecks, zonesChecks, Part, runSize, runChecks, azimuthPart}
 use Rattle.filter.specs.declared.Step.{Step}
 use Rattle.filter.specs.declared.Step.the-variants.{Next, Stop}
-use Rattle.filter.specs.Steps.{stepBy, zoneStep, zonesStep, azimuthStep, elevationStep, elevationsStep}
+use Rattle.filter.specs.Steps.{stepBy, zoneStep, zonesStep, partStep, runStep}
 use Rattle.filter.proofs.PartLaws.{cut-off, in-full, fetched-value, next-cut-off, next-in-full, next-value, next-rest}
 
 -- ---- one part
@@ -107,120 +106,78 @@ zones-done (suc l) from b end h = absurd (omega arith)
 
 -- ---- one azimuth
 module _ (b : List ℕ) where
-  pub azimuth-cut : length b < 2 → Stop 23 ≡ azimuthStep b
+  pub azimuth-cut : length b < 2 → Stop 23 ≡ partStep azimuthPart b
   azimuth-cut h = simp (lt-ltb (length b) 2 h)
 
-  pub azimuth-none : 2 ≤ length b → value b < 1 → Stop 24 ≡ azimuthStep b
+  pub azimuth-none : 2 ≤ length b → value b < 1 → Stop 24 ≡ partStep azimuthPart b
   azimuth-none h k = simp (le-ltb (length b) 2 h, lt-ltb (value b) 1 k)
 
-  pub azimuth-many : 2 ≤ length b → 1 ≤ value b → mostZones < value b → Stop 24 ≡ azimuthStep b
+  pub azimuth-many : 2 ≤ length b → 1 ≤ value b → mostZones < value b → Stop 24 ≡ partStep azimuthPart b
   azimuth-many h l k = simp (le-ltb (length b) 2 h, le-ltb (value b) 1 l, lt-ltb mostZones (value b) k)
 
   module _ (h : 2 ≤ length b) (l : 1 ≤ value b) (k : value b ≤ mostZones) where
-    azimuth-zones : azimuthStep b ≡ decide (zonesChecks (value b) 0 (after b)) Stop (Next (azimuthSize b))
+    azimuth-zones : partStep azimuthPart b ≡ decide (zonesChecks (value b) 0 (after b)) Stop (Next (azimuthPart .size b))
     azimuth-zones = simp (le-ltb (length b) 2 h, le-ltb (value b) 1 l, le-ltb mostZones (value b) k)
 
-    pub azimuth-stop : (n : ℕ) → Stop n ≡ zonesStep (value b) (after b) → Stop n ≡ azimuthStep b
+    pub azimuth-stop : (n : ℕ) → Stop n ≡ zonesStep (value b) (after b) → Stop n ≡ partStep azimuthPart b
     azimuth-stop n e =
         let ks = zonesChecks (value b) 0 (after b) in
-        sym (azimuth-zones ∙ decide-some ks Stop (Next (azimuthSize b)) n (step-first ks (4 * value b) n (sym e)))
+        sym (azimuth-zones ∙ decide-some ks Stop (Next (azimuthPart .size b)) n (step-first ks (4 * value b) n (sym e)))
 
-    pub azimuth-next : (n : ℕ) → Next n ≡ zonesStep (value b) (after b) → Next (2 + n) ≡ azimuthStep b
+    pub azimuth-next : (n : ℕ) → Next n ≡ zonesStep (value b) (after b) → Next (2 + n) ≡ partStep azimuthPart b
     azimuth-next n e =
         let ks = zonesChecks (value b) 0 (after b) in
         let p = step-none ks (4 * value b) n (sym e) in
-        ap (λ (m : ℕ). Next (2 + m)) (sym (p .1)) ∙ sym (azimuth-zones ∙ decide-none ks Stop (Next (azimuthSize b)) (p .0))
+        ap (λ (m : ℕ). Next (2 + m)) (sym (p .1)) ∙ sym (azimuth-zones ∙ decide-none ks Stop (Next (azimuthPart .size b)) (p .0))
 
--- ---- azimuths
--- what is left of a walk from a place: so many azimuths
-abbrev pub azimuthsWalk : ℕ → ℕ → List ℕ → Step
-azimuthsWalk left at b = stepBy (azimuthsChecks left (drop at b)) (at + azimuthsSize left (drop at b))
+-- ---- a run of parts: what is left of a walk from a place
+abbrev pub walk : {A : Type 0} → Part A → ℕ → ℕ → List ℕ → Step
+walk part left at b = stepBy (runChecks part left (drop at b)) (at + runSize part left (drop at b))
 
-azimuths-turn′ : (l at : ℕ) (b : List ℕ) (m : ℕ) → azimuthStep (drop at b) ≡ Next m → azimuthsWalk (suc l) at b ≡ azimuthsWalk l (at + m) b
-unfolding azimuthsChecks azimuthsSize
-azimuths-turn′ l at b m e =
-    let d = drop at b in
-    let s = azimuthSize d in
-    let r = azimuthsChecks l (drop s d) in
-    part-passes (azimuthChecks d) r s (Next (at + (s + azimuthsSize l (drop s d)))) m e
-    ∙ ap (λ (k : ℕ). decide r Stop (Next k)) (sym (add-assoc at s (azimuthsSize l (drop s d))))
-    ∙ ap (λ (x : List ℕ). decide (azimuthsChecks l x) Stop (Next (at + s + azimuthsSize l x))) (drop-drop s at b)
-    ∙ ap (λ (k : ℕ). azimuthsWalk l (at + k) b) (step-none (azimuthChecks d) s m e .1)
+module _ {A : Type 0} (part : Part A) where
+  walk-turn′ : (l at : ℕ) (b : List ℕ) (m : ℕ) → partStep part (drop at b) ≡ Next m → walk part (suc l) at b ≡ walk part l (at + m) b
+  unfolding runChecks runSize
+  walk-turn′ l at b m e =
+      let d = drop at b in
+      let s = part .size d in
+      let r = runChecks part l (drop s d) in
+      part-passes (part .checks d) r s (Next (at + (s + runSize part l (drop s d)))) m e
+      ∙ ap (λ (k : ℕ). decide r Stop (Next k)) (sym (add-assoc at s (runSize part l (drop s d))))
+      ∙ ap (λ (x : List ℕ). decide (runChecks part l x) Stop (Next (at + s + runSize part l x))) (drop-drop s at b)
+      ∙ ap (λ (k : ℕ). walk part l (at + k) b) (step-none (part .checks d) s m e .1)
 
-azimuths-stop′ : (l at : ℕ) (b : List ℕ) (k : ℕ) → azimuthStep (drop at b) ≡ Stop k → azimuthsWalk (suc l) at b ≡ Stop k
-unfolding azimuthsChecks azimuthsSize
-azimuths-stop′ l at b k e =
-    let d = drop at b in
-    let s = azimuthSize d in
-    part-stops (azimuthChecks d) (azimuthsChecks l (drop s d)) s (Next (at + (s + azimuthsSize l (drop s d)))) k e
+  walk-stop′ : (l at : ℕ) (b : List ℕ) (k : ℕ) → partStep part (drop at b) ≡ Stop k → walk part (suc l) at b ≡ Stop k
+  unfolding runChecks runSize
+  walk-stop′ l at b k e =
+      let d = drop at b in
+      let s = part .size d in
+      part-stops (part .checks d) (runChecks part l (drop s d)) s (Next (at + (s + runSize part l (drop s d)))) k e
 
-pub azimuths-turn : (left at : ℕ) (b : List ℕ) (m : ℕ) → 0 < left → Next m ≡ azimuthStep (drop at b)
-    → azimuthsWalk (left - 1) (at + m) b ≡ azimuthsWalk left at b
-azimuths-turn zero at b m h e = absurd (omega arith)
-azimuths-turn (suc l) at b m h e = ap (λ (k : ℕ). azimuthsWalk k (at + m) b) (less-one l) ∙ sym (azimuths-turn′ l at b m (sym e))
+  pub walk-turn : (left at : ℕ) (b : List ℕ) (m : ℕ) → 0 < left → Next m ≡ partStep part (drop at b) → walk part (left - 1) (at + m) b ≡ walk part left at b
+  walk-turn zero at b m h e = absurd (omega arith)
+  walk-turn (suc l) at b m h e = ap (λ (k : ℕ). walk part k (at + m) b) (less-one l) ∙ sym (walk-turn′ l at b m (sym e))
 
-pub azimuths-stop : (left at : ℕ) (b : List ℕ) (k : ℕ) → 0 < left → Stop k ≡ azimuthStep (drop at b) → Stop k ≡ azimuthsWalk left at b
-azimuths-stop zero at b k h e = absurd (omega arith)
-azimuths-stop (suc l) at b k h e = sym (azimuths-stop′ l at b k (sym e))
+  pub walk-stop : (left at : ℕ) (b : List ℕ) (k : ℕ) → 0 < left → Stop k ≡ partStep part (drop at b) → Stop k ≡ walk part left at b
+  walk-stop zero at b k h e = absurd (omega arith)
+  walk-stop (suc l) at b k h e = sym (walk-stop′ l at b k (sym e))
 
-pub azimuths-done : (left at : ℕ) (b : List ℕ) → left ≤ 0 → Next at ≡ azimuthsWalk left at b
-unfolding azimuthsChecks azimuthsSize
-azimuths-done zero at b h = ap Next (sym (add-zero at))
-azimuths-done (suc l) at b h = absurd (omega arith)
+  pub walk-done : (left at : ℕ) (b : List ℕ) → left ≤ 0 → Next at ≡ walk part left at b
+  unfolding runChecks runSize
+  walk-done zero at b h = ap Next (sym (add-zero at))
+  walk-done (suc l) at b h = absurd (omega arith)
 
--- a part that passes lies within the bytes
-pub azimuth-fits : (at : ℕ) (b : List ℕ) (m : ℕ) → at ≤ length b → Next m ≡ azimuthStep (drop at b) → at + m ≤ length b
-azimuth-fits at b m h e =
-    let p = step-none (azimuthChecks (drop at b)) (azimuthSize (drop at b)) m (sym e) in
-    let l : azimuthSize (drop at b) ≤ length b - at = rw (← length-drop at b) (azimuth-long (drop at b) (all-hold (azimuthChecks (drop at b)) (p .0))) in
-    omega (arith, p .1)
+  pub walk-start : (left : ℕ) (b : List ℕ) → walk part left 0 b ≡ runStep part left b
+  walk-start left b = ap (λ (k : ℕ). stepBy (runChecks part left b) k) (zero-add (runSize part left b))
 
--- ---- elevation segments
-abbrev pub elevationsWalk : ℕ → ℕ → List ℕ → Step
-elevationsWalk left at b = stepBy (elevationsChecks left (drop at b)) (at + elevationsSize left (drop at b))
+  -- a part that passes lies within the bytes
+  pub part-fits : ((b : List ℕ) → AllHold (part .checks b) → part .size b ≤ length b) → (at : ℕ) (b : List ℕ) (m : ℕ) → at ≤ length b
+      → Next m ≡ partStep part (drop at b) → at + m ≤ length b
+  part-fits long at b m h e =
+      let d = drop at b in
+      let p = step-none (part .checks d) (part .size d) m (sym e) in
+      let l : part .size d ≤ length b - at = rw (← length-drop at b) (long d (all-hold (part .checks d) (p .0))) in
+      omega (arith, p .1)
 
-elevations-turn′ : (l at : ℕ) (b : List ℕ) (m : ℕ) → elevationStep (drop at b) ≡ Next m → elevationsWalk (suc l) at b ≡ elevationsWalk l (at + m) b
-unfolding elevationsChecks elevationsSize
-elevations-turn′ l at b m e =
-    let d = drop at b in
-    let s = azimuthsSize azimuths d in
-    let r = elevationsChecks l (drop s d) in
-    part-passes (azimuthsChecks azimuths d) r s (Next (at + (s + elevationsSize l (drop s d)))) m e
-    ∙ ap (λ (k : ℕ). decide r Stop (Next k)) (sym (add-assoc at s (elevationsSize l (drop s d))))
-    ∙ ap (λ (x : List ℕ). decide (elevationsChecks l x) Stop (Next (at + s + elevationsSize l x))) (drop-drop s at b)
-    ∙ ap (λ (k : ℕ). elevationsWalk l (at + k) b) (step-none (azimuthsChecks azimuths d) s m e .1)
-
-elevations-stop′ : (l at : ℕ) (b : List ℕ) (k : ℕ) → elevationStep (drop at b) ≡ Stop k → elevationsWalk (suc l) at b ≡ Stop k
-unfolding elevationsChecks elevationsSize
-elevations-stop′ l at b k e =
-    let d = drop at b in
-    let s = azimuthsSize azimuths d in
-    part-stops (azimuthsChecks azimuths d) (elevationsChecks l (drop s d)) s (Next (at + (s + elevationsSize l (drop s d)))) k e
-
-pub elevations-turn : (left at : ℕ) (b : List ℕ) (m : ℕ) → 0 < left → Next m ≡ elevationStep (drop at b)
-    → elevationsWalk (left - 1) (at + m) b ≡ elevationsWalk left at b
-elevations-turn zero at b m h e = absurd (omega arith)
-elevations-turn (suc l) at b m h e = ap (λ (k : ℕ). elevationsWalk k (at + m) b) (less-one l) ∙ sym (elevations-turn′ l at b m (sym e))
-
-pub elevations-stop : (left at : ℕ) (b : List ℕ) (k : ℕ) → 0 < left → Stop k ≡ elevationStep (drop at b) → Stop k ≡ elevationsWalk left at b
-elevations-stop zero at b k h e = absurd (omega arith)
-elevations-stop (suc l) at b k h e = sym (elevations-stop′ l at b k (sym e))
-
-pub elevations-done : (left at : ℕ) (b : List ℕ) → left ≤ 0 → Next at ≡ elevationsWalk left at b
-unfolding elevationsChecks elevationsSize
-elevations-done zero at b h = ap Next (sym (add-zero at))
-elevations-done (suc l) at b h = absurd (omega arith)
-
-pub elevation-fits : (at : ℕ) (b : List ℕ) (m : ℕ) → at ≤ length b → Next m ≡ elevationStep (drop at b) → at + m ≤ length b
-elevation-fits at b m h e =
-    let d = drop at b in
-    let p = step-none (azimuthsChecks azimuths d) (azimuthsSize azimuths d) m (sym e) in
-    let l : azimuthsSize azimuths d ≤ length b - at = rw (← length-drop at b) (azimuths-long azimuths d (all-hold (azimuthsChecks azimuths d) (p .0))) in
-    omega (arith, p .1)
-
--- ---- where a walk begins, and what a part's size is
-pub walk-start : (ks : List Check) (n : ℕ) → stepBy ks (0 + n) ≡ stepBy ks n
-walk-start ks n = ap (λ (k : ℕ). stepBy ks k) (zero-add n)
-
+-- ---- how many bytes zones take
 pub zones-size : (count : ℕ) (b : List ℕ) (n : ℕ) → Next n ≡ zonesStep count b → n ≡ 4 * count
 zones-size count b n e = sym (step-none (zonesChecks count 0 b) (4 * count) n (sym e) .1)

@@ -3,8 +3,8 @@ use Prim.Native.Nat.{ℕ, suc, _+_, _*_, _≤_}
 use mathlib.Core.List.{List}
 use lib.ListN.{length, drop}
 use Rattle.wire.specs.Checks.{Check, decide}
-use Rattle.map.specs.Map.{azimuths, codeFrom}
-use Rattle.map.specs.Reading.{value, after, zoneChecks, zonesChecks, azimuthChecks, azimuthSize, azimuthsSize, azimuthsChecks, elevationsSize, elevationsChecks, segmentsIn, headChecks, mapChecks, zonesIn}
+use Rattle.map.specs.Map.{codeFrom}
+use Rattle.map.specs.Reading.{value, after, zoneChecks, zonesChecks, Part, runSize, runChecks, azimuthPart, segmentsIn, headChecks, mapChecks}
 use Rattle.filter.specs.declared.Step.{Step}
 use Rattle.filter.specs.declared.Step.the-variants.{Next, Stop}
 
@@ -15,18 +15,16 @@ stepBy ks n = decide ks Stop (Next n)
 abbrev pub zoneStep : ℕ → ℕ → List ℕ → Step
 zoneStep left from b = stepBy (zoneChecks left from b) (suc (value (after b)))
 
--- so many zones, an azimuth, 360 azimuths, so many elevation segments: the bytes that they take
+-- so many zones: the bytes that they take
 abbrev pub zonesStep : ℕ → List ℕ → Step
 zonesStep count b = stepBy (zonesChecks count 0 b) (4 * count)
 
-abbrev pub azimuthStep : List ℕ → Step
-azimuthStep b = stepBy (azimuthChecks b) (azimuthSize b)
+-- an azimuth or an elevation segment, and so many of them: the bytes that they take
+abbrev pub partStep : {A : Type 0} → Part A → List ℕ → Step
+partStep part b = stepBy (part .checks b) (part .size b)
 
-abbrev pub elevationStep : List ℕ → Step
-elevationStep b = stepBy (azimuthsChecks azimuths b) (azimuthsSize azimuths b)
-
-abbrev pub elevationsStep : ℕ → List ℕ → Step
-elevationsStep count b = stepBy (elevationsChecks count b) (elevationsSize count b)
+abbrev pub runStep : {A : Type 0} → Part A → ℕ → List ℕ → Step
+runStep part count b = stepBy (runChecks part count b) (runSize part count b)
 
 -- the fields before the azimuths, and the whole body: how many elevation segments
 abbrev pub headStep : List ℕ → Step
@@ -38,11 +36,11 @@ bodyStep b = stepBy (mapChecks b) (segmentsIn b)
 -- ---- a query in a checked part, the azimuths of all elevation segments counted through from 0
 -- the azimuth of an index, and that it lies within the part
 abbrev pub azimuthThere : ℕ → List ℕ → List ℕ
-azimuthThere index b = drop (azimuthsSize index b) b
+azimuthThere index b = drop (runSize azimuthPart index b) b
 
 abbrev pub PassFits : ℕ → List ℕ → Type 0
-PassFits index b = azimuthsSize index b + azimuthSize (azimuthThere index b) ≤ length b
+PassFits index b = runSize azimuthPart index b + azimuthPart .size (azimuthThere index b) ≤ length b
 
 -- the code at a kilometre of it
 abbrev pub codeThere : ℕ → ℕ → List ℕ → ℕ
-codeThere index kilometre b = codeFrom 0 (zonesIn (value (azimuthThere index b)) (after (azimuthThere index b))) kilometre
+codeThere index kilometre b = codeFrom 0 (azimuthPart .read (azimuthThere index b)) kilometre

@@ -4,9 +4,9 @@ ghost use mathlib.Core.Path.{_≡_};
 ghost use Prim.Native.Nat.{_+_, _*_, _≤_};
 ghost use lib.ListN.{length, drop};
 ghost use Rattle.map.specs.Map.{mostZones, codeFrom};
-ghost use Rattle.map.specs.Reading.{value, after, endBroken, azimuthSize, azimuthsSize, zonesIn, summaryOf, codeOf};
+ghost use Rattle.map.specs.Reading.{endBroken, runSize, azimuthPart, elevationPart, summaryOf, codeOf};
 ghost use Rattle.filter.specs.Answers.{tellMap, tellCode};
-ghost use Rattle.filter.specs.Steps.{zoneStep, zonesStep, azimuthStep, elevationStep, elevationsStep, headStep, bodyStep, PassFits, codeThere};
+ghost use Rattle.filter.specs.Steps.{zoneStep, zonesStep, partStep, runStep, headStep, bodyStep, PassFits, codeThere};
 
 const MOST_MINUTES: u16 = 1440;
 
@@ -105,7 +105,7 @@ fn check_zones(part: &[u8], count: usize) -> Step
 
 // The azimuth that the part begins with: its zone count, and its zones.
 fn check_azimuth(part: &[u8]) -> Step
-    ensures { λ r. ⌜ r ≡ azimuthStep (now (part .entry)) ⌝ }
+    ensures { λ r. ⌜ r ≡ partStep azimuthPart (now (part .entry)) ⌝ }
 {
     if part.len() < 2 {
         return Step::Stop(refusal::LENGTH);
@@ -125,7 +125,7 @@ fn check_azimuth(part: &[u8]) -> Step
 
 // The elevation segment that the part begins with: its 360 azimuths.
 fn check_elevation(part: &[u8]) -> Step
-    ensures { λ r. ⌜ r ≡ elevationStep (now (part .entry)) ⌝ }
+    ensures { λ r. ⌜ r ≡ partStep elevationPart (now (part .entry)) ⌝ }
 {
     let mut left = AZIMUTHS;
     let mut at: usize = 0;
@@ -143,7 +143,7 @@ fn check_elevation(part: &[u8]) -> Step
 
 // So many elevation segments from the part's start.
 fn check_elevations(part: &[u8], count: usize) -> Step
-    ensures { λ r. ⌜ r ≡ elevationsStep count (now (part .entry)) ⌝ }
+    ensures { λ r. ⌜ r ≡ runStep elevationPart count (now (part .entry)) ⌝ }
 {
     let mut left = count;
     let mut at: usize = 0;
@@ -223,8 +223,8 @@ pub fn check_map(body: &[u8]) -> MapAnswer
 
 // How many bytes the first azimuths of a checked part take.
 fn pass_azimuths(part: &[u8], count: usize) -> usize
-    requires { ⌜ azimuthsSize count (now part) ≤ length (now part) ⌝ }
-    ensures { λ r. ⌜ r ≡ azimuthsSize count (now (part .entry)) ⌝ }
+    requires { ⌜ runSize azimuthPart count (now part) ≤ length (now part) ⌝ }
+    ensures { λ r. ⌜ r ≡ runSize azimuthPart count (now (part .entry)) ⌝ }
 {
     let mut left = count;
     let mut at: usize = 0;
@@ -237,8 +237,8 @@ fn pass_azimuths(part: &[u8], count: usize) -> usize
 
 // The code at a kilometre of the azimuth that a checked part begins with: that of the first zone that does not end before it.
 fn zone_code(part: &[u8], kilometre: usize) -> u16
-    requires { ⌜ azimuthSize (now part) ≤ length (now part) ⌝ }
-    ensures { λ r. ⌜ r ≡ codeFrom 0 (zonesIn (value (now (part .entry))) (after (now (part .entry)))) kilometre ⌝ }
+    requires { ⌜ azimuthPart .size (now part) ≤ length (now part) ⌝ }
+    ensures { λ r. ⌜ r ≡ codeFrom 0 (azimuthPart .read (now (part .entry))) kilometre ⌝ }
 {
     let mut left = wire::fetch16(part, 0);
     let mut at: u32 = 2;

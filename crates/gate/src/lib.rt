@@ -5,9 +5,9 @@ ghost use Rattle.wire.specs.Checks.{someBroken};
 ghost use Rattle.gate.specs.Value.{notFinite, valueChecks, valueOf, gateOf};
 ghost use Rattle.gate.specs.Steps.{WordThere, codeIn};
 ghost use Rattle.gate.specs.Promises.{tellGate};
+use lookup::MomentAnswer;
 use wire::INFINITE;
 use wire::SIGN;
-use lookup::MomentAnswer;
 use wire::refusal;
 
 pub enum GateAnswer {

@@ -2,9 +2,9 @@
 use mathlib.Core.Path.{refl}
 use Rattle.wire.specs.Numbers.{num}
 use Rattle.map.specs.Map.{codeFrom}
-use Rattle.map.specs.Reading.{zonesChecks, azimuthsSize, azimuthsChecks, elevationsSize, elevationsChecks, zonesIn, azimuthsIn, elevationsIn}
+use Rattle.map.specs.Reading.{zonesChecks, zonesIn, runSize, runChecks, runIn}
 use Rattle.map.specs.Cases.{Table}
 
 pub table : Table
-unfolding num codeFrom zonesChecks azimuthsSize azimuthsChecks elevationsSize elevationsChecks zonesIn azimuthsIn elevationsIn
+unfolding num codeFrom zonesChecks zonesIn runSize runChecks runIn
 table = (refl, (refl, (refl, (refl, (refl, (refl, (refl, (refl, (refl, (refl, (refl, (refl, (refl, (refl, (refl, (refl, (refl, (refl, (refl, (refl, (refl, (refl, (refl, (refl, (refl, (refl, (refl, (refl, (refl, (refl, tt))))))))))))))))))))))))))))))

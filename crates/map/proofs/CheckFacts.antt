@@ -1,17 +1,16 @@
 -- The checks of a zone, an azimuth and a body as plain facts, both ways. Assumes nothing.
-use Prim.Native.Nat.{ℕ, zero, suc, _+_, _*_, _≤_, _<_}
+use Prim.Native.Nat.{ℕ, suc, _+_, _≤_}
 use native.Mathlib.Omega.{arith}
-use mathlib.Core.Path.{_≡_, refl, sym, ap, _∙_}
+use mathlib.Core.Path.{_≡_, refl}
 use mathlib.Core.Bool.{Bool, true, false, not}
-use mathlib.Core.List.{List, [], _∷_, _++_}
+use mathlib.Core.List.{List}
 use lib.Dec.{ltb, eqb}
 use lib.ListN.{length, drop, length-drop}
-use borrow.Author.Tests.{ltb-false, le-ltb, eq-eqb, eqb-true, ne-eqb, not-false}
-use Rattle.wire.specs.Numbers.{num}
-use Rattle.wire.specs.Checks.{either, both, Check, check, AllHold}
-use Rattle.wire.proofs.CheckLaws.{never, all-hold-append, all-hold-join}
+use borrow.Author.Tests.{ltb-false, le-ltb, eq-eqb, eqb-true, not-false}
+use Rattle.wire.specs.Checks.{either, both, AllHold}
+use Rattle.wire.proofs.CheckLaws.{all-hold-append, all-hold-join}
 use Rattle.map.specs.Map.{mostMinutes, mostElevations, mostZones, mostCode, lastKilometre}
-use Rattle.map.specs.Reading.{value, after, endBroken, zonesChecks, azimuthChecks, azimuthSize, azimuthsSize, azimuthsChecks, elevationsSize, elevationsChecks, dateIn, minutesIn, segmentsIn, mapChecks}
+use Rattle.map.specs.Reading.{value, after, endBroken, zonesChecks, runSize, runChecks, azimuthPart, elevationPart, dateIn, minutesIn, segmentsIn, leftoverChecks, mapChecks}
 use Rattle.map.proofs.FieldLaws.{either-false, both-false}
 
 -- ---- the end field
@@ -74,7 +73,7 @@ pub record AzimuthFacts (b : List ℕ) : Type 0 where
   pub most : value b ≤ mostZones
   pub zones : AllHold (zonesChecks (value b) 0 (after b))
 
-pub azimuth-facts : (b : List ℕ) → AllHold (azimuthChecks b) → AzimuthFacts b
+pub azimuth-facts : (b : List ℕ) → AllHold (azimuthPart .checks b) → AzimuthFacts b
 azimuth-facts b p =
     let q = either-false (ltb (value b) 1) (ltb mostZones (value b)) (p .1 .0) in
     record {
@@ -84,7 +83,7 @@ azimuth-facts b p =
       zones = p .1 .1;
     }
 
-pub azimuth-holds : (b : List ℕ) → AzimuthFacts b → AllHold (azimuthChecks b)
+pub azimuth-holds : (b : List ℕ) → AzimuthFacts b → AllHold (azimuthPart .checks b)
 azimuth-holds b f = (le-ltb (length b) 2 (f .here), (simp (le-ltb (value b) 1 (f .some), le-ltb mostZones (value b) (f .most)), f .zones))
 
 -- ---- a body
@@ -94,16 +93,13 @@ pub record MapFacts (b : List ℕ) : Type 0 where
   pub minutes : minutesIn b ≤ mostMinutes
   pub some : 1 ≤ segmentsIn b
   pub most : segmentsIn b ≤ mostElevations
-  pub elevations : AllHold (elevationsChecks (segmentsIn b) (drop 6 b))
-  pub whole : length b ≤ 6 + elevationsSize (segmentsIn b) (drop 6 b)
-
-abbrev leftover : List ℕ → List Check
-leftover b = check 23 (ltb (6 + elevationsSize (segmentsIn b) (drop 6 b)) (length b)) ∷ []
+  pub elevations : AllHold (runChecks elevationPart (segmentsIn b) (drop 6 b))
+  pub whole : length b ≤ 6 + runSize elevationPart (segmentsIn b) (drop 6 b)
 
 pub map-facts : (b : List ℕ) → AllHold (mapChecks b) → MapFacts b
 map-facts b p =
     let q = either-false (ltb (segmentsIn b) 1) (ltb mostElevations (segmentsIn b)) (p .1 .1 .1 .1 .1 .0) in
-    let r = all-hold-append (elevationsChecks (segmentsIn b) (drop 6 b)) (leftover b) (p .1 .1 .1 .1 .1 .1) in
+    let r = all-hold-append (runChecks elevationPart (segmentsIn b) (drop 6 b)) (leftoverChecks b) (p .1 .1 .1 .1 .1 .1) in
     let l : 2 ≤ length (drop 4 b) = ltb-false (length (drop 4 b)) 2 (p .1 .1 .1 .1 .0) in
     let k = simp length-drop at l in
     record {
@@ -113,7 +109,7 @@ map-facts b p =
       some = ltb-false (segmentsIn b) 1 (q .0);
       most = ltb-false mostElevations (segmentsIn b) (q .1);
       elevations = r .0;
-      whole = ltb-false (6 + elevationsSize (segmentsIn b) (drop 6 b)) (length b) (r .1 .0);
+      whole = ltb-false (6 + runSize elevationPart (segmentsIn b) (drop 6 b)) (length b) (r .1 .0);
     }
 
 pub map-holds : (b : List ℕ) → MapFacts b → AllHold (mapChecks b)
@@ -131,8 +127,8 @@ map-holds b f =
               le-ltb (length (drop 4 b)) 2 k,
               (
                 simp (le-ltb (segmentsIn b) 1 (f .some), le-ltb mostElevations (segmentsIn b) (f .most)),
-                all-hold-join (elevationsChecks (segmentsIn b) (drop 6 b)) (leftover b) (f .elevations)
-                    (le-ltb (6 + elevationsSize (segmentsIn b) (drop 6 b)) (length b) (f .whole), tt),
+                all-hold-join (runChecks elevationPart (segmentsIn b) (drop 6 b)) (leftoverChecks b) (f .elevations)
+                    (le-ltb (6 + runSize elevationPart (segmentsIn b) (drop 6 b)) (length b) (f .whole), tt),
               ),
             ),
           ),

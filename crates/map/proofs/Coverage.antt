@@ -1,5 +1,5 @@
 -- Exactly one zone of an azimuth in range covers a kilometre. Assumes nothing.
-use Prim.Native.Nat.{ℕ, zero, suc, _-_, _≤_, _<_}
+use Prim.Native.Nat.{ℕ, zero, suc, _≤_, _<_}
 use native.Mathlib.Omega.{arith}
 use mathlib.Core.Path.{_≡_, refl, sym, ap, _∙_, subst}
 use mathlib.Core.Bool.{Bool, true, false}
@@ -7,10 +7,9 @@ use mathlib.Core.List.{List, [], _∷_}
 use lib.Dec.{leb}
 use lib.ListN.{length, getD}
 use borrow.Author.Tests.{leb-true, leb-false, le-leb, lt-leb}
-use Rattle.wire.specs.Checks.{pick, both}
-use Rattle.map.specs.Map.{mostCode, lastKilometre, Zone, Each, ZoneInRange, AzimuthInRange, EndsRise, codeFrom, noZone, startOf, Covers}
+use Rattle.map.specs.Map.{mostCode, lastKilometre, Zone, Each, ZoneInRange, AzimuthInRange, codeFrom, noZone, startOf}
 use Rattle.map.specs.Statements.{OneZone}
-use Rattle.map.proofs.ZoneLaws.{LastAt, RisesFrom, ends-rise}
+use Rattle.map.proofs.ZoneLaws.{RisesFrom, ends-rise}
 
 pub each-at : {A : Type 0} (P : A → Type 0) (xs : List A) (d : A) (k : ℕ) → Each P xs → k < length xs → P (getD xs k d)
 each-at P [] d k p h = absurd (omega arith)

@@ -1,15 +1,14 @@
 -- Laws of one halfword field, of tests joined, and of tables joined. Assumes nothing.
-use Prim.Native.Nat.{ℕ, zero, suc, _+_, _*_, _≤_, _<_}
-use native.Mathlib.Nat.{add-zero}
+use Prim.Native.Nat.{ℕ, _+_, _≤_}
 use native.Mathlib.Omega.{arith}
 use mathlib.Core.Path.{_≡_, refl, sym, ap, _∙_}
 use mathlib.Core.Bool.{Bool, true, false}
 use mathlib.Core.List.{List, [], _∷_, _++_, append-assoc}
-use lib.ListN.{length, getD, take, drop, take-append-drop}
+use lib.ListN.{length, drop, take-append-drop}
 use lib.Seq.{getD-drop}
 use Rattle.wire.specs.Numbers.{num, be, Octets}
-use Rattle.wire.specs.Checks.{pick, either, both}
-use Rattle.wire.specs.Tables.{Field, field, render}
+use Rattle.wire.specs.Checks.{either, both}
+use Rattle.wire.specs.Tables.{Field, render}
 use Rattle.wire.proofs.NumberLaws.{num-be, be-num}
 use Rattle.wire.proofs.CheckLaws.{never}
 

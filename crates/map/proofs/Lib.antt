@@ -1,7 +1,8 @@
--- The proofs of specs/Statements.antt, and of document 01's cases 13 and 14.
+-- The proofs of specs/Statements.antt and of specs/Cases.antt.
 pub mod FieldLaws
 pub mod CheckFacts
 pub mod ZoneLaws
+pub mod Runs
 pub mod Accepted
 pub mod Rendered
 pub mod Coverage

@@ -1,5 +1,5 @@
 -- Ends that rise, said zone by zone: `from` is the least end that rises. Assumes nothing.
-use Prim.Native.Nat.{ℕ, zero, suc, _≤_}
+use Prim.Native.Nat.{ℕ, suc, _≤_}
 use mathlib.Core.Path.{_≡_}
 use mathlib.Core.List.{List, [], _∷_}
 use Rattle.map.specs.Map.{lastKilometre, Zone, EndsRise}

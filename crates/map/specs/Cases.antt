@@ -2,10 +2,10 @@
 use Prim.Native.Nat.{ℕ}
 use mathlib.Core.Path.{_≡_}
 use mathlib.Core.List.{List, [], _∷_, _++_}
-use lib.ListN.{length, take, replicate}
+use lib.ListN.{take, replicate}
 use Rattle.wire.specs.Numbers.{be}
 use Rattle.wire.specs.Answers.{Answer, refused, given}
-use Rattle.map.specs.Map.{Zone, FilterMap, mapBytes, Each}
+use Rattle.map.specs.Map.{Zone, mapBytes, Each}
 use Rattle.map.specs.Reading.{Summary, summaryOf, codeOf}
 
 abbrev pub zone : ℕ → ℕ → Zone

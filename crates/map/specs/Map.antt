@@ -43,20 +43,21 @@ pub record FilterMap : Type 0 where
   pub elevations : List (List (List Zone))
 
 -- ---- its table, every field a halfword: "date, minutes, elevation segments; for each of these, 360 azimuths; for each, zone count, then pairs"
-abbrev pub zoneFields : List Zone → List Field
-zoneFields [] = []
-zoneFields (z ∷ zs) = field 2 (z .code) ∷ field 2 (z .end) ∷ zoneFields zs
+abbrev pub fieldsOf : {A : Type 0} → (A → List Field) → List A → List Field
+fieldsOf fields [] = []
+fieldsOf fields (x ∷ xs) = fields x ++ fieldsOf fields xs
 
-abbrev pub azimuthFields : List (List Zone) → List Field
-azimuthFields [] = []
-azimuthFields (a ∷ more) = field 2 (length a) ∷ zoneFields a ++ azimuthFields more
+abbrev pub zoneFields : Zone → List Field
+zoneFields z = field 2 (z .code) ∷ field 2 (z .end) ∷ []
 
-abbrev pub elevationFields : List (List (List Zone)) → List Field
-elevationFields [] = []
-elevationFields (e ∷ es) = azimuthFields e ++ elevationFields es
+abbrev pub azimuthFields : List Zone → List Field
+azimuthFields a = field 2 (length a) ∷ fieldsOf zoneFields a
+
+abbrev pub elevationFields : List (List Zone) → List Field
+elevationFields e = fieldsOf azimuthFields e
 
 abbrev pub mapFields : FilterMap → List Field
-mapFields m = field 2 (m .date) ∷ field 2 (m .minutes) ∷ field 2 (length (m .elevations)) ∷ elevationFields (m .elevations)
+mapFields m = field 2 (m .date) ∷ field 2 (m .minutes) ∷ field 2 (length (m .elevations)) ∷ fieldsOf elevationFields (m .elevations)
 
 abbrev pub mapBytes : FilterMap → List ℕ
 mapBytes m = render (mapFields m)

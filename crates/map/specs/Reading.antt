@@ -1,6 +1,5 @@
 -- The rule of refusal of a body 15, what stands in an accepted one, and what is answered of it.
 use Prim.Native.Nat.{ℕ, zero, suc, _+_, _*_}
-use mathlib.Core.Path.{_≡_}
 use mathlib.Core.Bool.{Bool, not}
 use mathlib.Core.List.{List, [], _∷_, _++_}
 use lib.Dec.{ltb, eqb}
@@ -33,31 +32,44 @@ unfoldable pub zonesChecks : ℕ → ℕ → List ℕ → List Check
 zonesChecks zero from b = []
 zonesChecks (suc left) from b = zoneChecks left from b ++ zonesChecks left (suc (value (after b))) (after (after b))
 
+-- what stands there
+unfoldable pub zonesIn : ℕ → List ℕ → List Zone
+zonesIn zero b = []
+zonesIn (suc n) b = record { code = value b; end = value (after b) } ∷ zonesIn n (after (after b))
+
+-- ---- parts of the body, each as long as its own bytes say
+-- a part that the bytes begin with: how many bytes it takes, its checks, and what stands in it
+pub record Part (A : Type 0) : Type 0 where
+  pub size : List ℕ → ℕ
+  pub checks : List ℕ → List Check
+  pub read : List ℕ → A
+
+-- the same of n such parts, one after the other
+unfoldable pub runSize : {A : Type 0} → Part A → ℕ → List ℕ → ℕ
+runSize part zero b = 0
+runSize part (suc n) b = part .size b + runSize part n (drop (part .size b) b)
+
+unfoldable pub runChecks : {A : Type 0} → Part A → ℕ → List ℕ → List Check
+runChecks part zero b = []
+runChecks part (suc n) b = part .checks b ++ runChecks part n (drop (part .size b) b)
+
+unfoldable pub runIn : {A : Type 0} → Part A → ℕ → List ℕ → List A
+runIn part zero b = []
+runIn part (suc n) b = part .read b ∷ runIn part n (drop (part .size b) b)
+
 -- "zone count 1 to 20, then pairs"
-abbrev pub azimuthChecks : List ℕ → List Check
-azimuthChecks b = fieldChecks b (either (ltb (value b) 1) (ltb mostZones (value b))) ++ zonesChecks (value b) 0 (after b)
-
--- how many bytes the azimuth takes that the bytes begin with, and n of them
-abbrev pub azimuthSize : List ℕ → ℕ
-azimuthSize b = 2 + 4 * value b
-
-unfoldable pub azimuthsSize : ℕ → List ℕ → ℕ
-azimuthsSize zero b = 0
-azimuthsSize (suc n) b = azimuthSize b + azimuthsSize n (drop (azimuthSize b) b)
-
-unfoldable pub azimuthsChecks : ℕ → List ℕ → List Check
-azimuthsChecks zero b = []
-azimuthsChecks (suc n) b = azimuthChecks b ++ azimuthsChecks n (drop (azimuthSize b) b)
+abbrev pub azimuthPart : Part (List Zone)
+azimuthPart = record {
+  size = λ b. 2 + 4 * value b;
+  checks = λ b. fieldChecks b (either (ltb (value b) 1) (ltb mostZones (value b))) ++ zonesChecks (value b) 0 (after b);
+  read = λ b. zonesIn (value b) (after b);
+}
 
 -- "for each of these, 360 azimuths"
-unfoldable pub elevationsSize : ℕ → List ℕ → ℕ
-elevationsSize zero b = 0
-elevationsSize (suc n) b = azimuthsSize azimuths b + elevationsSize n (drop (azimuthsSize azimuths b) b)
+abbrev pub elevationPart : Part (List (List Zone))
+elevationPart = record { size = runSize azimuthPart azimuths; checks = runChecks azimuthPart azimuths; read = runIn azimuthPart azimuths }
 
-unfoldable pub elevationsChecks : ℕ → List ℕ → List Check
-elevationsChecks zero b = []
-elevationsChecks (suc n) b = azimuthsChecks azimuths b ++ elevationsChecks n (drop (azimuthsSize azimuths b) b)
-
+-- ---- the body
 -- "date (1 up), minutes (0 to 1,440), elevation segments (1 to 5)"
 abbrev pub dateIn : List ℕ → ℕ
 dateIn b = value b
@@ -75,27 +87,15 @@ headChecks b =
     ++ fieldChecks (drop 4 b) (either (ltb (segmentsIn b) 1) (ltb mostElevations (segmentsIn b)))
 
 -- "leftovers 23 last"
+abbrev pub leftoverChecks : List ℕ → List Check
+leftoverChecks b = check 23 (ltb (6 + runSize elevationPart (segmentsIn b) (drop 6 b)) (length b)) ∷ []
+
 abbrev pub mapChecks : List ℕ → List Check
-mapChecks b =
-    headChecks b
-    ++ elevationsChecks (segmentsIn b) (drop 6 b)
-    ++ (check 23 (ltb (6 + elevationsSize (segmentsIn b) (drop 6 b)) (length b)) ∷ [])
+mapChecks b = headChecks b ++ runChecks elevationPart (segmentsIn b) (drop 6 b) ++ leftoverChecks b
 
 -- ---- the map that stands in the bytes
-unfoldable pub zonesIn : ℕ → List ℕ → List Zone
-zonesIn zero b = []
-zonesIn (suc n) b = record { code = value b; end = value (after b) } ∷ zonesIn n (after (after b))
-
-unfoldable pub azimuthsIn : ℕ → List ℕ → List (List Zone)
-azimuthsIn zero b = []
-azimuthsIn (suc n) b = zonesIn (value b) (after b) ∷ azimuthsIn n (drop (azimuthSize b) b)
-
-unfoldable pub elevationsIn : ℕ → List ℕ → List (List (List Zone))
-elevationsIn zero b = []
-elevationsIn (suc n) b = azimuthsIn azimuths b ∷ elevationsIn n (drop (azimuthsSize azimuths b) b)
-
 abbrev pub mapIn : List ℕ → FilterMap
-mapIn b = record { date = dateIn b; minutes = minutesIn b; elevations = elevationsIn (segmentsIn b) (drop 6 b) }
+mapIn b = record { date = dateIn b; minutes = minutesIn b; elevations = runIn elevationPart (segmentsIn b) (drop 6 b) }
 
 -- ---- what is answered
 -- the map itself, of a body that no check refuses

@@ -1,6 +1,6 @@
-use Prim.Native.Nat.{ℕ, _+_, _*_, _-_, _≤_, _<_}
+use Prim.Native.Nat.{ℕ, _*_, _-_, _≤_, _<_}
 use denote.Ref.{now}
-use mathlib.Core.Path.{_≡_, refl, sym, ap, _∙_, subst}
+use mathlib.Core.Path.{_≡_, sym, ap, _∙_, subst}
 use native.Mathlib.Omega.{arith}
 use mathlib.Core.List.{List}
 use lib.ListN.{length, take, drop}
@@ -12,11 +12,6 @@ use Rattle.filter.proofs.StepLaws.{azimuth-cut, azimuth-none, azimuth-m
 use borrow.Author.Needs.{needs}
 use Rattle.filter.proofs.check_azimuth.Statement.{statement}
 use Rattle.filter.proofs.check_azimuth.Tie as tie
-use Rattle.filter.proofs.check_azimuth.Reads as reads
-use Rattle.filter.proofs.check_azimuth.Lts as lts
-use Rattle.filter.proofs.check_zones.Reads as check-zones-reads
-use Rattle.filter.proofs.wide.Reads as wide-reads
-use Rattle.wire.proofs.fetch16.Reads as fetch16-reads
 
 -- the zone count
 counted : (c : tie.After-fetch16) → c .fetch16 .result ≡ value (now (c .before .before .before .args .part))
@@ -30,52 +25,41 @@ zoned c =
     ∙ ap (λ (n : ℕ). zonesStep n (take (length b - 2) (drop 2 b))) (c .before .wide .ensures ∙ counted (c .before .before .before .before .before))
     ∙ ap (λ (l : List ℕ). zonesStep (value b) l) (rest-is b 2)
 
--- src/lib.rt:116:9
 returns : tie.Need-returns
 returns c = azimuth-cut (now (c .before .before .args .part)) (c .if1 .taken)
 
--- src/lib.rt:118:9
 fetch16-requires : tie.Need-fetch16-requires
 fetch16-requires c κs = search needs
 
--- src/lib.rt:120:9
 returns-2 : tie.Need-returns-2
 returns-2 c =
     let b = now (c .before .before .before .before .args .part) in
     azimuth-none b (c .before .before .if1 .left) (subst (λ (n : ℕ). n < 1) (counted (c .before)) (c .if2 .taken))
 
--- src/lib.rt:123:9
 returns-3 : tie.Need-returns-3
 returns-3 c =
     let b = now (c .before .before .before .before .before .args .part) in
     azimuth-many b (c .before .before .before .if1 .left) (subst (λ (n : ℕ). 1 ≤ n) (counted (c .before .before)) (c .before .if2 .left))
     (subst (λ (n : ℕ). mostZones < n) (counted (c .before .before)) (c .if3 .taken))
 
--- src/lib.rt:125:23
 sub-check-zones : tie.Need-sub-check-zones
 sub-check-zones c = search needs
 
--- src/lib.rt:125:23
 part-check-zones-start : tie.Need-part-check-zones-start
 part-check-zones-start c = search needs
 
--- src/lib.rt:125:23
 part-check-zones-end : tie.Need-part-check-zones-end
 part-check-zones-end c = search needs
 
--- src/lib.rt:125:35
 wide-requires : tie.Need-wide-requires
 wide-requires c κs = search needs
 
--- src/lib.rt:125:11
 check-zones-requires : tie.Need-check-zones-requires
 check-zones-requires c κs = search needs
 
--- src/lib.rt:126:20
 enum-known-size : tie.Need-enum-known-size
 enum-known-size c = search needs
 
--- src/lib.rt:126:40
 add-t13 : tie.Need-add-t13
 add-t13 c =
     let b = now (c .before .before .before .before .before .before .before .before .before .before .before .args .part) in
@@ -84,11 +68,9 @@ add-t13 c =
     let m : value b ≤ mostZones = subst (λ (k : ℕ). k ≤ mostZones) (counted f) (c .before .before .before .before .before .before .if3 .left) in
     record { fits = omega (arith, n, m) }
 
--- src/lib.rt:127:20
 enum-known-number : tie.Need-enum-known-number
 enum-known-number c = search needs
 
--- src/lib.rt:112:1
 returns-4 : tie.Need-returns-4
 returns-4 c =
     let b = now (c .before .before .before .before .before .before .before .before .before .before .before .args .part) in
@@ -97,7 +79,6 @@ returns-4 c =
     (subst (λ (k : ℕ). k ≤ mostZones) (counted f) (c .before .before .before .before .before .before .if3 .left))
     (c .before .size .given .0 .0) (sym (c .before .size .given .1) ∙ zoned (c .before .before .before))
 
--- src/lib.rt:112:1
 returns-5 : tie.Need-returns-5
 returns-5 c =
     let b = now (c .before .before .before .before .before .before .before .before .before .before .before .args .part) in

@@ -1,106 +1,88 @@
-use Prim.Native.Nat.{ℕ, _+_, _≤_}
+use Prim.Native.Nat.{ℕ, _≤_}
 use mathlib.Core.Path.{_≡_, sym, ap, _∙_}
 use native.Mathlib.Omega.{arith}
 use lib.ListN.{length, drop}
-use Prim.Native.Nat.{ℕ, _+_, _-_, _≤_, _<_}
 use denote.Ref.{now}
-use mathlib.Core.Path.{_≡_, refl, sym, ap, _∙_}
 use mathlib.Core.List.{List}
-use lib.ListN.{length, take, drop}
-use Rattle.map.specs.Reading.{azimuthsChecks, azimuthsSize}
+use Rattle.map.specs.Reading.{azimuthPart, elevationPart}
+use Rattle.map.proofs.Accepted.{azimuth-long}
 use Rattle.map.specs.Map.{azimuths}
-use Rattle.filter.specs.Steps.{azimuthStep, elevationStep}
+use Rattle.filter.specs.Steps.{partStep}
 use Rattle.filter.proofs.PartLaws.{rest-is}
-use Rattle.filter.proofs.StepLaws.{azimuthsWalk, azimuths-turn, azimuths-stop, azimuths-done, azimuth-fits, walk-start}
+use Rattle.filter.proofs.StepLaws.{walk, walk-start, walk-turn, walk-stop, walk-done, part-fits}
 use borrow.Author.Needs.{needs}
 use Rattle.filter.proofs.check_elevation.Statement.{statement}
 use Rattle.filter.proofs.check_elevation.Tie as tie
-use Rattle.filter.proofs.check_elevation.Reads as reads
-use Rattle.filter.proofs.check_elevation.Lts as lts
-use Rattle.filter.proofs.check_azimuth.Reads as check-azimuth-reads
 
 abbrev Inv-loop : tie.InvT-loop
-Inv-loop part left₀ at₀ left at = (at ≤ length part) × (azimuthsWalk left at part ≡ elevationStep part)
+Inv-loop part left₀ at₀ left at = (at ≤ length part) × (walk azimuthPart left at part ≡ partStep elevationPart part)
 
 abbrev μ-loop : tie.MeasureT-loop
 μ-loop part left₀ at₀ left at = left
 
-checked : (c : tie.After-check-azimuth Inv-loop μ-loop) → c .check-azimuth .result ≡ azimuthStep (drop (c .before .before .before .loop .at) (now (c .before .before .before .before .before .args .part)))
+checked : (c : tie.After-check-azimuth Inv-loop μ-loop) → c .check-azimuth .result ≡ partStep azimuthPart (drop (c .before .before .before .loop .at) (now (c .before .before .before .before .before .args .part)))
 checked c =
     let b = now (c .before .before .before .before .before .args .part) in
-    c .check-azimuth .ensures ∙ ap (λ (l : List ℕ). azimuthStep l) (rest-is b (c .before .before .before .loop .at))
+    c .check-azimuth .ensures ∙ ap (λ (l : List ℕ). partStep azimuthPart l) (rest-is b (c .before .before .before .loop .at))
 
--- src/lib.rt:137:5
 loop-holds : tie.Need-loop-holds Inv-loop μ-loop
 loop-holds c =
     let a = c .before .args in
     let b = now (a .part) in
-    (search needs, walk-start (azimuthsChecks azimuths b) (azimuthsSize azimuths b))
+    (search needs, walk-start azimuthPart azimuths b)
 
--- src/lib.rt:138:29
 sub-check-azimuth : tie.Need-sub-check-azimuth Inv-loop μ-loop
 sub-check-azimuth c = search needs
 
--- src/lib.rt:138:29
 part-check-azimuth-start : tie.Need-part-check-azimuth-start Inv-loop μ-loop
 part-check-azimuth-start c = search needs
 
--- src/lib.rt:138:29
 part-check-azimuth-end : tie.Need-part-check-azimuth-end Inv-loop μ-loop
 part-check-azimuth-end c = search needs
 
--- src/lib.rt:138:15
 check-azimuth-requires : tie.Need-check-azimuth-requires Inv-loop μ-loop
 check-azimuth-requires c κs = search needs
 
--- src/lib.rt:139:24
 enum-known-size : tie.Need-enum-known-size Inv-loop μ-loop
 enum-known-size c = search needs
 
--- src/lib.rt:140:17
 add-at : tie.Need-add-at Inv-loop μ-loop
 add-at c =
     let b = now (c .before .before .before .before .before .before .before .before .args .part) in
     let l = c .before .before .before .before .before .before .loop in
     let g = c .before .before .before .before .before .before .before .before .good .0 .0 in
-    let f = azimuth-fits (l .at) b (c .before .size .given .0 .0) (l .inv .0) (sym (c .before .size .given .1) ∙ checked (c .before .before .before)) in
+    let f = part-fits azimuthPart azimuth-long (l .at) b (c .before .size .given .0 .0) (l .inv .0) (sym (c .before .size .given .1) ∙ checked (c .before .before .before)) in
     record { fits = omega (arith, g, f) }
 
--- src/lib.rt:141:17
 sub-left : tie.Need-sub-left Inv-loop μ-loop
 sub-left c = search needs
 
--- src/lib.rt:137:5
 loop-less : tie.Need-loop-less Inv-loop μ-loop
 loop-less c = search needs
 
--- src/lib.rt:137:5
 loop-again : tie.Need-loop-again Inv-loop μ-loop
 loop-again c =
     let b = now (c .before .before .before .before .before .before .before .before .args .part) in
     let l = c .before .before .before .before .before .before .loop in
     let n = c .before .size .given .0 .0 in
     let e = sym (c .before .size .given .1) ∙ checked (c .before .before .before) in
-    (azimuth-fits (l .at) b n (l .inv .0) e, azimuths-turn (l .left) (l .at) b n (c .before .before .before .before .before .loop-test .taken) e ∙ l .inv .1)
+    (part-fits azimuthPart azimuth-long (l .at) b n (l .inv .0) e, walk-turn azimuthPart (l .left) (l .at) b n (c .before .before .before .before .before .loop-test .taken) e ∙ l .inv .1)
 
--- src/lib.rt:143:24
 enum-known-number : tie.Need-enum-known-number Inv-loop μ-loop
 enum-known-number c = search needs
 
--- src/lib.rt:143:35
 returns : tie.Need-returns Inv-loop μ-loop
 returns c =
     let b = now (c .before .before .before .before .before .before .before .before .args .part) in
     let l = c .before .before .before .before .before .before .loop in
-    azimuths-stop (l .left) (l .at) b (c .before .number .given .0 .0) (c .before .before .before .before .before .loop-test .taken)
+    walk-stop azimuthPart (l .left) (l .at) b (c .before .number .given .0 .0) (c .before .before .before .before .before .loop-test .taken)
     (sym (c .before .number .given .1) ∙ checked (c .before .before .before))
     ∙ l .inv .1
 
--- src/lib.rt:132:1
 returns-2 : tie.Need-returns-2 Inv-loop μ-loop
 returns-2 c =
     let l = c .before .loop in
-    azimuths-done (l .left) (l .at) (now (c .before .before .before .args .part)) (c .loop-test .left) ∙ l .inv .1
+    walk-done azimuthPart (l .left) (l .at) (now (c .before .before .before .args .part)) (c .loop-test .left) ∙ l .inv .1
 
 pub check-elevation-spec : {M : Type 1} → statement M
 check-elevation-spec =

@@ -12,10 +12,6 @@ use Rattle.filter.proofs.PartLaws.{fetched-value, cut-off, in-full}
 use borrow.Author.Needs.{needs}
 use Rattle.filter.proofs.check_head.Statement.{statement}
 use Rattle.filter.proofs.check_head.Tie as tie
-use Rattle.filter.proofs.check_head.Reads as reads
-use Rattle.filter.proofs.check_head.Lts as lts
-use Rattle.filter.proofs.wide.Reads as wide-reads
-use Rattle.wire.proofs.fetch16.Reads as fetch16-reads
 
 -- the three numbers
 date-is : (c : tie.After-fetch16) → c .fetch16 .result ≡ dateIn (now (c .before .before .before .args .body))
@@ -49,51 +45,39 @@ passed6 c = le-ltb (segmentsIn (now (c .before .before .before .before .before .
 passed7 : (c : tie.Else7) → ltb mostElevations (segmentsIn (now (c .before .before .before .before .before .before .before .before .before .before .before .args .body))) ≡ false
 passed7 c = le-ltb mostElevations (segmentsIn (now (c .before .before .before .before .before .before .before .before .before .before .before .args .body))) (subst (λ (n : ℕ). n ≤ mostElevations) (count-is (c .before .before)) (c .if7 .left))
 
--- src/lib.rt:172:9
 returns : tie.Need-returns
 returns c = simp (lt-ltb (length (now (c .before .before .args .body))) 2 (c .if1 .taken))
 
--- src/lib.rt:174:8
 fetch16-requires : tie.Need-fetch16-requires
 fetch16-requires c κs = search needs
 
--- src/lib.rt:175:9
 returns-2 : tie.Need-returns-2
 returns-2 c = simp (passed1 (c .before .before), lt-ltb (dateIn (now (c .before .before .before .before .args .body))) 1 (subst (λ (n : ℕ). n < 1) (date-is (c .before)) (c .if2 .taken)))
 
--- src/lib.rt:178:9
 returns-3 : tie.Need-returns-3
 returns-3 c = simp (passed1 (c .before .before .before), passed2 (c .before), cut-off (now (c .before .before .before .before .before .args .body)) 2 (c .if3 .taken))
 
--- src/lib.rt:180:23
 fetch16-requires-2 : tie.Need-fetch16-requires-2
 fetch16-requires-2 c κs = search needs
 
--- src/lib.rt:181:9
 returns-4 : tie.Need-returns-4
 returns-4 c = simp (passed1 (c .before .before .before .before .before), passed2 (c .before .before .before), passed3 (c .before .before), lt-ltb mostMinutes (minutesIn (now (c .before .before .before .before .before .before .before .args .body))) (subst (λ (n : ℕ). mostMinutes < n) (minutes-is (c .before)) (c .if4 .taken)))
 
--- src/lib.rt:184:9
 returns-5 : tie.Need-returns-5
 returns-5 c = simp (passed1 (c .before .before .before .before .before .before), passed2 (c .before .before .before .before), passed3 (c .before .before .before), passed4 (c .before), cut-off (now (c .before .before .before .before .before .before .before .before .args .body)) 4 (c .if5 .taken))
 
--- src/lib.rt:186:9
 fetch16-requires-3 : tie.Need-fetch16-requires-3
 fetch16-requires-3 c κs = search needs
 
--- src/lib.rt:188:9
 returns-6 : tie.Need-returns-6
 returns-6 c = simp (passed1 (c .before .before .before .before .before .before .before .before), passed2 (c .before .before .before .before .before .before), passed3 (c .before .before .before .before .before), passed4 (c .before .before .before), passed5 (c .before .before), lt-ltb (segmentsIn (now (c .before .before .before .before .before .before .before .before .before .before .args .body))) 1 (subst (λ (n : ℕ). n < 1) (count-is (c .before)) (c .if6 .taken)))
 
--- src/lib.rt:191:9
 returns-7 : tie.Need-returns-7
 returns-7 c = simp (passed1 (c .before .before .before .before .before .before .before .before .before), passed2 (c .before .before .before .before .before .before .before), passed3 (c .before .before .before .before .before .before), passed4 (c .before .before .before .before), passed5 (c .before .before .before), passed6 (c .before), lt-ltb mostElevations (segmentsIn (now (c .before .before .before .before .before .before .before .before .before .before .before .args .body))) (subst (λ (n : ℕ). mostElevations < n) (count-is (c .before .before)) (c .if7 .taken)))
 
--- src/lib.rt:193:16
 wide-requires : tie.Need-wide-requires
 wide-requires c κs = search needs
 
--- src/lib.rt:168:1
 returns-8 : tie.Need-returns-8
 returns-8 c = simp (passed1 (c .before .before .before .before .before .before .before .before .before .before), passed2 (c .before .before .before .before .before .before .before .before), passed3 (c .before .before .before .before .before .before .before), passed4 (c .before .before .before .before .before), passed5 (c .before .before .before .before), passed6 (c .before .before), passed7 (c .before)) (ap Next (c .wide .ensures ∙ count-is (c .before .before .before)))
 

@@ -2,64 +2,47 @@ use Rattle.filter.specs.declared.Step.the-variants.{Next}
 use denote.Ref.{now}
 use Prim.Native.Nat.{ℕ, _+_}
 use Rattle.map.specs.Reading.{endBroken}
-use native.Mathlib.Omega.{arith}
 use mathlib.Core.Path.{sym, ap, _∙_}
 use Rattle.filter.proofs.StepLaws.{zone-cut, zone-code, zone-cut-end, zone-end, zone-next}
 use borrow.Author.Needs.{needs}
 use Rattle.filter.proofs.check_zone.Statement.{statement}
 use Rattle.filter.proofs.check_zone.Tie as tie
-use Rattle.filter.proofs.check_zone.Reads as reads
-use Rattle.filter.proofs.check_zone.Lts as lts
-use Rattle.filter.proofs.end_broken.Reads as end-broken-reads
-use Rattle.filter.proofs.wide.Reads as wide-reads
-use Rattle.wire.proofs.fetch16.Reads as fetch16-reads
 
--- src/lib.rt:74:21
 add-if1 : tie.Need-add-if1
 add-if1 c = search needs
 
--- src/lib.rt:75:9
 returns : tie.Need-returns
 returns c = let a = c .before .before .args in zone-cut (now (a .part)) (a .at) (a .left) (a .from) (c .if1 .taken)
 
--- src/lib.rt:77:20
 fetch16-requires : tie.Need-fetch16-requires
 fetch16-requires c κs = search needs
 
--- src/lib.rt:78:9
 returns-2 : tie.Need-returns-2
 returns-2 c =
     let a = c .before .before .before .before .args in
     zone-code (now (a .part)) (a .at) (a .left) (a .from) (c .before .before .if1 .left) (rw (← c .before .fetch16 .ensures) (c .if2 .taken))
 
--- src/lib.rt:80:21
 add-if3 : tie.Need-add-if3
 add-if3 c = search needs
 
--- src/lib.rt:81:9
 returns-3 : tie.Need-returns-3
 returns-3 c =
     let a = c .before .before .before .before .before .args in
     zone-cut-end (now (a .part)) (a .at) (a .left) (a .from) (c .before .before .before .if1 .left)
     (rw (← c .before .before .fetch16 .ensures) (c .before .if2 .left)) (c .if3 .taken)
 
--- src/lib.rt:83:40
 add-fetch16 : tie.Need-add-fetch16
 add-fetch16 c = search needs
 
--- src/lib.rt:83:20
 fetch16-requires-2 : tie.Need-fetch16-requires-2
 fetch16-requires-2 c κs = search needs
 
--- src/lib.rt:83:9
 wide-requires : tie.Need-wide-requires
 wide-requires c κs = search needs
 
--- src/lib.rt:84:8
 end-broken-requires : tie.Need-end-broken-requires
 end-broken-requires c κs = search needs
 
--- src/lib.rt:85:9
 returns-4 : tie.Need-returns-4
 returns-4 c =
     let a = c .before .before .before .before .before .before .before .before .before .args in
@@ -69,11 +52,9 @@ returns-4 c =
     (c .before .before .before .before .if3 .left)
     (ap (λ (n : ℕ). endBroken (a .left) (a .from) n) (sym e) ∙ sym (c .before .end-broken .ensures) ∙ c .if4 .taken)
 
--- src/lib.rt:87:16
 add-t7 : tie.Need-add-t7
 add-t7 c = search needs
 
--- src/lib.rt:69:1
 returns-5 : tie.Need-returns-5
 returns-5 c =
     let a = c .before .before .before .before .before .before .before .before .before .args in

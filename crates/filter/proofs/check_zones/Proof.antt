@@ -1,20 +1,15 @@
-use Rattle.filter.proofs.StepLaws.{zones-done}
-use Prim.Native.Nat.{ℕ, _+_, _*_, _≤_}
+use Rattle.filter.proofs.StepLaws.{zones-done, zones-turn, zones-stop}
+use Prim.Native.Nat.{_+_, _*_, _≤_}
 use Rattle.filter.specs.declared.Step.the-variants.{Next, Stop}
 use denote.Ref.{now}
 use mathlib.Core.Path.{_≡_, refl, sym, ap, _∙_}
-use native.Mathlib.Omega.{arith}
 use lib.ListN.{drop}
 use Rattle.map.specs.Reading.{zonesChecks}
 use Rattle.wire.specs.Checks.{decide}
 use Rattle.filter.specs.Steps.{zonesStep}
-use Rattle.filter.proofs.StepLaws.{zones-turn, zones-stop}
 use borrow.Author.Needs.{needs}
 use Rattle.filter.proofs.check_zones.Statement.{statement}
 use Rattle.filter.proofs.check_zones.Tie as tie
-use Rattle.filter.proofs.check_zones.Reads as reads
-use Rattle.filter.proofs.check_zones.Lts as lts
-use Rattle.filter.proofs.check_zone.Reads as check-zone-reads
 
 abbrev Inv-loop : tie.InvT-loop
 Inv-loop part count left₀ at₀ from₀ left at from = (left ≤ count) × (at + 4 * left ≡ 4 * count) × (decide (zonesChecks left from (drop at part)) Stop (Next (4 * count)) ≡ zonesStep count part)
@@ -22,35 +17,27 @@ Inv-loop part count left₀ at₀ from₀ left at from = (left ≤ count) × (at
 abbrev μ-loop : tie.MeasureT-loop
 μ-loop part count left₀ at₀ from₀ left at from = left
 
--- src/lib.rt:98:5
 loop-holds : tie.Need-loop-holds Inv-loop μ-loop
 loop-holds c = (search needs, search needs, refl)
 
--- src/lib.rt:99:36
 sub-check-zone : tie.Need-sub-check-zone Inv-loop μ-loop
 sub-check-zone c = search needs
 
--- src/lib.rt:99:15
 check-zone-requires : tie.Need-check-zone-requires Inv-loop μ-loop
 check-zone-requires c κs = search needs
 
--- src/lib.rt:100:24
 enum-known-next : tie.Need-enum-known-next Inv-loop μ-loop
 enum-known-next c = search needs
 
--- src/lib.rt:102:17
 add-at : tie.Need-add-at Inv-loop μ-loop
 add-at c = search needs
 
--- src/lib.rt:103:17
 sub-left : tie.Need-sub-left Inv-loop μ-loop
 sub-left c = search needs
 
--- src/lib.rt:98:5
 loop-less : tie.Need-loop-less Inv-loop μ-loop
 loop-less c = search needs
 
--- src/lib.rt:98:5
 loop-again : tie.Need-loop-again Inv-loop μ-loop
 loop-again c =
     let a = c .before .before .before .before .before .before .before .args in
@@ -62,11 +49,9 @@ loop-again c =
           ∙ l .inv .2,
     )
 
--- src/lib.rt:105:24
 enum-known-number : tie.Need-enum-known-number Inv-loop μ-loop
 enum-known-number c = search needs
 
--- src/lib.rt:105:35
 returns : tie.Need-returns Inv-loop μ-loop
 returns c =
     let a = c .before .before .before .before .before .before .before .args in
@@ -75,11 +60,9 @@ returns c =
     (sym (c .before .number .given .1) ∙ c .before .before .before .check-zone .ensures)
     ∙ l .inv .2
 
--- src/lib.rt:108:16
 cast-t11 : tie.Need-cast-t11 Inv-loop μ-loop
 cast-t11 c = search needs
 
--- src/lib.rt:91:1
 returns-2 : tie.Need-returns-2 Inv-loop μ-loop
 returns-2 c =
     let a = c .before .before .before .args in

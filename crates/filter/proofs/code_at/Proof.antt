@@ -1,4 +1,4 @@
-use Prim.Native.Nat.{ℕ, _+_, _*_, _-_, _≤_}
+use Prim.Native.Nat.{ℕ, _+_, _*_, _-_}
 use denote.Ref.{now}
 use mathlib.Core.Path.{_≡_, sym, ap, _∙_, subst}
 use mathlib.Core.List.{List}
@@ -12,84 +12,93 @@ use Rattle.filter.proofs.BodyLaws.{query-stop, query-long, query-most, 
 use borrow.Author.Needs.{needs}
 use Rattle.filter.proofs.code_at.Statement.{statement}
 use Rattle.filter.proofs.code_at.Tie as tie
-use Rattle.filter.proofs.code_at.Reads as reads
-use Rattle.filter.proofs.code_at.Lts as lts
-use Rattle.filter.proofs.azimuth_code.Reads as azimuth-code-reads
-use Rattle.filter.proofs.check_body.Reads as check-body-reads
 
 -- the body passed
 accepted : (c : tie.After-count) → Next (c .count .given .0 .0) ≡ bodyStep (now (c .before .before .before .before .args .body))
 accepted c = sym (c .count .given .1) ∙ c .before .before .check-body .ensures
 
--- src/lib.rt:272:11
 check-body-requires : tie.Need-check-body-requires
 check-body-requires c κs = search needs
 
--- src/lib.rt:273:20
 enum-known-count : tie.Need-enum-known-count
 enum-known-count c = search needs
 
--- src/lib.rt:275:17
 returns : tie.Need-returns
-returns c = asked-none (now (c .before .before .before .before .before .before .args .body)) (c .before .before .count .given .0 .0) (accepted (c .before .before)) (c .before .before .before .before .before .before .args .elevation) (c .before .before .before .before .before .before .args .azimuth) (c .before .before .before .before .before .before .args .kilometre) (c .if1 .taken)
+returns c =
+    let k = c .before .before in
+    let a = k .before .before .before .before .args in
+    asked-none (now (a .body)) (k .count .given .0 .0) (accepted k) (a .elevation) (a .azimuth) (a .kilometre) (c .if1 .taken)
 
--- src/lib.rt:278:17
 returns-2 : tie.Need-returns-2
-returns-2 c = asked-high (now (c .before .before .before .before .before .before .before .args .body)) (c .before .before .before .count .given .0 .0) (accepted (c .before .before .before)) (c .before .before .before .before .before .before .before .args .elevation) (c .before .before .before .before .before .before .before .args .azimuth) (c .before .before .before .before .before .before .before .args .kilometre) (c .before .if1 .left) (c .if2 .taken)
+returns-2 c =
+    let k = c .before .before .before in
+    let a = k .before .before .before .before .args in
+    asked-high (now (a .body)) (k .count .given .0 .0) (accepted k) (a .elevation) (a .azimuth) (a .kilometre) (c .before .if1 .left) (c .if2 .taken)
 
--- src/lib.rt:281:17
 returns-3 : tie.Need-returns-3
-returns-3 c = asked-azimuth (now (c .before .before .before .before .before .before .before .before .args .body)) (c .before .before .before .before .count .given .0 .0) (accepted (c .before .before .before .before)) (c .before .before .before .before .before .before .before .before .args .elevation) (c .before .before .before .before .before .before .before .before .args .azimuth) (c .before .before .before .before .before .before .before .before .args .kilometre) (c .before .before .if1 .left) (c .before .if2 .left) (c .if3 .taken)
+returns-3 c =
+    let k = c .before .before .before .before in
+    let a = k .before .before .before .before .args in
+    asked-azimuth (now (a .body)) (k .count .given .0 .0) (accepted k) (a .elevation) (a .azimuth) (a .kilometre) (c .before .before .if1 .left) (c .before .if2 .left) (c .if3 .taken)
 
--- src/lib.rt:284:17
 returns-4 : tie.Need-returns-4
-returns-4 c = asked-far (now (c .before .before .before .before .before .before .before .before .before .args .body)) (c .before .before .before .before .before .count .given .0 .0) (accepted (c .before .before .before .before .before)) (c .before .before .before .before .before .before .before .before .before .args .elevation) (c .before .before .before .before .before .before .before .before .before .args .azimuth) (c .before .before .before .before .before .before .before .before .before .args .kilometre) (c .before .before .before .if1 .left) (c .before .before .if2 .left) (c .before .if3 .left) (c .if4 .taken)
+returns-4 c =
+    let k = c .before .before .before .before .before in
+    let a = k .before .before .before .before .args in
+    asked-far (now (a .body)) (k .count .given .0 .0) (accepted k) (a .elevation) (a .azimuth) (a .kilometre) (c .before .before .before .if1 .left) (c .before .before .if2 .left) (c .before .if3 .left) (c .if4 .taken)
 
--- src/lib.rt:286:26
 sub-index : tie.Need-sub-index
 sub-index c = search needs
 
--- src/lib.rt:286:25
 mul-index : tie.Need-mul-index
-mul-index c = record { fits = omega (arith, query-most (now (c .before .before .before .before .before .before .before .before .before .args .body)) (c .before .before .before .before .before .count .given .0 .0) (accepted (c .before .before .before .before .before)), (c .before .before .if2 .left)) }
+mul-index c =
+    let k = c .before .before .before .before .before in
+    let a = k .before .before .before .before .args in
+    record { fits = omega (arith, query-most (now (a .body)) (k .count .given .0 .0) (accepted k), (c .before .before .if2 .left)) }
 
--- src/lib.rt:286:25
 add-index : tie.Need-add-index
-add-index c = record { fits = omega (arith, query-most (now (c .before .before .before .before .before .before .before .before .before .args .body)) (c .before .before .before .before .before .count .given .0 .0) (accepted (c .before .before .before .before .before)), (c .before .before .if2 .left), (c .before .if3 .left)) }
+add-index c =
+    let k = c .before .before .before .before .before in
+    let a = k .before .before .before .before .args in
+    record { fits = omega (arith, query-most (now (a .body)) (k .count .given .0 .0) (accepted k), (c .before .before .if2 .left), (c .before .if3 .left)) }
 
--- src/lib.rt:287:43
 sub-azimuth-code : tie.Need-sub-azimuth-code
-sub-azimuth-code c = omega (arith, query-long (now (c .before .before .before .before .before .before .before .before .before .args .body)) (c .before .before .before .before .before .count .given .0 .0) (accepted (c .before .before .before .before .before)))
+sub-azimuth-code c =
+    let k = c .before .before .before .before .before in
+    let a = k .before .before .before .before .args in
+    omega (arith, query-long (now (a .body)) (k .count .given .0 .0) (accepted k))
 
--- src/lib.rt:287:43
 part-azimuth-code-start : tie.Need-part-azimuth-code-start
-part-azimuth-code-start c = omega (arith, query-long (now (c .before .before .before .before .before .before .before .before .before .args .body)) (c .before .before .before .before .before .count .given .0 .0) (accepted (c .before .before .before .before .before)))
+part-azimuth-code-start c =
+    let k = c .before .before .before .before .before in
+    let a = k .before .before .before .before .args in
+    omega (arith, query-long (now (a .body)) (k .count .given .0 .0) (accepted k))
 
--- src/lib.rt:287:43
 part-azimuth-code-end : tie.Need-part-azimuth-code-end
 part-azimuth-code-end c = search needs
 
--- src/lib.rt:287:30
 azimuth-code-requires : tie.Need-azimuth-code-requires
 azimuth-code-requires c κs =
-    let a = c .before .before .before .before .before .before .before .before .before .before .args in
+    let k = c .before .before .before .before .before .before in
+    let a = k .before .before .before .before .args in
     subst (λ (x : List ℕ). PassFits ((a .elevation - 1) * azimuths + a .azimuth) x) (sym (rest-is (now (a .body)) 6))
-    (asked-fits (now (c .before .before .before .before .before .before .before .before .before .before .args .body)) (c .before .before .before .before .before .before .count .given .0 .0) (accepted (c .before .before .before .before .before .before)) (c .before .before .before .before .before .before .before .before .before .before .args .elevation) (c .before .before .before .before .before .before .before .before .before .before .args .azimuth) (c .before .before .before .before .before .before .before .before .before .before .args .kilometre) (c .before .before .before .before .if1 .left) (c .before .before .before .if2 .left) (c .before .before .if3 .left))
+    (asked-fits (now (a .body)) (k .count .given .0 .0) (accepted k) (a .elevation) (a .azimuth) (a .kilometre) (c .before .before .before .before .if1 .left) (c .before .before .before .if2 .left) (c .before .before .if3 .left))
 
--- src/lib.rt:289:20
 enum-known-number : tie.Need-enum-known-number
 enum-known-number c = search needs
 
--- src/lib.rt:269:1
 returns-5 : tie.Need-returns-5
 returns-5 c =
-    let a = c .before .before .before .before .before .before .before .before .before .before .before .args in
-    ap given (c .azimuth-code .ensures ∙ ap (λ (x : List ℕ). codeThere ((a .elevation - 1) * azimuths + a .azimuth) (a .kilometre) x) (rest-is (now (a .body)) 6))
-    ∙ asked-given (now (c .before .before .before .before .before .before .before .before .before .before .before .args .body)) (c .before .before .before .before .before .before .before .count .given .0 .0) (accepted (c .before .before .before .before .before .before .before)) (c .before .before .before .before .before .before .before .before .before .before .before .args .elevation) (c .before .before .before .before .before .before .before .before .before .before .before .args .azimuth) (c .before .before .before .before .before .before .before .before .before .before .before .args .kilometre) (c .before .before .before .before .before .if1 .left) (c .before .before .before .before .if2 .left) (c .before .before .before .if3 .left) (c .before .before .if4 .left)
+    let k = c .before .before .before .before .before .before .before in
+    let a = k .before .before .before .before .args in
+    ap given
+    (c .azimuth-code .ensures ∙ ap (λ (x : List ℕ). codeThere ((a .elevation - 1) * azimuths + a .azimuth) (a .kilometre) x) (rest-is (now (a .body)) 6))
+    ∙ asked-given (now (a .body)) (k .count .given .0 .0) (accepted k) (a .elevation) (a .azimuth) (a .kilometre) (c .before .before .before .before .before .if1 .left) (c .before .before .before .before .if2 .left) (c .before .before .before .if3 .left) (c .before .before .if4 .left)
 
--- src/lib.rt:269:1
 returns-6 : tie.Need-returns-6
-returns-6 c = query-stop (now (c .before .before .before .before .before .args .body)) (c .before .before .before .before .before .args .elevation) (c .before .before .before .before .before .args .azimuth) (c .before .before .before .before .before .args .kilometre) (c .before .number .given .0 .0) (sym (c .before .number .given .1) ∙ c .before .before .before .check-body .ensures)
+returns-6 c =
+    let a = c .before .before .before .before .before .args in
+    query-stop (now (a .body)) (a .elevation) (a .azimuth) (a .kilometre) (c .before .number .given .0 .0) (sym (c .before .number .given .1) ∙ c .before .before .before .check-body .ensures)
 
 pub code-at-spec : {M : Type 1} → statement M
 code-at-spec =

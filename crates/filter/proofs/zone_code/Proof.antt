@@ -1,16 +1,11 @@
 use Prim.Native.Nat.{ℕ, _+_, _*_, _≤_, _<_}
 use denote.Ref.{now}
-use mathlib.Core.Path.{_≡_, sym, ap, _∙_, subst}
+use mathlib.Core.Path.{_∙_, subst}
 use native.Mathlib.Omega.{arith}
-use Rattle.wire.specs.Numbers.{fetched}
-use Rattle.filter.proofs.QueryLaws.{Looking, looking-start, looking-there, looking-here, looking-on, looking-done}
+use Rattle.filter.proofs.QueryLaws.{Looking, looking-start, looking-here, looking-on, looking-done}
 use borrow.Author.Needs.{needs}
 use Rattle.filter.proofs.zone_code.Statement.{statement}
 use Rattle.filter.proofs.zone_code.Tie as tie
-use Rattle.filter.proofs.zone_code.Reads as reads
-use Rattle.filter.proofs.zone_code.Lts as lts
-use Rattle.filter.proofs.wide.Reads as wide-reads
-use Rattle.wire.proofs.fetch16.Reads as fetch16-reads
 
 abbrev Inv-loop : tie.InvT-loop
 Inv-loop part kilometre left₀ at₀ left at = (left < 65536) × (at + 4 * left < 262144) × Looking part kilometre left at
@@ -18,37 +13,30 @@ Inv-loop part kilometre left₀ at₀ left at = (left < 65536) × (at + 4 * left
 abbrev μ-loop : tie.MeasureT-loop
 μ-loop part kilometre left₀ at₀ left at = left
 
--- src/lib.rt:247:9
 fetch16-requires : tie.Need-fetch16-requires Inv-loop μ-loop
 fetch16-requires c κs = search needs
 
--- src/lib.rt:249:5
 loop-holds : tie.Need-loop-holds Inv-loop μ-loop
 loop-holds c =
     let a = c .before .before .args in
     let f = c .fetch16 .ok in
     (search needs, search needs, looking-start (now (a .part)) (a .kilometre) (c .before .before .pre) (c .fetch16 .result) (c .fetch16 .ensures))
 
--- src/lib.rt:250:50
 add-fetch16 : tie.Need-add-fetch16 Inv-loop μ-loop
 add-fetch16 c = search needs
 
--- src/lib.rt:250:30
 fetch16-requires-2 : tie.Need-fetch16-requires-2 Inv-loop μ-loop
 fetch16-requires-2 c κs = search needs
 
--- src/lib.rt:250:25
 wide-requires : tie.Need-wide-requires Inv-loop μ-loop
 wide-requires c κs = search needs
 
--- src/lib.rt:251:13
 add-if1 : tie.Need-add-if1 Inv-loop μ-loop
 add-if1 c = search needs
 
 fetch16-requires-3 : tie.Need-fetch16-requires-3 Inv-loop μ-loop
 fetch16-requires-3 c κs = search needs
 
--- src/lib.rt:251:13
 returns : tie.Need-returns Inv-loop μ-loop
 returns c =
     let s = c .before .before .before .before .before .before .before .before in
@@ -60,19 +48,15 @@ returns c =
     ∙ looking-here (now (a .part)) (a .kilometre) (s .pre) (l .left) (l .at) (l .inv .2) (c .before .before .before .before .loop-test .taken)
     (subst (λ (n : ℕ). a .kilometre ≤ n) e h)
 
--- src/lib.rt:253:9
 add-at : tie.Need-add-at Inv-loop μ-loop
 add-at c = search needs
 
--- src/lib.rt:254:9
 sub-left : tie.Need-sub-left Inv-loop μ-loop
 sub-left c = search needs
 
--- src/lib.rt:249:5
 loop-less : tie.Need-loop-less Inv-loop μ-loop
 loop-less c = search needs
 
--- src/lib.rt:249:5
 loop-again : tie.Need-loop-again Inv-loop μ-loop
 loop-again c =
     let s = c .before .before .before .before .before .before .before in
@@ -86,7 +70,6 @@ loop-again c =
           (subst (λ (n : ℕ). n < a .kilometre) e h),
     )
 
--- src/lib.rt:243:1
 returns-2 : tie.Need-returns-2 Inv-loop μ-loop
 returns-2 c =
     let s = c .before .before .before .before in
