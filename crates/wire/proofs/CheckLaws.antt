@@ -5,7 +5,7 @@ use mathlib.Core.Bool.{Bool, true, false}
 use mathlib.Core.Option.{Option, none, some}
 use mathlib.Core.List.{List, [], _∷_, _++_}
 use native.Mathlib.Omega.{arith}
-use Rattle.wire.specs.Checks.{pick, either, Check, first, decide, someBroken, AllHold}
+use Rattle.wire.specs.Checks.{pick, either, Check, first, decide, someBroken, AllHold, Blamed}
 
 -- zero is not one, so anything follows: for two constructors that cannot meet, by `never (cc e)`
 pub never {ℓ} : {A : Type ℓ} → _≡_ {A = ℕ} 0 1 → A
@@ -110,16 +110,7 @@ pub all-hold-join : (a b : List Check) → AllHold a → AllHold b → AllHold (
 all-hold-join [] b p q = q
 all-hold-join (k ∷ a) b p q = (p .0, all-hold-join a b (p .1) q)
 
--- "a refusal's number is that of the first broken check, all earlier ones hold"
-pub record Blamed (ks : List Check) (n : ℕ) : Type 0 where
-  pub before : List Check
-  pub blamed : Check
-  pub after : List Check
-  pub listed : ks ≡ before ++ (blamed ∷ after)
-  pub hold : AllHold before
-  pub broken : blamed .broken ≡ true
-  pub number : blamed .number ≡ n
-
+-- a refusal names its check
 pub blame : (ks : List Check) (n : ℕ) → first ks ≡ some n → Blamed ks n
 blame [] n e = never (cc e)
 blame (k ∷ ks) n e = go (k .broken) refl e (λ q. blame ks n q)

@@ -3,7 +3,7 @@ use Prim.Native.Nat.{ℕ}
 use mathlib.Core.Path.{_≡_}
 use mathlib.Core.Bool.{Bool, true, false}
 use mathlib.Core.Option.{Option, none, some}
-use mathlib.Core.List.{List, [], _∷_}
+use mathlib.Core.List.{List, [], _∷_, _++_}
 use lib.Dec.{eqb}
 
 abbrev pub pick {ℓ} : {X : Type ℓ} → Bool → X → X → X
@@ -48,3 +48,13 @@ someBroken (k ∷ ks) = either (k .broken) (someBroken ks)
 abbrev pub AllHold : List Check → Type 0
 AllHold [] = Unit {0}
 AllHold (k ∷ ks) = (k .broken ≡ false) × AllHold ks
+
+-- the check that a refusal with the number n names: it is broken, and every check before it holds
+pub record Blamed (ks : List Check) (n : ℕ) : Type 0 where
+  pub before : List Check
+  pub blamed : Check
+  pub after : List Check
+  pub listed : ks ≡ before ++ (blamed ∷ after)
+  pub hold : AllHold before
+  pub broken : blamed .broken ≡ true
+  pub number : blamed .number ≡ n
