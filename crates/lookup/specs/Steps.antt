@@ -1,12 +1,14 @@
 -- What the private functions promise each other. No public promise cites this file.
-use Prim.Native.Nat.{ℕ, _+_, _*_, _/_}
+use Prim.Native.Nat.{ℕ, _+_, _*_, _/_, _≤_}
+use mathlib.Core.Path.{_≡_}
 use mathlib.Core.Option.{none, some}
 use mathlib.Core.List.{List, [], _∷_}
 use lib.Dec.{eqb}
+use lib.ListN.{length}
 use Rattle.wire.specs.Checks.{pick}
 use Rattle.wire.specs.Answers.{Answer, refused, given}
 use Rattle.description.specs.Description.{momentHead, Moment}
-use Rattle.description.specs.Lookups.{onward, gatesIn}
+use Rattle.description.specs.Lookups.{onward, momentOf, gatesIn}
 use Rattle.radial.specs.declared.MomentHead.{MomentHead}
 use Rattle.radial.specs.declared.Span.{Span}
 use Rattle.lookup.specs.declared.Located.{Located}
@@ -32,3 +34,8 @@ located a = record {
   start = partOf (onward a (λ m. given (gatesIn m))) .place;
   size = partOf (onward a (λ m. given (gatesIn m))) .size;
 }
+
+-- and that the part is inside the body
+pub record Locates (b : List ℕ) (name : ℕ) (l : Located) : Type 0 where
+  pub is : l ≡ located (momentOf b name)
+  pub inside : l .start + l .size ≤ length b

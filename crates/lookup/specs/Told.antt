@@ -7,11 +7,12 @@ use lib.ListN.{length}
 use denote.Ref.{RefT, now}
 use Rattle.wire.specs.Answers.{Answer, refused, given}
 use Rattle.description.specs.Description.{Moment, gates}
-use Rattle.description.specs.Lookups.{Asked, noSuch, lies, Part, bytesIn}
+use Rattle.description.specs.Lookups.{momentOf, Asked, noSuch, lies, Part, gatesOf, bytesIn}
 use Rattle.radial.specs.declared.MomentHead.{MomentHead}
 use Rattle.radial.specs.Shown.{headOf}
 use Rattle.lookup.specs.declared.MomentAnswer.{MomentAnswer}
 use Rattle.lookup.specs.declared.MomentAnswer.the-variants.{Moment as Found, Refused as NotFound}
+use Rattle.lookup.specs.declared.LentGates.{LentGates}
 use Rattle.lookup.specs.declared.BlockAnswer.{BlockAnswer}
 use Rattle.lookup.specs.declared.BlockAnswer.the-variants.{Constant, Moment as MomentBlock, NoSuch, Refused as NoBlock}
 
@@ -69,3 +70,9 @@ pub record LiesAt (body r : RefT (List ℕ)) (p : Part) : Type 0 where
   pub place : r .ptr .1 ≡ body .ptr .1 + p .place
   pub size : length (now r) ≡ p .size
   pub bytes : now r ≡ bytesIn (now body) p
+
+-- number, gate count and part together, of the moment with a name
+pub record Lent (body : RefT (List ℕ)) (name : ℕ) (r : LentGates) : Type 0 where
+  pub number : r .number ≡ numberOf (momentOf (now body) name)
+  pub gates : r .gates ≡ countOf (momentOf (now body) name)
+  pub part : LiesAt body (r .part) (partOf (gatesOf (now body) name))

@@ -7,8 +7,8 @@ ghost use Rattle.wire.specs.Numbers.{num, fetched};
 ghost use Rattle.wire.specs.Answers.{given};
 ghost use Rattle.description.specs.Lookups.{momentOf, blockOf, gatesOf};
 ghost use Rattle.radial.specs.Shown.{room};
-ghost use Rattle.lookup.specs.Told.{tellMoment, headShown, tellBlock, blockShown, LiesAt, partOf};
-ghost use Rattle.lookup.specs.Steps.{headNamed, constantTold, momentTold, located};
+ghost use Rattle.lookup.specs.Told.{tellMoment, headShown, tellBlock, blockShown, LiesAt, partOf, Lent};
+ghost use Rattle.lookup.specs.Steps.{headNamed, constantTold, momentTold, Locates};
 use radial::MomentHead;
 use radial::Span;
 use wire::refusal;
@@ -124,7 +124,7 @@ fn moment_block(head: MomentHead) -> BlockAnswer
 }
 
 fn locate(body: &[u8], name: [u8; 4]) -> Located
-    ensures { λ r. ⌜ r ≡ located (momentOf (now (body .entry)) (num 4 name 0)) ⌝ }
+    ensures { λ r. ⌜ Locates (now (body .entry)) (num 4 name 0) r ⌝ }
 {
     match moment(body, name) {
         MomentAnswer::Refused(number) => Located {
@@ -142,17 +142,36 @@ fn locate(body: &[u8], name: [u8; 4]) -> Located
     }
 }
 
-fn part(body: &[u8], start: usize, size: usize) -> &[u8]
-    requires { ⌜ start + size ≤ length (now body) ⌝ }
-    ensures { λ r. ⌜ LiesAt (body .entry) r (record { place = start; size = size }) ⌝ }
+fn part(body: &[u8], found: Located) -> &[u8]
+    requires { ⌜ found .start + found .size ≤ length (now body) ⌝ }
+    ensures { λ r. ⌜ LiesAt (body .entry) r (record { place = found .start; size = found .size }) ⌝ }
 {
-    let end = start + size;
+    let start = found.start;
+    let end = start + found.size;
     &body[start..end]
 }
 
 pub fn gates(body: &[u8], name: [u8; 4]) -> &[u8]
     ensures { λ r. ⌜ LiesAt (body .entry) r (partOf (gatesOf (now (body .entry)) (num 4 name 0))) ⌝ }
 {
+    part(body, locate(body, name))
+}
+
+// "Each returns its number and count 0, and an empty part where gates are handed over."
+pub struct LentGates<'a> {
+    pub number: u8,
+    pub gates: u16,
+    pub part: &'a [u8],
+}
+
+pub fn lent<'a>(body: &'a [u8], name: [u8; 4]) -> LentGates<'a>
+    ensures { λ r. ⌜ Lent (body .entry) (num 4 name 0) r ⌝ }
+{
     let found = locate(body, name);
-    part(body, found.start, found.size)
+    let gates = part(body, found);
+    LentGates {
+        number: found.number,
+        gates: found.gates,
+        part: gates,
+    }
 }

@@ -6,3 +6,4 @@ pub mod ChainLaws
 pub mod LoopLaws
 pub mod WholeLaws
 pub mod HandedLaws
+pub mod OneAnswer

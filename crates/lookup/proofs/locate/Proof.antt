@@ -3,7 +3,7 @@ use denote.Ref.{now}
 use Rattle.wire.specs.Numbers.{num}
 use Rattle.description.specs.Lookups.{momentOf}
 use Rattle.lookup.specs.Told.{tellMoment}
-use Rattle.lookup.proofs.LookupLaws.{located-refused, located-given}
+use Rattle.lookup.proofs.LookupLaws.{located-refused, located-given, located-inside}
 use borrow.Author.Needs.{needs}
 use Rattle.lookup.proofs.locate.Statement.{statement}
 use Rattle.lookup.proofs.locate.Tie as tie
@@ -47,13 +47,18 @@ sub-t11 c = search needs
 -- src/lib.rt:126:1
 returns : tie.Need-returns
 returns c =
-    located-refused (momentOf (now (c .before .before .before .before .before .args .body)) (num 4 (c .before .before .before .before .before .args .name) 0)) _ (ap tellMoment (sym (c .before .number .given .1)) ∙ c .before .before .before .moment .ensures)
+    let a = c .before .before .before .before .before .args in
+    let e = located-refused (momentOf (now (a .body)) (num 4 (a .name) 0)) _ (ap tellMoment (sym (c .before .number .given .1)) ∙ c .before .before .before .moment .ensures) in
+    record { is = e; inside = located-inside (now (a .body)) (num 4 (a .name) 0) _ (λ i. (c .before .before .before .before .shared-slice-known .given i) .fits) e }
 
--- src/lib.rt:126:1
 returns-2 : tie.Need-returns-2
 returns-2 c =
-    located-given (momentOf (now (c .before .before .before .before .before .before .before .args .body)) (num 4 (c .before .before .before .before .before .before .before .args .name) 0)) (c .before .before .before .head .given .0 .0) (c .moment-size .result)
+    let a = c .before .before .before .before .before .before .before .args in
+    let e =
+    located-given (momentOf (now (a .body)) (num 4 (a .name) 0)) (c .before .before .before .head .given .0 .0) (c .moment-size .result)
     (ap tellMoment (sym (c .before .before .before .head .given .1)) ∙ c .before .before .before .before .before .moment .ensures) (c .moment-size .ensures)
+    in
+    record { is = e; inside = located-inside (now (a .body)) (num 4 (a .name) 0) _ (λ i. (c .before .before .before .before .before .before .shared-slice-known .given i) .fits) e }
 
 pub locate-spec : {M : Type 1} → statement M
 locate-spec =

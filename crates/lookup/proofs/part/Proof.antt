@@ -10,32 +10,34 @@ use Rattle.lookup.proofs.part.Tie as tie
 use Rattle.lookup.proofs.part.Reads as reads
 use Rattle.lookup.proofs.part.Lts as lts
 
--- src/lib.rt:149:15
+-- src/lib.rt:150:15
 add-end : tie.Need-add-end
 add-end c = search needs
 
--- src/lib.rt:150:5
+-- src/lib.rt:151:5
 sub-result : tie.Need-sub-result
 sub-result c = search needs
 
--- src/lib.rt:150:5
+-- src/lib.rt:151:5
 part-result-start : tie.Need-part-result-start
 part-result-start c = search needs
 
--- src/lib.rt:150:5
+-- src/lib.rt:151:5
 part-result-end : tie.Need-part-result-end
 part-result-end c = search needs
 
 -- src/lib.rt:145:1
 returns : tie.Need-returns
 returns c =
-    let a = c .before .args in
-    let e : a .start + a .size - a .start ≡ a .size = omega arith in
-    let bytes : take (a .start + a .size - a .start) (drop (a .start) (now (a .body))) ≡ take (a .size) (drop (a .start) (now (a .body))) = ap (λ (n : ℕ). take n (drop (a .start) (now (a .body)))) e in
+    let a = c .before .before .args in
+    let s = a .found .start in
+    let z = a .found .size in
+    let e : s + z - s ≡ z = omega arith in
+    let bytes : take (s + z - s) (drop s (now (a .body))) ≡ take z (drop s (now (a .body))) = ap (λ (n : ℕ). take n (drop s (now (a .body)))) e in
     record {
       memory = refl;
       place = omega arith;
-      size = ap length bytes ∙ length-take-le (a .size) (drop (a .start) (now (a .body))) (rw length-drop (omega (arith, c .before .pre)));
+      size = ap length bytes ∙ length-take-le z (drop s (now (a .body))) (rw length-drop (omega (arith, c .before .before .pre)));
       bytes = bytes;
     }
 
