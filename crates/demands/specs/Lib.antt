@@ -1,2 +1,4 @@
 -- The demands of the order, and document 01's starred cases, stated over the definitions that the contracts cite.
+pub mod Notions
+pub mod Orders
 pub mod Cases

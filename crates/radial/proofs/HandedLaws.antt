@@ -13,7 +13,7 @@ use borrow.Author.Tests.{eq-eqb, ne-eqb}
 use Rattle.wire.specs.Numbers.{num, nums, Octets}
 use Rattle.wire.specs.Checks.{Check, first, pick}
 use Rattle.wire.specs.Answers.{Answer, refused, given}
-use Rattle.wire.proofs.CheckLaws.{Blamed, blame, all-hold, never}
+use Rattle.wire.proofs.CheckLaws.{blame, all-hold, never}
 use Rattle.wire.proofs.AnswerLaws.{rule-given, rule-refused}
 use Rattle.description.specs.Description.{constants, constantHead, Block, Moment, Description, blockSize, blockCount}
 use Rattle.description.specs.Refusal.{

@@ -1,0 +1,45 @@
+-- "Order": the checks of each entry that asks more than one rule, one list after the other.
+use Prim.Native.Nat.{ℕ, zero, suc}
+use mathlib.Core.Bool.{Bool, true, false}
+use mathlib.Core.List.{List, [], _∷_, _++_}
+use lib.Dec.{eqb, leb}
+use lib.ListN.{length, drop}
+use Rattle.wire.specs.Checks.{pick, Check, check}
+use Rattle.wire.specs.Answers.{Answer, refused, given}
+use Rattle.frame.specs.Session.{after, frameChecks}
+use Rattle.segments.specs.Segment.{Segment, segmentIn}
+use Rattle.segments.specs.Walk.{turnChecks, endChecks}
+use Rattle.description.specs.Description.{Moment, gates}
+use Rattle.description.specs.Refusal.{description, radialChecks}
+use Rattle.description.specs.Lookups.{momentNamed}
+use Rattle.gate.specs.Value.{valueChecks}
+
+-- a stream at a place: nothing is checked at its end
+abbrev pub streamChecks : List ℕ → ℕ → List Check
+streamChecks stream place = pick (eqb place (length stream)) [] (frameChecks (drop place stream))
+
+-- "Set: each frame in turn, its frame checks, 9, header checks, 10, 11; after all, 12, 13."
+abbrev pub turnsChecks : ℕ → List Segment → List ℕ → ℕ → List Check
+turnsChecks zero gs rest room = endChecks gs room
+turnsChecks (suc turns) gs rest room =
+    pick (eqb (length rest) 0) (endChecks gs room) (turnChecks gs rest ++ turnsChecks turns (gs ++ (segmentIn rest ∷ [])) (after rest) room)
+
+abbrev pub setChecks : List ℕ → ℕ → List Check
+setChecks frames room = turnsChecks (length frames) [] frames room
+
+-- "Gates as a part (a body, a moment's name): the radial's checks, 21."
+abbrev pub missing : ℕ → List Moment → Bool
+missing name [] = true
+missing name (m ∷ ms) = pick (eqb (m .name) name) false (missing name ms)
+
+abbrev pub momentChecks : List ℕ → ℕ → List Check
+momentChecks b name = radialChecks b ++ (check 21 (missing name (description b .moments)) ∷ [])
+
+-- "Gate: the radial's checks, 21, 22"
+abbrev pub codeChecks : Answer Moment → ℕ → List Check
+codeChecks (refused n) gate = []
+codeChecks (given m) gate = check 21 (leb (gates m) gate) ∷ valueChecks (m .scale) (m .offset)
+
+abbrev pub gateChecks : List ℕ → ℕ → ℕ → List Check
+gateChecks b name gate =
+    radialChecks b ++ (check 21 (missing name (description b .moments)) ∷ codeChecks (momentNamed name (description b .moments)) gate)
