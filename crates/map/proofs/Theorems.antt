@@ -5,11 +5,11 @@ use mathlib.Core.Path.{_≡_, sym, ap, _∙_, subst}
 use mathlib.Core.List.{List, []}
 use lib.ListN.{length, getD}
 use Rattle.wire.specs.Answers.{refused, given, rule}
-use Rattle.wire.proofs.CheckLaws.{all-hold, none-broken, decide-none, decide-append}
-use Rattle.wire.proofs.AnswerLaws.{rule-given}
+use Rattle.wire.proofs.CheckLaws.{all-hold, none-broken, decide-none, decide-some, decide-append}
+use Rattle.wire.proofs.AnswerLaws.{rule-given, rule-refused}
 use Rattle.map.specs.Map.{FilterMap, mapBytes, AzimuthInRange, ElevationInRange, InRange, codeAt}
 use Rattle.map.specs.Reading.{segmentsIn, mapChecks, mapIn, mapOf, summary, askedChecks}
-use Rattle.map.specs.Statements.{AcceptedExactly, OneMap, OneCode, CheckAnswers, QueryAnswers}
+use Rattle.map.specs.Statements.{AcceptedExactly, OneMap, OneCode, CheckAnswers, QueryAnswers, RefusedFirst}
 use Rattle.map.proofs.Accepted.{accepted-range, accepted-bytes}
 use Rattle.map.proofs.Rendered.{rendered-pass, rendered-read, segments-is}
 use Rattle.map.proofs.Coverage.{each-at, one-zone}
@@ -54,3 +54,13 @@ query-answers m r elevation azimuth kilometre =
     ∙ decide-none (mapChecks b) refused (rule ask (codeAt (mapIn b) elevation azimuth kilometre)) (none-broken (mapChecks b) (rendered-pass m r))
     ∙ ap (λ (n : ℕ). rule (askedChecks n elevation azimuth kilometre) (codeAt (mapIn b) elevation azimuth kilometre)) (segments-is m r)
     ∙ ap (λ (n : FilterMap). rule (askedChecks (length (m .elevations)) elevation azimuth kilometre) (codeAt n elevation azimuth kilometre)) (rendered-read m r)
+
+pub refused-first : RefusedFirst
+refused-first b n e =
+    let p = rule-refused (mapChecks b) (mapIn b) n e in (
+      decide-some (mapChecks b) refused (given (summary (mapIn b))) n p,
+      λ elevation azimuth kilometre.
+          let ask = askedChecks (segmentsIn b) elevation azimuth kilometre in
+          let v = codeAt (mapIn b) elevation azimuth kilometre in
+          decide-append (mapChecks b) ask refused (given v) ∙ decide-some (mapChecks b) refused (rule ask v) n p,
+    )

@@ -5,7 +5,7 @@ use mathlib.Core.Logic.{_↔_}
 use mathlib.Core.List.{List}
 use lib.ListN.{length, getD}
 use Rattle.wire.specs.Numbers.{Octets}
-use Rattle.wire.specs.Answers.{given, rule}
+use Rattle.wire.specs.Answers.{refused, given, rule}
 use Rattle.map.specs.Map.{azimuths, mostCode, lastKilometre, Zone, FilterMap, mapBytes, InRange, zonesAt, codeAt, noZone, Covers}
 use Rattle.map.specs.Reading.{mapOf, summary, summaryOf, askedChecks, codeOf}
 
@@ -40,3 +40,9 @@ abbrev pub QueryAnswers : Type 0
 QueryAnswers =
     (m : FilterMap) → InRange m → (elevation azimuth kilometre : ℕ)
     → codeOf (mapBytes m) elevation azimuth kilometre ≡ rule (askedChecks (length (m .elevations)) elevation azimuth kilometre) (codeAt m elevation azimuth kilometre)
+
+-- a refused body is refused by its own number, whatever is asked of it
+abbrev pub RefusedFirst : Type 0
+RefusedFirst =
+    (b : List ℕ) (n : ℕ) → mapOf b ≡ refused n
+    → (summaryOf b ≡ refused n) × ((elevation azimuth kilometre : ℕ) → codeOf b elevation azimuth kilometre ≡ refused n)

@@ -2,11 +2,8 @@ use Prim.Native.Nat.{ℕ, _≤_}
 use mathlib.Core.Path.{_≡_, sym, ap, _∙_}
 use native.Mathlib.Omega.{arith}
 use lib.ListN.{length, drop}
-use Prim.Native.Nat.{ℕ, _≤_}
 use denote.Ref.{now}
-use mathlib.Core.Path.{_≡_, sym, ap, _∙_}
 use mathlib.Core.List.{List}
-use lib.ListN.{length, drop}
 use Rattle.map.specs.Reading.{azimuthPart, elevationPart}
 use Rattle.map.proofs.Accepted.{azimuth-long}
 use Rattle.map.specs.Map.{azimuths}

@@ -1,7 +1,6 @@
 use Rattle.wire.specs.Answers.{given}
 use denote.Ref.{now}
 use mathlib.Core.Path.{_≡_, sym, ap, _∙_}
-use Rattle.wire.specs.Answers.{given}
 use Rattle.map.specs.Reading.{Summary}
 use Rattle.filter.proofs.BodyLaws.{map-stop, map-given}
 use borrow.Author.Needs.{needs}

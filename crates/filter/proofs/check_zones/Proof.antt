@@ -1,4 +1,4 @@
-use Rattle.filter.proofs.StepLaws.{zones-done}
+use Rattle.filter.proofs.StepLaws.{zones-done, zones-turn, zones-stop}
 use Prim.Native.Nat.{_+_, _*_, _≤_}
 use Rattle.filter.specs.declared.Step.the-variants.{Next, Stop}
 use denote.Ref.{now}
@@ -7,7 +7,6 @@ use lib.ListN.{drop}
 use Rattle.map.specs.Reading.{zonesChecks}
 use Rattle.wire.specs.Checks.{decide}
 use Rattle.filter.specs.Steps.{zonesStep}
-use Rattle.filter.proofs.StepLaws.{zones-turn, zones-stop}
 use borrow.Author.Needs.{needs}
 use Rattle.filter.proofs.check_zones.Statement.{statement}
 use Rattle.filter.proofs.check_zones.Tie as tie
