@@ -3,13 +3,14 @@ use Prim.Native.Nat.{ℕ, _≤_}
 use mathlib.Core.Path.{_≡_, refl, sym, ap, _∙_}
 use mathlib.Core.Bool.{Bool, true, false}
 use mathlib.Core.Option.{Option, none, some}
-use mathlib.Core.List.{List, [], _∷_, _++_}
+use mathlib.Core.Logic.{_⊎_, inl, inr, ⊎-elim}
+use mathlib.Core.List.{List, [], _∷_, _++_, append-assoc}
 use lib.Dec.{leb}
 use borrow.Author.Tests.{leb-true}
 use Rattle.wire.specs.Checks.{pick, both, Check, check, first, decide, AllHold, Blamed}
 use Rattle.wire.specs.Answers.{Answer, refused, given, rule, Outcome, outcome, Promise}
-use Rattle.wire.proofs.CheckLaws.{never, passed, stopped, decide-none, decide-append, all-hold, all-hold-join, none-broken, blame}
-use Rattle.wire.proofs.AnswerLaws.{rule-given, rule-refused, outcome-answer, outcome-refused, only, only-answer}
+use Rattle.wire.proofs.CheckLaws.{never, passed, stopped, decide-none, decide-some, all-hold, all-hold-join, none-broken, blame}
+use Rattle.wire.proofs.AnswerLaws.{rule-given, rule-refused, outcome-answer, outcome-refused}
 use Rattle.demands.specs.Notions.{One, lastNumber, OfTheTable, ByChecks, Kept, KeptLent}
 
 -- ---- numbers of the table, by a test that is computed
@@ -29,13 +30,14 @@ inside-join (k ∷ a) b p q =
 
 first-inside : (ks : List Check) (n : ℕ) → inside ks ≡ true → first ks ≡ some n → OfTheTable n
 first-inside [] n p e = never (cc e)
-first-inside (k ∷ ks) n p e = go (k .broken) e (λ q. first-inside ks n (h .1) q)
+first-inside (k ∷ ks) n p e =
+    let h = both-true (both (leb 1 (k .number)) (leb (k .number) lastNumber)) (inside ks) p in
+    let g = both-true (leb 1 (k .number)) (leb (k .number) lastNumber) (h .0) in
+    go (k .broken) e (leb-true 1 (k .number) (g .0), leb-true (k .number) lastNumber (g .1)) (λ q. first-inside ks n (h .1) q)
   where
-    h = both-true (both (leb 1 (k .number)) (leb (k .number) lastNumber)) (inside ks) p
-    g = both-true (leb 1 (k .number)) (leb (k .number) lastNumber) (h .0)
-    go : (t : Bool) → pick t (some (k .number)) (first ks) ≡ some n → (first ks ≡ some n → OfTheTable n) → OfTheTable n
-    go true q later = let m : k .number ≡ n = cc q in rw (← m) (leb-true 1 (k .number) (g .0), leb-true (k .number) lastNumber (g .1))
-    go false q later = later q
+    go : (t : Bool) → pick t (some (k .number)) (first ks) ≡ some n → OfTheTable (k .number) → (first ks ≡ some n → OfTheTable n) → OfTheTable n
+    go true q own later = let m : k .number ≡ n = cc q in rw (← m) own
+    go false q own later = later q
 
 -- ---- an answer by one list
 pub by-first : {A : Type 0} (ks : List Check) (right : Answer A) → inside ks ≡ true → ((n : ℕ) → right ≡ refused n → first ks ≡ some n)
@@ -53,10 +55,75 @@ pub by-same : {A : Type 0} (ks : List Check) (a b : Answer A) → a ≡ b → By
 by-same ks a b e h = rw e h
 
 -- ---- an answer by one list and then another: what the first leaves is asked of the second
-first-append : (a b : List Check) (o : Option ℕ) → first a ≡ none → first b ≡ o → first (a ++ b) ≡ o
-first-append [] b o p q = q
-first-append (k ∷ a) b o p q = go (k .broken) refl p
-  where
-    go : (t : Bool) → k .broken ≡ t → pick t (some (k .number)) (first a) ≡ none → pick (k .broken) (some (k .number)) (first (a ++ b)) ≡ o
-    go true x y = never (cc y)
-    go false x y = simp x (first-append a b o y q)
+append-same : (a : List Check) (k : Check) (b c : List Check) → (a ++ (k ∷ b)) ++ c ≡ a ++ (k ∷ (b ++ c))
+append-same a k b c = append-assoc a (k ∷ b) c
+
+blamed-first : (ks ls : List Check) (n : ℕ) → Blamed ks n → Blamed (ks ++ ls) n
+blamed-first ks ls n h = record {
+  before = h .before;
+  blamed = h .blamed;
+  after = h .after ++ ls;
+  listed = ap (λ (l : List Check). l ++ ls) (h .listed) ∙ append-same (h .before) (h .blamed) (h .after) ls;
+  hold = h .hold;
+  broken = h .broken;
+  number = h .number;
+}
+
+blamed-then : (ks ls : List Check) (n : ℕ) → AllHold ks → Blamed ls n → Blamed (ks ++ ls) n
+blamed-then ks ls n p h = record {
+  before = ks ++ h .before;
+  blamed = h .blamed;
+  after = h .after;
+  listed = ap (λ (l : List Check). ks ++ l) (h .listed) ∙ sym (append-assoc ks (h .before) (h .blamed ∷ h .after));
+  hold = all-hold-join ks (h .before) p (h .hold);
+  broken = h .broken;
+  number = h .number;
+}
+
+module _ {A : Type 0} (ks ls : List Check) (next : Answer A) (i : inside ks ≡ true) (h : ByChecks ls next) where
+  -- the first list stopped, or it left what the second list answers
+  stop-or-go : (n : ℕ) → decide ks refused next ≡ refused n → (o : Option ℕ) → first ks ≡ o → (first ks ≡ some n) ⊎ ((first ks ≡ none) × (next ≡ refused n))
+  stop-or-go n e none p = inr (p, sym (decide-none ks refused next p) ∙ e)
+  stop-or-go n e (some m) p = let q : m ≡ n = cc (sym (decide-some ks refused next m p) ∙ e) in inl (p ∙ ap some q)
+
+  went-on : (v : A) → decide ks refused next ≡ given v → (o : Option ℕ) → first ks ≡ o → (first ks ≡ none) × (next ≡ given v)
+  went-on v e none p = (p, sym (decide-none ks refused next p) ∙ e)
+  went-on v e (some m) p = never (cc (sym (decide-some ks refused next m p) ∙ e))
+
+  pub by-then : ByChecks (ks ++ ls) (decide ks refused next)
+  by-then = record {
+    numbered = λ n e. ⊎-elim (λ p. first-inside ks n i p) (λ p. h .numbered n (p .1)) (stop-or-go n e (first ks) refl);
+    blamed = λ n e. ⊎-elim (λ p. blamed-first ks ls n (blame ks n p)) (λ p. blamed-then ks ls n (all-hold ks (p .0)) (h .blamed n (p .1))) (stop-or-go n e (first ks) refl);
+    passed = λ v e. let p = went-on v e (first ks) refl in all-hold-join ks ls (all-hold ks (p .0)) (h .passed v (p .1));
+  }
+
+-- ---- entries: `show` makes an answer that tells what is right, and the crate's own theorem says that no two do
+module _ {R A : Type 0} (tell : R → Answer A) (show : Answer A → R) (back : (a : Answer A) → tell (show a) ≡ a) where
+  pub kept : (ks : List Check) (right : Answer A) → ((a b : R) → tell a ≡ right → tell b ≡ right → a ≡ b) → ByChecks ks right → Kept tell ks right
+  kept ks right only h = record {
+    one = record { the = show right; meets = back right; only = λ r e. only r (show right) e (back right) };
+    byChecks = h;
+  }
+
+  pub kept-lent : (ks : List Check) (right : Outcome A) (out : List ℕ)
+      → ((a b : R) (x y : List ℕ) → Promise tell right a x → Promise tell right b y → (a ≡ b) × (x ≡ y)) → ByChecks ks (right .answer)
+      → ((n : ℕ) → right .answer ≡ refused n → right .output ≡ out) → KeptLent tell ks right out
+  kept-lent ks right out only h u =
+      let meets : Promise tell right (show (right .answer)) (right .output) = record { answers = back (right .answer); leaves = refl } in
+      record {
+        one = record {
+          the = (show (right .answer), right .output);
+          meets = meets;
+          only = λ p e. let q = only (p .0) (show (right .answer)) (p .1) (right .output) e meets in λ i. (q .0 i, q .1 i);
+        };
+        byChecks = h;
+        untouched = u;
+      }
+
+-- an outcome by one list
+pub by-outcome : {A : Type 0} (ks : List Check) (out : List ℕ) (v : A) (after : List ℕ) → inside ks ≡ true → ByChecks ks (outcome ks out v after .answer)
+by-outcome ks out v after i = by-same ks (outcome ks out v after .answer) (rule ks v) (outcome-answer ks out v after) (by-rule ks v i)
+
+pub outcome-untouched : {A : Type 0} (ks : List Check) (out : List ℕ) (v : A) (after : List ℕ) (n : ℕ) → outcome ks out v after .answer ≡ refused n
+    → outcome ks out v after .output ≡ out
+outcome-untouched {A} ks out v after n e = ap (λ (o : Outcome A). o .output) (outcome-refused ks out v after n e)

@@ -1,3 +1,7 @@
 -- The proofs of what specs/ states.
 pub mod CasesHold
 pub mod ByChecksLaws
+pub mod Inside
+pub mod Shows
+pub mod Readers
+pub mod First

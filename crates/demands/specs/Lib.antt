@@ -1,4 +1,5 @@
 -- The demands of the order, and document 01's starred cases, stated over the definitions that the contracts cite.
 pub mod Notions
 pub mod Orders
+pub mod Demand1
 pub mod Cases

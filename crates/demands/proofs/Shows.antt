@@ -1,0 +1,116 @@
+-- For each answer of the library, an answer of the code's own type that tells it. Assumes nothing.
+use Prim.Native.Nat.{ℕ}
+use mathlib.Core.Path.{_≡_, refl}
+use mathlib.Core.Option.{Option, none, some}
+use Rattle.wire.specs.Answers.{Answer, refused, given}
+use Rattle.frame.specs.Session.{Stream, end, frame}
+use Rattle.frame.specs.declared.FrameAnswer.{FrameAnswer}
+use Rattle.frame.specs.declared.FrameAnswer.the-variants.{End, Read, Refused}
+use Rattle.frame.specs.Promises.{tellFrame}
+use Rattle.message.specs.declared.Header.{Header}
+use Rattle.message.specs.declared.HeaderAnswer.{HeaderAnswer}
+use Rattle.message.specs.declared.HeaderAnswer.the-variants.{Read as ReadHeader, Refused as NoHeader}
+use Rattle.message.specs.Promises.{tellHeader}
+use Rattle.segments.specs.Walk.{SetSays}
+use Rattle.sets.specs.declared.SetAnswer.{SetAnswer}
+use Rattle.sets.specs.declared.SetAnswer.the-variants.{Set, Refused as NoSet}
+use Rattle.sets.specs.Promises.{tellSet}
+use Rattle.radial.specs.declared.MomentHead.{MomentHead}
+use Rattle.lookup.specs.declared.MomentAnswer.{MomentAnswer}
+use Rattle.lookup.specs.declared.MomentAnswer.the-variants.{Moment as Found, Refused as NotFound}
+use Rattle.lookup.specs.declared.BlockAnswer.{BlockAnswer}
+use Rattle.lookup.specs.declared.BlockAnswer.the-variants.{Constant, Moment as MomentBlock, NoSuch, Refused as NoBlock}
+use Rattle.lookup.specs.declared.Lying.{Lying}
+use Rattle.lookup.specs.Told.{Told, tellMoment, tellBlock}
+use Rattle.gate.specs.Value.{Worth, belowThreshold, rangeFolded, worth}
+use Rattle.gate.specs.declared.GateAnswer.{GateAnswer}
+use Rattle.gate.specs.declared.GateAnswer.the-variants.{Value, BelowThreshold, RangeFolded, Refused as NoValue}
+use Rattle.gate.specs.Promises.{tellGate}
+use Rattle.map.specs.Reading.{Summary}
+use Rattle.filter.specs.declared.MapAnswer.{MapAnswer}
+use Rattle.filter.specs.declared.MapAnswer.the-variants.{Map, Refused as NoMap}
+use Rattle.filter.specs.declared.CodeAnswer.{CodeAnswer}
+use Rattle.filter.specs.declared.CodeAnswer.the-variants.{Code, Refused as NoCode}
+use Rattle.filter.specs.Answers.{tellMap, tellCode}
+
+abbrev pub showFrame : Answer Stream → FrameAnswer
+showFrame (refused n) = Refused n
+showFrame (given end) = End
+showFrame (given (frame f)) = Read f
+
+pub frame-back : (a : Answer Stream) → tellFrame (showFrame a) ≡ a
+frame-back (refused n) = refl
+frame-back (given end) = refl
+frame-back (given (frame f)) = refl
+
+abbrev pub showHeader : Answer Header → HeaderAnswer
+showHeader (refused n) = NoHeader n
+showHeader (given h) = ReadHeader h
+
+pub header-back : (a : Answer Header) → tellHeader (showHeader a) ≡ a
+header-back (refused n) = refl
+header-back (given h) = refl
+
+abbrev pub showSet : Answer SetSays → SetAnswer
+showSet (refused n) = NoSet n
+showSet (given s) = Set (s .header) (s .long)
+
+pub set-back : (a : Answer SetSays) → tellSet (showSet a) ≡ a
+set-back (refused n) = refl
+set-back (given s) = refl
+
+abbrev pub showMoment : Answer MomentHead → MomentAnswer
+showMoment (refused n) = NotFound n
+showMoment (given h) = Found h
+
+pub moment-back : (a : Answer MomentHead) → tellMoment (showMoment a) ≡ a
+moment-back (refused n) = refl
+moment-back (given h) = refl
+
+abbrev blockWith : Lying → Option MomentHead → BlockAnswer
+blockWith k none = Constant k
+blockWith k (some h) = MomentBlock k h
+
+abbrev pub showBlock : Answer (Option Told) → BlockAnswer
+showBlock (refused n) = NoBlock n
+showBlock (given none) = NoSuch
+showBlock (given (some t)) = blockWith (record { name = t .name; place = t .place; size = t .size }) (t .head)
+
+pub block-back : (a : Answer (Option Told)) → tellBlock (showBlock a) ≡ a
+block-back (refused n) = refl
+block-back (given none) = refl
+block-back (given (some t)) = go (t .name) (t .place) (t .size) (t .head)
+  where
+    go : (name place size : ℕ) (o : Option MomentHead)
+        → tellBlock (blockWith (record { name = name; place = place; size = size }) o)
+        ≡ given (some (record { name = name; place = place; size = size; head = o }))
+    go name place size none = refl
+    go name place size (some h) = refl
+
+abbrev pub showGate : Answer Worth → GateAnswer
+showGate (refused n) = NoValue n
+showGate (given (worth v)) = Value v
+showGate (given belowThreshold) = BelowThreshold
+showGate (given rangeFolded) = RangeFolded
+
+pub gate-back : (a : Answer Worth) → tellGate (showGate a) ≡ a
+gate-back (refused n) = refl
+gate-back (given (worth v)) = refl
+gate-back (given belowThreshold) = refl
+gate-back (given rangeFolded) = refl
+
+abbrev pub showMap : Answer Summary → MapAnswer
+showMap (refused n) = NoMap n
+showMap (given s) = Map (s .date) (s .minutes) (s .elevations)
+
+pub map-back : (a : Answer Summary) → tellMap (showMap a) ≡ a
+map-back (refused n) = refl
+map-back (given s) = refl
+
+abbrev pub showCode : Answer ℕ → CodeAnswer
+showCode (refused n) = NoCode n
+showCode (given c) = Code c
+
+pub code-back : (a : Answer ℕ) → tellCode (showCode a) ≡ a
+code-back (refused n) = refl
+code-back (given c) = refl

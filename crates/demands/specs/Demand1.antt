@@ -1,0 +1,44 @@
+-- Demand 1. "Any bytes may be given to any public entry. Each ends with an answer or with one refusal number of document 01, given when its rule
+-- says so and not otherwise. A refusal changes no lent byte and reports a count of 0."
+-- For each entry of the library: for every input exactly one answer meets the promise of its contract; a refusal's number is of the table and is
+-- that of the first broken check, all earlier ones hold; and a refusal leaves the lent output as it was. That each entry ends with an answer that
+-- meets its promise is its own proof, in its crate.
+use Prim.Native.Nat.{ℕ}
+use mathlib.Core.Path.{_≡_}
+use mathlib.Core.List.{List, _++_}
+use lib.ListN.{length}
+use Rattle.wire.specs.Answers.{refused}
+use Rattle.frame.specs.Session.{frameAt}
+use Rattle.frame.specs.Promises.{tellFrame}
+use Rattle.message.specs.Header.{headerChecks, headerOf}
+use Rattle.message.specs.Promises.{tellHeader}
+use Rattle.segments.specs.Walk.{setOf}
+use Rattle.sets.specs.Promises.{tellSet}
+use Rattle.description.specs.Refusal.{radialChecks, radialOf}
+use Rattle.description.specs.Lookups.{momentOf, blockOf}
+use Rattle.radial.specs.declared.Radial.{Radial}
+use Rattle.radial.specs.Shown.{shown}
+use Rattle.lookup.specs.Told.{tellMoment, headShown, tellBlock, blockShown}
+use Rattle.gate.specs.Value.{valueChecks, valueOf, gateOf}
+use Rattle.gate.specs.Promises.{tellGate}
+use Rattle.map.specs.Reading.{segmentsIn, mapChecks, askedChecks, summaryOf, codeOf}
+use Rattle.filter.specs.Answers.{tellMap, tellCode}
+use Rattle.demands.specs.Notions.{One, ByChecks, Kept, KeptLent}
+use Rattle.demands.specs.Orders.{streamChecks, setChecks, momentChecks, gateChecks}
+
+pub record Demand1 : Type 0 where
+  -- `frame_at`, `read_header`
+  pub frame : (stream : List ℕ) (place : ℕ) → Kept tellFrame (streamChecks stream place) (frameAt stream place)
+  pub header : (message : List ℕ) → Kept tellHeader (headerChecks message) (headerOf message)
+  -- `read_set`
+  pub set : (frames out : List ℕ) → KeptLent tellSet (setChecks frames (length out)) (setOf frames out) out
+  -- `read_radial`, whose struct is `shown` of the rule's answer; `moment`, `block`; `gate_value`, `value`
+  pub radial : (body : List ℕ) → One (λ (r : Radial). r ≡ shown (radialOf body)) × ByChecks (radialChecks body) (radialOf body)
+  pub moment : (body : List ℕ) (name : ℕ) → Kept tellMoment (momentChecks body name) (headShown (momentOf body name))
+  pub block : (body : List ℕ) (k : ℕ) → Kept tellBlock (radialChecks body) (blockShown (blockOf body k))
+  pub gate : (body : List ℕ) (name gate : ℕ) → Kept tellGate (gateChecks body name gate) (gateOf body name gate)
+  pub value : (code scale offset : ℕ) → Kept tellGate (valueChecks scale offset) (valueOf code scale offset)
+  -- `check_map`, `code_at`
+  pub map : (body : List ℕ) → Kept tellMap (mapChecks body) (summaryOf body)
+  pub code : (body : List ℕ) (elevation azimuth kilometre : ℕ)
+      → Kept tellCode (mapChecks body ++ askedChecks (segmentsIn body) elevation azimuth kilometre) (codeOf body elevation azimuth kilometre)
