@@ -1,10 +1,20 @@
 -- Every starred case holds of the rules themselves, by computation. Assumes nothing.
 use mathlib.Core.Path.{refl}
+use lib.Count.{trailingZeros}
+use lib.Ieee as Ieee
+use lib.Ieee.{ofBits}
 use Rattle.wire.specs.Numbers.{num}
 use Rattle.frame.specs.Session.{frameAt}
 use Rattle.message.specs.Header.{headerIn, headerOf}
-use Rattle.demands.specs.Cases.{AllRight, starred}
+use Rattle.segments.specs.Segment.{numbered}
+use Rattle.segments.specs.Walk.{walk, allSeen, joined, setOf}
+use Rattle.writer.specs.Writing.{cut, heads, frameOf, framesFrom, framesOf, writeOf}
+use Rattle.description.specs.Refusal.{radialOf}
+use Rattle.gate.specs.Value.{valueOf}
+use Rattle.map.specs.Map.{codeFrom}
+use Rattle.map.specs.Reading.{zonesChecks, zonesIn, runSize, runChecks, runIn}
+use Rattle.demands.specs.Cases.{Starred}
 
-pub table : AllRight starred
-unfolding num frameAt headerIn headerOf
-table = (refl, (refl, (refl, (refl, (refl, tt)))))
+pub starred : Starred
+unfolding num frameAt headerIn headerOf numbered walk allSeen joined setOf cut heads frameOf framesFrom framesOf writeOf radialOf valueOf codeFrom zonesChecks zonesIn runSize runChecks runIn ofBits Ieee.lt Ieee.div Ieee.sub Ieee.add Ieee.neg Ieee.sum Ieee.round Ieee.units Ieee.odd Ieee.size Ieee.span Ieee.climb Ieee.ofInt Ieee.ofFields trailingZeros
+starred = refl

@@ -31,13 +31,14 @@ abbrev pub Holds : Case → Type 0
 Holds (asked b elevation azimuth kilometre answer) = codeOf b elevation azimuth kilometre ≡ answer
 Holds (checked b answer) = summaryOf b ≡ answer
 
-abbrev pub cases : List Case
-cases =
-    -- 13: "kilometre 100 is 0, 101 is 2"
-    asked body13 1 0 100 (given 0)
-    ∷ asked body13 1 0 101 (given 2)
+-- 13: "kilometre 100 is 0, 101 is 2"
+abbrev pub starredCases : List Case
+starredCases = asked body13 1 0 100 (given 0) ∷ asked body13 1 0 101 (given 2) ∷ []
+
+abbrev pub otherCases : List Case
+otherCases =
     -- 14: "Ends 100, 100, 511: 24. Only 100: 24."
-    ∷ asked (bodyWith (zone 0 100 ∷ zone 1 100 ∷ zone 2 511 ∷ [])) 1 0 100 (refused 24)
+    asked (bodyWith (zone 0 100 ∷ zone 1 100 ∷ zone 2 511 ∷ [])) 1 0 100 (refused 24)
     ∷ asked (bodyWith (zone 0 100 ∷ [])) 1 0 100 (refused 24)
     -- what is asked for
     ∷ asked body13 1 0 0 (given 0)
@@ -70,6 +71,9 @@ cases =
     ∷ checked (take 2169 body13) (refused 23)
     ∷ checked (body13 ++ (0 ∷ [])) (refused 23)
     ∷ []
+
+abbrev pub cases : List Case
+cases = starredCases ++ otherCases
 
 abbrev pub Table : Type 0
 Table = Each Holds cases
