@@ -5,3 +5,5 @@ pub mod Inside
 pub mod Shows
 pub mod Readers
 pub mod First
+pub mod Third
+pub mod Painted

@@ -3,3 +3,5 @@ pub mod Notions
 pub mod Orders
 pub mod Demand1
 pub mod Cases
+pub mod Demand3
+pub mod Wall

@@ -1,0 +1,46 @@
+-- Demand 3, from the theorems of `description`, `radial`, `lookup` and `gate`. Assumes nothing.
+use Prim.Native.Nat.{ℕ}
+use mathlib.Core.Path.{_≡_, refl, sym, ap, subst, _∙_}
+use mathlib.Core.List.{List, []}
+use lib.ListN.{take}
+use denote.Ref.{RefT, now}
+use Rattle.wire.specs.Answers.{Answer, refused, given}
+use Rattle.description.specs.Description.{Moment, Description}
+use Rattle.description.specs.Refusal.{radialOf}
+use Rattle.description.specs.Lookups.{momentOf, Asked, blockOf, Part, gatesOf, bytesIn}
+use Rattle.description.specs.Demand3.{SameAnswers}
+use Rattle.description.proofs.Accepted.{exactly, unique}
+use Rattle.description.proofs.Naming.{named-exactly, unnamed}
+use Rattle.radial.specs.Shown.{shown}
+use Rattle.radial.proofs.HandedLaws.{handed-exactly}
+use Rattle.lookup.specs.Told.{tellMoment, headShown, tellBlock, blockShown, partOf, LiesAt}
+use Rattle.lookup.proofs.OneAnswer.{only-moment, only-block}
+use Rattle.gate.specs.Promises.{tellGate}
+use Rattle.gate.proofs.OneAnswer.{gate-only}
+use Rattle.gate.proofs.GateLaws.{gate-unnamed}
+use Rattle.demands.specs.Demand3.{SameFromEach, Unaltered, Demand3}
+
+-- the bytes of the part are the same, where it is given, and none where it is refused
+same-bytes : (b b′ : List ℕ) (a : Answer Part) → ((p : Part) → a ≡ given p → bytesIn b′ p ≡ bytesIn b p) → bytesIn b (partOf a) ≡ bytesIn b′ (partOf a)
+same-bytes b b′ (refused n) f = refl
+same-bytes b b′ (given p) f = sym (f p refl)
+
+unaltered : Unaltered
+unaltered b b′ d o l e f =
+    let s = unnamed b b′ d o l e f in
+    record {
+      reader = λ r r′ p q. p ∙ ap shown (sym (s .radial)) ∙ sym q;
+      moment = λ name r r′ p q. only-moment b name r r′ p (q ∙ ap headShown (s .moment name));
+      block = λ k r r′ p q. only-block b k r r′ p (q ∙ ap blockShown (s .block k));
+      gates = λ name body body′ r r′ p q u v.
+          let same : partOf (gatesOf b′ name) ≡ partOf (gatesOf b name) = ap partOf (s .gates name) in
+          let one : now r ≡ bytesIn b (partOf (gatesOf b name)) = u .bytes ∙ ap (λ (x : List ℕ). bytesIn x (partOf (gatesOf x name))) p in
+          let two : now r′ ≡ bytesIn b′ (partOf (gatesOf b name)) =
+          v .bytes ∙ ap (λ (x : List ℕ). bytesIn x (partOf (gatesOf x name))) q ∙ ap (λ (x : Part). bytesIn b′ x) same
+          in
+          (sym same, one ∙ same-bytes b b′ (gatesOf b name) (s .codes name) ∙ sym two);
+      gate = λ name gate r r′ p q. gate-only b name gate r r′ p (q ∙ gate-unnamed b b′ d o l e f name gate);
+    }
+
+pub demand3 : Demand3
+demand3 = record { exactly = exactly; unique = unique; handed = handed-exactly; named = named-exactly; unnamed = unaltered }
