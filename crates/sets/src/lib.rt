@@ -208,10 +208,10 @@ fn joined_length(starts: &[usize; 128], ends: &[usize; 128], n: usize) -> usize
     ensures { λ r. ⌜ (r ≡ partsLong (now (starts .entry)) (now (ends .entry)) n) × (r ≤ n * sessionLimit .0) ⌝ }
 {
     let mut sum = 0;
-    let mut k = 0;
-    while k < n {
-        sum += ends[k] - starts[k];
-        k += 1;
+    let mut j = 0;
+    while j < n {
+        sum += ends[j] - starts[j];
+        j += 1;
     }
     sum
 }
