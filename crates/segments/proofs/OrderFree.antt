@@ -12,7 +12,7 @@ use Rattle.wire.proofs.CheckLaws.{never, all-hold-append, all-hold-join}
 use Rattle.message.specs.declared.Header.{Header}
 use Rattle.segments.specs.Segment.{Segment, segmentIn, agreeChecks, numbered, found, orNothing, dataNumbered}
 use Rattle.segments.specs.Walk.{firstOr, seen, metChecks, count, allSeen, joined}
-use Rattle.segments.specs.Whole.{headerFrom, numberFrom, dataFrom, Agree, Distinct, Joined, none as nothing, next}
+use Rattle.segments.specs.Whole.{headerFrom, numberFrom, dataFrom, Agree, Distinct, Joined, start, next}
 use Rattle.segments.proofs.NumberedLaws.{numbered-other, first-more}
 use Rattle.segments.proofs.FrameLists.{each-cons, AllMet}
 
@@ -190,7 +190,7 @@ is-found (x ∷ xs) f m d =
 -- ---- the body
 pub joined-from : (each : List (List ℕ)) (n : ℕ) → allSeen (map segmentIn each) n ≡ true → Joined each n (joined (map segmentIn each) n)
 unfolding allSeen joined
-joined-from each zero e = nothing
+joined-from each zero e = start
 joined-from each (suc n) e = go (allSeen (map segmentIn each) n) (numbered (map segmentIn each) (suc n)) refl refl e (λ q. joined-from each n q)
   where
     go : (t : Bool) (o : Option Segment) → allSeen (map segmentIn each) n ≡ t → numbered (map segmentIn each) (suc n) ≡ o → both t (found o) ≡ true
@@ -205,7 +205,7 @@ joined-from each (suc n) e = go (allSeen (map segmentIn each) n) (numbered (map 
 pub joined-to : (each : List (List ℕ)) {n : ℕ} {body : List ℕ} → Distinct (map numberFrom each) → Joined each n body
     → (allSeen (map segmentIn each) n ≡ true) × (joined (map segmentIn each) n ≡ body)
 unfolding allSeen joined
-joined-to each d nothing = (refl, refl)
+joined-to each d start = (refl, refl)
 joined-to each d (next {n = n} {body = body} f m e j) =
     let i = joined-to each d j in
     let q : numbered (map segmentIn each) (suc n) ≡ some (segmentIn f) = ap (λ (k : ℕ). numbered (map segmentIn each) k) (sym e) ∙ is-found each f m d in (

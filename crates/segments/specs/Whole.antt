@@ -36,7 +36,7 @@ abbrev pub Distinct : List ℕ → Type 0
 Distinct [] = Unit {0}
 Distinct (x ∷ xs) = (List·Memᴰ x xs → ⊥) × Distinct xs
 
--- frames that make a set, as far as each was met: they are the buffer, every one passes, all agree with one header, no number appears twice
+-- the buffer is these frames and nothing else, every one of them passes, all agree with the header h, and no number appears twice
 pub record Orderly (frames : List ℕ) (h : Header) (each : List (List ℕ)) : Type 0 where
   pub buffer : flatten each ≡ frames
   pub pass : (f : List ℕ) → List·Memᴰ f each → Passes f
@@ -45,7 +45,7 @@ pub record Orderly (frames : List ℕ) (h : Header) (each : List (List ℕ)) : T
 
 -- each of 1 to n is among the frames, and `body` is their data joined, 1 first
 pub data Joined (each : List (List ℕ)) : ℕ → List ℕ → Type 0 where
-  none : Joined each zero []
+  start : Joined each zero []
   next : {n : ℕ} {body : List ℕ} (f : List ℕ) → List·Memᴰ f each → numberFrom f ≡ suc n → Joined each n body → Joined each (suc n) (body ++ dataFrom f)
 
 -- the buffer is a whole set, h its segment 1's header and `body` the data of 1 to N joined

@@ -30,6 +30,8 @@ const DATA: u32 = 2;
 
 const HEADER: usize = 16;
 
+const MOST_SEGMENTS: usize = 128;
+
 // The header of the set's first frame, and that of segment 1.
 struct Heads {
     first: Header,
@@ -52,6 +54,7 @@ enum Gathered {
     Refused(u8),
 }
 
+// The segment at a place of the buffer. Where the buffer ends, a frame is cut off.
 fn segment_at(frames: &[u8], at: usize) -> SegmentAnswer
     ensures { λ r. ⌜ SegmentRead (now (frames .entry)) at r ⌝ }
 {
@@ -116,9 +119,9 @@ fn take_turn(
     frames: &[u8],
     at: usize,
     heads: Heads,
-    flags: &mut [bool; 128],
-    starts: &mut [usize; 128],
-    ends: &mut [usize; 128],
+    flags: &mut [bool; MOST_SEGMENTS],
+    starts: &mut [usize; MOST_SEGMENTS],
+    ends: &mut [usize; MOST_SEGMENTS],
 ) -> Turn
     ensures { λ r. ⌜ TurnTaken (now (frames .entry)) at heads (now (flags .entry)) (now (starts .entry)) (now (ends .entry)) (now (flags .exit)) (now (starts .exit)) (now (ends .exit)) r ⌝ }
 {
@@ -163,9 +166,9 @@ fn no_header() -> Header
 // The first pass: each frame in turn, to the end of the buffer.
 fn gather(
     frames: &[u8],
-    flags: &mut [bool; 128],
-    starts: &mut [usize; 128],
-    ends: &mut [usize; 128],
+    flags: &mut [bool; MOST_SEGMENTS],
+    starts: &mut [usize; MOST_SEGMENTS],
+    ends: &mut [usize; MOST_SEGMENTS],
 ) -> Gathered
     requires { ⌜ Blank (now flags) (now starts) (now ends) ⌝ }
     ensures { λ r. ⌜ Gathers (now (frames .entry)) (now (flags .exit)) (now (starts .exit)) (now (ends .exit)) r ⌝ }
@@ -188,7 +191,7 @@ fn gather(
 }
 
 // Whether each of the numbers 1 to n was seen.
-fn all_seen(flags: &[bool; 128], n: usize) -> bool
+fn all_seen(flags: &[bool; MOST_SEGMENTS], n: usize) -> bool
     requires { ⌜ n ≤ mostSegments ⌝ }
     ensures { λ r. ⌜ r ≡ allSet (now (flags .entry)) n ⌝ }
 {
@@ -203,19 +206,20 @@ fn all_seen(flags: &[bool; 128], n: usize) -> bool
 }
 
 // The length of the first n segments' data joined.
-fn joined_length(starts: &[usize; 128], ends: &[usize; 128], n: usize) -> usize
+fn joined_length(starts: &[usize; MOST_SEGMENTS], ends: &[usize; MOST_SEGMENTS], n: usize) -> usize
     requires { ⌜ (n ≤ mostSegments) × Parts (now starts) (now ends) ⌝ }
     ensures { λ r. ⌜ (r ≡ partsLong (now (starts .entry)) (now (ends .entry)) n) × (r ≤ n * sessionLimit .0) ⌝ }
 {
     let mut sum = 0;
-    let mut k = 0;
-    while k < n {
-        sum += ends[k] - starts[k];
-        k += 1;
+    let mut j = 0;
+    while j < n {
+        sum += ends[j] - starts[j];
+        j += 1;
     }
     sum
 }
 
+// All of `from` into `to`, which is as long.
 fn copy(from: &[u8], to: &mut [u8])
     requires { ⌜ length (now from) ≡ length (now to) ⌝ }
     ensures { λ r. ⌜ now (to .exit) ≡ now (from .entry) ⌝ }
@@ -228,7 +232,13 @@ fn copy(from: &[u8], to: &mut [u8])
 }
 
 // The second pass: the data of segments 1 to n, one after the other from the output's start.
-fn join(frames: &[u8], starts: &[usize; 128], ends: &[usize; 128], n: usize, out: &mut [u8])
+fn join(
+    frames: &[u8],
+    starts: &[usize; MOST_SEGMENTS],
+    ends: &[usize; MOST_SEGMENTS],
+    n: usize,
+    out: &mut [u8],
+)
     requires { ⌜ (n ≤ mostSegments) × Parts (now starts) (now ends) × Within (now frames) (now ends) × (partsLong (now starts) (now ends) n ≤ length (now out)) ⌝ }
     ensures { λ r. ⌜ now (out .exit) ≡ filled (parts (now (frames .entry)) (now (starts .entry)) (now (ends .entry)) n) (now (out .entry)) ⌝ }
 {
@@ -248,9 +258,9 @@ fn join(frames: &[u8], starts: &[usize; 128], ends: &[usize; 128], n: usize, out
 pub fn read_set(frames: &[u8], out: &mut [u8]) -> SetAnswer
     ensures { λ r. ⌜ Promise tellSet (setOf (now (frames .entry)) (now (out .entry))) r (now (out .exit)) ⌝ }
 {
-    let mut flags = [false; 128];
-    let mut starts = [0usize; 128];
-    let mut ends = [0usize; 128];
+    let mut flags = [false; MOST_SEGMENTS];
+    let mut starts = [0usize; MOST_SEGMENTS];
+    let mut ends = [0usize; MOST_SEGMENTS];
     let heads = match gather(frames, &mut flags, &mut starts, &mut ends) {
         Gathered::Refused(n) => return SetAnswer::Refused(n),
         Gathered::Ended(heads) => heads,

@@ -46,35 +46,35 @@ sub-next c = (c .before .before .before .before .before .before .pre .1 (c .befo
 
 -- src/lib.rt:240:20
 add-next : tie.Need-add-next Inv-loop μ-loop
-add-next c = omega (arith, c .before .before .before .before .before .before .pre .1 (c .before .before .before .loop .k) (omega arith), c .before .before .before .before .before .before .pre .2 (c .before .before .before .loop .k) (omega arith), long-next (now (c .before .before .before .before .before .before .args .starts)) (now (c .before .before .before .before .before .before .args .ends)) (c .before .before .before .loop .k) (c .before .before .before .before .before .before .args .n) (c .before .before .loop-test .taken))
+add-next c = omega (arith, c .before .before .before .before .before .before .pre .1 (c .before .before .before .loop .k) (omega arith), c .before .before .before .before .before .before .pre .2 (c .before .before .before .loop .k) (omega arith), long-next (now (c .before .before .before .before .before .before .args .starts)) (now (c .before .before .before .before .before .before .args .ends)) (c .before .before .before .loop .k) (c .before .before .before .before .before .before .args .n) (omega arith))
 
 -- src/lib.rt:241:14
 sub-copy : tie.Need-sub-copy Inv-loop μ-loop
-sub-copy c = omega (arith, c .before .before .before .before .before .before .pre .1 (c .before .before .before .loop .k) (omega arith), c .before .before .before .before .before .before .pre .2 (c .before .before .before .loop .k) (omega arith), long-next (now (c .before .before .before .before .before .before .args .starts)) (now (c .before .before .before .before .before .before .args .ends)) (c .before .before .before .loop .k) (c .before .before .before .before .before .before .args .n) (c .before .before .loop-test .taken))
+sub-copy c = omega (arith, c .before .before .before .before .before .before .pre .1 (c .before .before .before .loop .k) (omega arith), c .before .before .before .before .before .before .pre .2 (c .before .before .before .loop .k) (omega arith), long-next (now (c .before .before .before .before .before .before .args .starts)) (now (c .before .before .before .before .before .before .args .ends)) (c .before .before .before .loop .k) (c .before .before .before .before .before .before .args .n) (omega arith))
 
 -- src/lib.rt:241:14
 part-copy-start : tie.Need-part-copy-start Inv-loop μ-loop
-part-copy-start c = omega (arith, c .before .before .before .before .before .before .pre .1 (c .before .before .before .loop .k) (omega arith), c .before .before .before .before .before .before .pre .2 (c .before .before .before .loop .k) (omega arith), long-next (now (c .before .before .before .before .before .before .args .starts)) (now (c .before .before .before .before .before .before .args .ends)) (c .before .before .before .loop .k) (c .before .before .before .before .before .before .args .n) (c .before .before .loop-test .taken))
+part-copy-start c = omega (arith, c .before .before .before .before .before .before .pre .1 (c .before .before .before .loop .k) (omega arith), c .before .before .before .before .before .before .pre .2 (c .before .before .before .loop .k) (omega arith), long-next (now (c .before .before .before .before .before .before .args .starts)) (now (c .before .before .before .before .before .before .args .ends)) (c .before .before .before .loop .k) (c .before .before .before .before .before .before .args .n) (omega arith))
 
 -- src/lib.rt:241:14
 part-copy-end : tie.Need-part-copy-end Inv-loop μ-loop
-part-copy-end c = omega (arith, c .before .before .before .before .before .before .pre .1 (c .before .before .before .loop .k) (omega arith), c .before .before .before .before .before .before .pre .2 (c .before .before .before .loop .k) (omega arith), long-next (now (c .before .before .before .before .before .before .args .starts)) (now (c .before .before .before .before .before .before .args .ends)) (c .before .before .before .loop .k) (c .before .before .before .before .before .before .args .n) (c .before .before .loop-test .taken))
+part-copy-end c = omega (arith, c .before .before .before .before .before .before .pre .1 (c .before .before .before .loop .k) (omega arith), c .before .before .before .before .before .before .pre .2 (c .before .before .before .loop .k) (omega arith), long-next (now (c .before .before .before .before .before .before .args .starts)) (now (c .before .before .before .before .before .before .args .ends)) (c .before .before .before .loop .k) (c .before .before .before .before .before .before .args .n) (omega arith))
 
 -- src/lib.rt:241:35
 sub-copy-2 : tie.Need-sub-copy-2 Inv-loop μ-loop
-sub-copy-2 c = omega (arith, c .before .before .before .before .before .before .before .pre .1 (c .before .before .before .before .loop .k) (omega arith), c .before .before .before .before .before .before .before .pre .2 (c .before .before .before .before .loop .k) (omega arith), long-next (now (c .before .before .before .before .before .before .before .args .starts)) (now (c .before .before .before .before .before .before .before .args .ends)) (c .before .before .before .before .loop .k) (c .before .before .before .before .before .before .before .args .n) (c .before .before .before .loop-test .taken))
+sub-copy-2 c = omega (arith, c .before .before .before .before .before .before .before .pre .1 (c .before .before .before .before .loop .k) (omega arith), c .before .before .before .before .before .before .before .pre .2 (c .before .before .before .before .loop .k) (omega arith), long-next (now (c .before .before .before .before .before .before .before .args .starts)) (now (c .before .before .before .before .before .before .before .args .ends)) (c .before .before .before .before .loop .k) (c .before .before .before .before .before .before .before .args .n) (omega arith))
 
 -- src/lib.rt:241:35
 part-copy-start-2 : tie.Need-part-copy-start-2 Inv-loop μ-loop
-part-copy-start-2 c = omega (arith, c .before .before .before .before .before .before .before .pre .1 (c .before .before .before .before .loop .k) (omega arith), c .before .before .before .before .before .before .before .pre .2 (c .before .before .before .before .loop .k) (omega arith), long-next (now (c .before .before .before .before .before .before .before .args .starts)) (now (c .before .before .before .before .before .before .before .args .ends)) (c .before .before .before .before .loop .k) (c .before .before .before .before .before .before .before .args .n) (c .before .before .before .loop-test .taken))
+part-copy-start-2 c = omega (arith, c .before .before .before .before .before .before .before .pre .1 (c .before .before .before .before .loop .k) (omega arith), c .before .before .before .before .before .before .before .pre .2 (c .before .before .before .before .loop .k) (omega arith), long-next (now (c .before .before .before .before .before .before .before .args .starts)) (now (c .before .before .before .before .before .before .before .args .ends)) (c .before .before .before .before .loop .k) (c .before .before .before .before .before .before .before .args .n) (omega arith))
 
 -- src/lib.rt:241:35
 part-copy-end-2 : tie.Need-part-copy-end-2 Inv-loop μ-loop
-part-copy-end-2 c = omega (arith, c .before .before .before .before .before .before .before .pre .1 (c .before .before .before .before .loop .k) (omega arith), c .before .before .before .before .before .before .before .pre .2 (c .before .before .before .before .loop .k) (omega arith), long-next (now (c .before .before .before .before .before .before .before .args .starts)) (now (c .before .before .before .before .before .before .before .args .ends)) (c .before .before .before .before .loop .k) (c .before .before .before .before .before .before .before .args .n) (c .before .before .before .loop-test .taken))
+part-copy-end-2 c = omega (arith, c .before .before .before .before .before .before .before .pre .1 (c .before .before .before .before .loop .k) (omega arith), c .before .before .before .before .before .before .before .pre .2 (c .before .before .before .before .loop .k) (omega arith), long-next (now (c .before .before .before .before .before .before .before .args .starts)) (now (c .before .before .before .before .before .before .before .args .ends)) (c .before .before .before .before .loop .k) (c .before .before .before .before .before .before .before .args .n) (omega arith))
 
 -- src/lib.rt:241:9
 copy-requires : tie.Need-copy-requires Inv-loop μ-loop
-copy-requires c κs = join-fits _ _ _ (c .before .before .before .before .before .before .before .before .pre .1) (c .before .before .before .before .before .before .before .before .pre .2) _ _ (c .before .before .before .before .loop-test .taken) (c .before .before .before .before .before .before .before .before .pre .0) _ _ (c .before .before .before .before .before .before .before .before .pre .3) _ (c .before .before .before .before .before .loop .inv .1) (c .before .before .before .before .before .loop .inv .2) (c .before .before .before .before .before .loop .inv .3)
+copy-requires c κs = join-fits _ _ _ (c .before .before .before .before .before .before .before .before .pre .1) (c .before .before .before .before .before .before .before .before .pre .2) _ _ (omega arith) (c .before .before .before .before .before .before .before .before .pre .0) _ _ (c .before .before .before .before .before .before .before .before .pre .3) _ (c .before .before .before .before .before .loop .inv .1) (c .before .before .before .before .before .loop .inv .2) (c .before .before .before .before .before .loop .inv .3)
 
 -- src/lib.rt:243:9
 add-k : tie.Need-add-k Inv-loop μ-loop
@@ -87,10 +87,10 @@ loop-less c = omega arith
 -- src/lib.rt:237:5
 loop-again : tie.Need-loop-again Inv-loop μ-loop
 loop-again c =
-    let e = join-more _ _ _ (c .before .before .before .before .before .before .before .before .before .before .before .pre .1) (c .before .before .before .before .before .before .before .before .before .before .before .pre .2) _ _ (c .before .before .before .before .before .before .before .loop-test .taken) (c .before .before .before .before .before .before .before .before .before .before .before .pre .0) _ _ (c .before .before .before .before .before .before .before .before .before .before .before .pre .3) _ (c .before .before .before .before .before .before .before .before .loop .inv .1) (c .before .before .before .before .before .before .before .before .loop .inv .2) (c .before .before .before .before .before .before .before .before .loop .inv .3) _ (c .before .before .copy .ensures) in (
+    let e = join-more _ _ _ (c .before .before .before .before .before .before .before .before .before .before .before .pre .1) (c .before .before .before .before .before .before .before .before .before .before .before .pre .2) _ _ (omega arith) (c .before .before .before .before .before .before .before .before .before .before .before .pre .0) _ _ (c .before .before .before .before .before .before .before .before .before .before .before .pre .3) _ (c .before .before .before .before .before .before .before .before .loop .inv .1) (c .before .before .before .before .before .before .before .before .loop .inv .2) (c .before .before .before .before .before .before .before .before .loop .inv .3) _ (c .before .before .copy .ensures) in (
       omega arith,
       omega (arith, long-more (now (c .before .before .before .before .before .before .before .before .before .before .before .args .starts)) (now (c .before .before .before .before .before .before .before .before .before .before .before .args .ends)) (c .before .before .before .before .before .before .before .before .loop .k)),
-      join-long _ _ _ (c .before .before .before .before .before .before .before .before .before .before .before .pre .1) (c .before .before .before .before .before .before .before .before .before .before .before .pre .2) _ _ (c .before .before .before .before .before .before .before .loop-test .taken) (c .before .before .before .before .before .before .before .before .before .before .before .pre .0) _ _ (c .before .before .before .before .before .before .before .before .before .before .before .pre .3) _ (c .before .before .before .before .before .before .before .before .loop .inv .1) (c .before .before .before .before .before .before .before .before .loop .inv .2) (c .before .before .before .before .before .before .before .before .loop .inv .3) _ e,
+      join-long _ _ _ (c .before .before .before .before .before .before .before .before .before .before .before .pre .1) (c .before .before .before .before .before .before .before .before .before .before .before .pre .2) _ _ (omega arith) (c .before .before .before .before .before .before .before .before .before .before .before .pre .0) _ _ (c .before .before .before .before .before .before .before .before .before .before .before .pre .3) _ (c .before .before .before .before .before .before .before .before .loop .inv .1) (c .before .before .before .before .before .before .before .before .loop .inv .2) (c .before .before .before .before .before .before .before .before .loop .inv .3) _ e,
       e,
     )
 

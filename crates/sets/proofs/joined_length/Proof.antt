@@ -12,10 +12,10 @@ use Rattle.sets.proofs.joined_length.Reads as reads
 use Rattle.sets.proofs.joined_length.Lts as lts
 
 abbrev Inv-loop : tie.InvT-loop
-Inv-loop starts ends n sum₀ k₀ sum k = (k ≤ n) × (sum ≡ partsLong starts ends k) × (sum ≤ k * sessionLimit .0)
+Inv-loop starts ends n sum₀ j₀ sum j = (j ≤ n) × (sum ≡ partsLong starts ends j) × (sum ≤ j * sessionLimit .0)
 
 abbrev μ-loop : tie.MeasureT-loop
-μ-loop starts ends n sum₀ k₀ sum k = n - k
+μ-loop starts ends n sum₀ j₀ sum j = n - j
 
 -- src/lib.rt:212:5
 loop-holds : tie.Need-loop-holds Inv-loop μ-loop
@@ -40,15 +40,15 @@ element-copy-out-sum-2 c = omega arith
 
 -- src/lib.rt:213:16
 sub-sum : tie.Need-sub-sum Inv-loop μ-loop
-sub-sum c = (c .before .before .before .before .pre .1 (c .before .before .before .loop .k) (omega arith)) .0
+sub-sum c = (c .before .before .before .before .pre .1 (c .before .before .before .loop .j) (omega arith)) .0
 
 -- src/lib.rt:213:9
 add-sum : tie.Need-add-sum Inv-loop μ-loop
-add-sum c = omega (arith, (c .before .before .before .before .pre .1 (c .before .before .before .loop .k) (omega arith)))
+add-sum c = omega (arith, (c .before .before .before .before .pre .1 (c .before .before .before .loop .j) (omega arith)))
 
 -- src/lib.rt:214:9
-add-k : tie.Need-add-k Inv-loop μ-loop
-add-k c = omega arith
+add-j : tie.Need-add-j Inv-loop μ-loop
+add-j c = omega arith
 
 -- src/lib.rt:212:5
 loop-less : tie.Need-loop-less Inv-loop μ-loop
@@ -56,11 +56,11 @@ loop-less c = omega arith
 
 -- src/lib.rt:212:5
 loop-again : tie.Need-loop-again Inv-loop μ-loop
-loop-again c = (omega arith, omega (arith, long-more (now (c .before .before .before .before .args .starts)) (now (c .before .before .before .before .args .ends)) (c .before .before .before .loop .k)), omega (arith, (c .before .before .before .before .pre .1 (c .before .before .before .loop .k) (omega arith))))
+loop-again c = (omega arith, omega (arith, long-more (now (c .before .before .before .before .args .starts)) (now (c .before .before .before .before .args .ends)) (c .before .before .before .loop .j)), omega (arith, (c .before .before .before .before .pre .1 (c .before .before .before .loop .j) (omega arith))))
 
 -- src/lib.rt:206:1
 returns : tie.Need-returns Inv-loop μ-loop
-returns c = let e : c .before .loop .k ≡ c .before .before .args .n = omega arith in subst (λ (i : ℕ). (c .before .loop .sum ≡ partsLong (now (c .before .before .args .starts)) (now (c .before .before .args .ends)) i) × (c .before .loop .sum ≤ i * sessionLimit .0)) e (c .before .loop .inv .1, c .before .loop .inv .2)
+returns c = let e : c .before .loop .j ≡ c .before .before .args .n = omega arith in subst (λ (i : ℕ). (c .before .loop .sum ≡ partsLong (now (c .before .before .args .starts)) (now (c .before .before .args .ends)) i) × (c .before .loop .sum ≤ i * sessionLimit .0)) e (c .before .loop .inv .1, c .before .loop .inv .2)
 
 pub joined-length-spec : {M : Type 1} → statement M
 joined-length-spec =
@@ -75,7 +75,7 @@ joined-length-spec =
     element-copy-out-sum-2
     sub-sum
     add-sum
-    add-k
+    add-j
     loop-less
     loop-again
     returns)
