@@ -13,20 +13,27 @@ ghost use Rattle.radial.specs.Shown.{room, headerOf, noHeader, noHead, s
 ghost use Rattle.radial.specs.Steps.{tellStart, tellFound, tellConstants, tellGot, tellHeads, headIn, startOf, constantIn, constantAt, constantsOf, momentIn, nextOf, momentsOf};
 use wire::refusal;
 
-// "The header takes bytes 0 to 67": the first block begins there or later.
-pub const FIRST_PLACE: u32 = 68;
+// "The header takes bytes 0 to 67", and the first block begins there or later.
+const HEADER_SIZE: usize = 68;
 
-// The least and the most blocks, and how many of them are constant.
+const FIRST_PLACE: u32 = 68;
+
+// "The count is 4 to 9": the constant blocks, and at least one moment.
 const FEWEST_BLOCKS: u16 = 4;
 
 const MOST_BLOCKS: u16 = 9;
 
 const CONSTANTS: u16 = 3;
 
-// The most moments: each name once.
+// Room for as many moments as the count allows.
 pub const ROOM: usize = 6;
 
 const MOST_GATES: u16 = 1840;
+
+// Bytes before the rest of a constant block, and before a moment's gates.
+const CONSTANT_HEAD: usize = 6;
+
+const MOMENT_HEAD: usize = 28;
 
 // The header's values, as stored. Angles by their 32 bits.
 pub struct Header {
@@ -229,14 +236,14 @@ fn head_of(part: &[u8], place: u32) -> MomentHead
 fn begin(body: &[u8]) -> Start
     ensures { λ r. ⌜ tellStart r ≡ startOf (now (body .entry)) ⌝ }
 {
-    if body.len() < 68 {
+    if body.len() < HEADER_SIZE {
         return Start::Refused(refusal::RADIAL_SHORT);
     }
     if wire::fetch8(body, 16) != 0 {
         return Start::Refused(refusal::COMPRESSION);
     }
     let length = wire::fetch16(body, 18);
-    if length < 68 {
+    if (length as usize) < HEADER_SIZE {
         return Start::Refused(refusal::RADIAL_LENGTH);
     }
     if body.len() < length as usize {
@@ -300,7 +307,7 @@ fn constant(part: &[u8], place: u32, name: &[u8], least: u16) -> Found
     requires { ⌜ place + length (now part) < 2 ^ 32 ⌝ }
     ensures { λ r. ⌜ tellFound r ≡ constantIn place (now (part .entry)) (fetched 4 (now (name .entry)) 0) least ⌝ }
 {
-    if part.len() < 6 {
+    if part.len() < CONSTANT_HEAD {
         return Found::Refused(refusal::POINTER);
     }
     if !named(part, name) {
@@ -380,7 +387,7 @@ fn moment_in(part: &[u8], place: u32, seen: &[u32]) -> Got
     requires { ⌜ place + length (now part) < 2 ^ 32 ⌝ }
     ensures { λ r. ⌜ tellGot r ≡ momentIn place (now (part .entry)) (now (seen .entry)) ⌝ }
 {
-    if part.len() < 28 {
+    if part.len() < MOMENT_HEAD {
         return Got::Refused(refusal::POINTER);
     }
     if !permitted(part) {
