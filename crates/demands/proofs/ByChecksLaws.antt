@@ -33,6 +33,7 @@ first-inside (k ∷ ks) n p e = go (k .broken) e (λ q. first-inside ks n (h .1)
   where
     h = both-true (both (leb 1 (k .number)) (leb (k .number) lastNumber)) (inside ks) p
     g = both-true (leb 1 (k .number)) (leb (k .number) lastNumber) (h .0)
+
     go : (t : Bool) → pick t (some (k .number)) (first ks) ≡ some n → (first ks ≡ some n → OfTheTable n) → OfTheTable n
     go true q later = let m : k .number ≡ n = cc q in rw (← m) (leb-true 1 (k .number) (g .0), leb-true (k .number) lastNumber (g .1))
     go false q later = later q

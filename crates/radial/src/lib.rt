@@ -2,7 +2,6 @@
 ghost use mathlib.Core.Path.{_≡_};
 ghost use Prim.Native.Nat.{_+_, _*_, _/_, _^_, _<_, _≤_};
 ghost use lib.Dec.{eqb};
-ghost use lib.Ieee.{binary32, ofBits};
 ghost use lib.ListN.{length};
 ghost use Rattle.wire.specs.Numbers.{fetched};
 ghost use Rattle.wire.specs.Checks.{among};
@@ -10,7 +9,7 @@ ghost use Rattle.wire.specs.Answers.{refused};
 ghost use Rattle.description.specs.Description.{permitted as permittedNames, wordSizes, momentHead};
 ghost use Rattle.description.specs.Refusal.{nameIn, sizeIn, description, radialOf};
 ghost use Rattle.radial.specs.Shown.{room, headerOf, noHeader, noHead, shown};
-ghost use Rattle.radial.specs.Steps.{tellStart, tellFound, tellConstants, tellGot, tellHeads, headIn, startOf, constantIn, constantAt, constantsOf, momentIn, nextOf, momentsOf};
+ghost use Rattle.radial.specs.Steps.{tellStart, tellFound, tellConstants, tellGot, tellHeads, headIn, startOf, constantIn, constantAt, constantsOf, momentIn, momentNext, momentsOf};
 use wire::refusal;
 
 // "The header takes bytes 0 to 67", and the first block begins there or later.
@@ -115,16 +114,6 @@ struct Heads {
     heads: [MomentHead; ROOM],
 }
 
-pub fn float_of(bits: u32) -> f32
-    ensures { λ r. ⌜ r ≡ ofBits binary32 bits ⌝ }
-{
-    if bits % 2147483648 <= 2139095040 {
-        f32::from_bits(bits)
-    } else {
-        0.0f32 / 0.0f32
-    }
-}
-
 fn no_head() -> MomentHead
     ensures { λ r. ⌜ r ≡ noHead ⌝ }
 {
@@ -225,8 +214,8 @@ fn head_of(part: &[u8], place: u32) -> MomentHead
         noise: wire::fetch16(part, 16),
         flags: wire::fetch8(part, 18),
         word: wire::fetch8(part, 19),
-        scale: float_of(scale),
-        offset: float_of(offset),
+        scale: wire::float_of(scale),
+        offset: wire::float_of(offset),
         scale_bits: scale,
         offset_bits: offset,
     }
@@ -303,7 +292,7 @@ fn listed(seen: &[u32], name: u32) -> bool
 }
 
 // The part of the body from the block's pointer to the end of the radial.
-fn constant(part: &[u8], place: u32, name: &[u8], least: u16) -> Found
+fn constant(part: &[u8], place: u32, name: &[u8], least: usize) -> Found
     requires { ⌜ place + length (now part) < 2 ^ 32 ⌝ }
     ensures { λ r. ⌜ tellFound r ≡ constantIn place (now (part .entry)) (fetched 4 (now (name .entry)) 0) least ⌝ }
 {
@@ -314,10 +303,11 @@ fn constant(part: &[u8], place: u32, name: &[u8], least: u16) -> Found
         return Found::Refused(refusal::NAME);
     }
     let length = wire::fetch16(part, 4);
-    if length < least {
+    let size = length as usize;
+    if size < least {
         return Found::Refused(refusal::BLOCK);
     }
-    if part.len() < length as usize {
+    if part.len() < size {
         return Found::Refused(refusal::BLOCK);
     }
     let span = Span {
@@ -327,7 +317,7 @@ fn constant(part: &[u8], place: u32, name: &[u8], least: u16) -> Found
     Found::Constant(span, place + length as u32)
 }
 
-fn constant_at(body: &[u8], size: u32, from: u32, pointer: u32, name: &[u8], least: u16) -> Found
+fn constant_at(body: &[u8], size: u32, from: u32, pointer: u32, name: &[u8], least: usize) -> Found
     requires { ⌜ (size ≤ length (now body)) × (pointer + 4 ≤ length (now body)) ⌝ }
     ensures { λ r. ⌜ tellFound r ≡ constantAt (now (body .entry)) size from pointer (fetched 4 (now (name .entry)) 0) least ⌝ }
 {
@@ -412,7 +402,7 @@ fn moment_in(part: &[u8], place: u32, seen: &[u32]) -> Got
 
 fn moment_at(body: &[u8], size: u32, from: u32, pointer: u32, seen: &[u32]) -> Got
     requires { ⌜ (size ≤ length (now body)) × (pointer + 4 ≤ length (now body)) ⌝ }
-    ensures { λ r. ⌜ tellGot r ≡ nextOf (now (body .entry)) size from pointer (now (seen .entry)) ⌝ }
+    ensures { λ r. ⌜ tellGot r ≡ momentNext (now (body .entry)) size from pointer (now (seen .entry)) ⌝ }
 {
     let place = wire::fetch32(body, pointer);
     if place < from {
