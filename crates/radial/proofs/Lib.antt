@@ -1,5 +1,4 @@
 -- The laws between the reader's code and the rule.
-pub mod FloatLaws
 pub mod StepLaws
 pub mod PartLaws
 pub mod ChainLaws

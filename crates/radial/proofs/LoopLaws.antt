@@ -14,7 +14,7 @@ use Rattle.description.specs.Refusal.{pointer, part, nameIn, momentAt, momentsA
 use Rattle.description.proofs.Accepted.{moments-length}
 use Rattle.radial.specs.declared.MomentHead.{MomentHead}
 use Rattle.radial.specs.Shown.{room, headOf, noHead, headsOf}
-use Rattle.radial.specs.Steps.{nextOf, momentsOf}
+use Rattle.radial.specs.Steps.{momentNext, momentsOf}
 use Rattle.radial.proofs.ChainLaws.{stops, goes, given-is}
 
 pub map-length : (ms : List Moment) → length (map headOf ms) ≡ length ms
@@ -82,10 +82,10 @@ module _ (b : List ℕ) (z first n : ℕ) (names : List ℕ) (heads : List Momen
         let e : n - i ≡ suc (n - (i + 1)) = omega arith in
         ap (λ (k : ℕ). rule (momentsChecks z b from q seen k) all) (sym e) ∙ g .same
 
-    pub refuses : (k : ℕ) → refused k ≡ nextOf b z from q seen → refused k ≡ momentsOf b z first n
+    pub refuses : (k : ℕ) → refused k ≡ momentNext b z from q seen → refused k ≡ momentsOf b z first n
     refuses k e = stops these met k (rule rest all) e ∙ split
 
-    pub turns : (h : MomentHead) (end : ℕ) → given (h, end) ≡ nextOf b z from q seen
+    pub turns : (h : MomentHead) (end : ℕ) → given (h, end) ≡ momentNext b z from q seen
         → Going b z first n (set names i (h .name)) (set heads i h) end (q + 4) (i + 1)
     turns h end e = record {
       below = omega arith;

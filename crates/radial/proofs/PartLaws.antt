@@ -16,7 +16,7 @@ use Rattle.wire.proofs.NumberLaws.{num-take}
 use Rattle.description.specs.Refusal.{momentSays, momentAt}
 use Rattle.description.proofs.Runs.{nums-length}
 use Rattle.radial.specs.Shown.{headOf}
-use Rattle.radial.specs.Steps.{headIn, constantIn, constantOf, momentIn, momentOf}
+use Rattle.radial.specs.Steps.{headIn, constantIn, constantStep, momentIn, momentStep}
 
 -- bytes left
 ltb-left : (z p n : ℕ) → p ≤ z → ltb (z - p) n ≡ ltb z (p + n)
@@ -27,16 +27,16 @@ ltb-left z p n h = go (ltb z (p + n)) refl
     go false e = let k = ltb-false z (p + n) e in le-ltb (z - p) n (omega arith)
 
 -- a pointer too early, or past the radial
-pub constant-early : (q z from p : ℕ) (l : List ℕ) (name least : ℕ) → p < from → refused 18 ≡ constantOf q z from p l name least
+pub constant-early : (q z from p : ℕ) (l : List ℕ) (name least : ℕ) → p < from → refused 18 ≡ constantStep q z from p l name least
 constant-early q z from p l name least h = simp (lt-ltb p from h)
 
-pub constant-late : (q z from p : ℕ) (l : List ℕ) (name least : ℕ) → from ≤ p → z < p → refused 18 ≡ constantOf q z from p l name least
+pub constant-late : (q z from p : ℕ) (l : List ℕ) (name least : ℕ) → from ≤ p → z < p → refused 18 ≡ constantStep q z from p l name least
 constant-late q z from p l name least h k = let m : z < p + 6 = omega arith in simp (le-ltb p from h, lt-ltb z (p + 6) m)
 
-pub moment-early : (q z from p : ℕ) (l seen : List ℕ) → p < from → refused 18 ≡ momentOf q z from p l seen
+pub moment-early : (q z from p : ℕ) (l seen : List ℕ) → p < from → refused 18 ≡ momentStep q z from p l seen
 moment-early q z from p l seen h = simp (lt-ltb p from h)
 
-pub moment-late : (q z from p : ℕ) (l seen : List ℕ) → from ≤ p → z < p → refused 18 ≡ momentOf q z from p l seen
+pub moment-late : (q z from p : ℕ) (l seen : List ℕ) → from ≤ p → z < p → refused 18 ≡ momentStep q z from p l seen
 moment-late q z from p l seen h k = let m : z < p + 28 = omega arith in simp (le-ltb p from h, lt-ltb z (p + 28) m)
 
 module _ (b : List ℕ) (z from p : ℕ) (inside : z ≤ length b) (after : from ≤ p) (within : p ≤ z) where
@@ -52,10 +52,10 @@ module _ (b : List ℕ) (z from p : ℕ) (inside : z ≤ length b) (after : from
   there-num : (w k n : ℕ) → p + n ≤ z → k + w ≤ n → num w there k ≡ num w (drop p b) k
   there-num w k n h i = num-take w (z - p) (drop p b) k (omega arith)
 
-  pub constant-there : (q name least : ℕ) → constantIn p there name least ≡ constantOf q z from p (drop p b) name least
+  pub constant-there : (q name least : ℕ) → constantIn p there name least ≡ constantStep q z from p (drop p b) name least
   constant-there q name least = go (ltb z (p + 6)) refl
     where
-      go : (t : Bool) → ltb z (p + 6) ≡ t → constantIn p there name least ≡ constantOf q z from p (drop p b) name least
+      go : (t : Bool) → ltb z (p + 6) ≡ t → constantIn p there name least ≡ constantStep q z from p (drop p b) name least
       go true e = simp (le-ltb p from after, there-left 6, e)
       go false e =
           let h = ltb-false z (p + 6) e in
@@ -84,10 +84,10 @@ module _ (b : List ℕ) (z from p : ℕ) (inside : z ≤ length b) (after : from
         «offset_bits» = offset i;
       }
 
-  pub moment-there : (q : ℕ) (seen : List ℕ) → momentIn p there seen ≡ momentOf q z from p (drop p b) seen
+  pub moment-there : (q : ℕ) (seen : List ℕ) → momentIn p there seen ≡ momentStep q z from p (drop p b) seen
   moment-there q seen = go (ltb z (p + 28)) refl
     where
-      go : (t : Bool) → ltb z (p + 28) ≡ t → momentIn p there seen ≡ momentOf q z from p (drop p b) seen
+      go : (t : Bool) → ltb z (p + 28) ≡ t → momentIn p there seen ≡ momentStep q z from p (drop p b) seen
       go true e = simp (le-ltb p from after, there-left 28, e)
       go false e =
           let h = ltb-false z (p + 28) e in

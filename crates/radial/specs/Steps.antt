@@ -108,11 +108,11 @@ startOf b = rule (headerChecks b []) (sizeIn b, countIn b)
 abbrev pub constantIn : ℕ → List ℕ → ℕ → ℕ → Answer (Span × ℕ)
 constantIn p l name least = rule (constantPart l name least) (spanIn p l, p + blockSays l)
 
-abbrev pub constantOf : ℕ → ℕ → ℕ → ℕ → List ℕ → ℕ → ℕ → Answer (Span × ℕ)
-constantOf q z from p l name least = rule (blockChecks q z from p l name least []) (spanIn p l, p + blockSays l)
+abbrev pub constantStep : ℕ → ℕ → ℕ → ℕ → List ℕ → ℕ → ℕ → Answer (Span × ℕ)
+constantStep q z from p l name least = rule (blockChecks q z from p l name least []) (spanIn p l, p + blockSays l)
 
 abbrev pub constantAt : List ℕ → ℕ → ℕ → ℕ → ℕ → ℕ → Answer (Span × ℕ)
-constantAt b z from q name least = constantOf q z from (pointer b q) (part b q) name least
+constantAt b z from q name least = constantStep q z from (pointer b q) (part b q) name least
 
 abbrev pub constantsOf : List ℕ → ℕ → Answer (Span × Span × Span × ℕ)
 constantsOf b from =
@@ -122,11 +122,11 @@ constantsOf b from =
 abbrev pub momentIn : ℕ → List ℕ → List ℕ → Answer (MomentHead × ℕ)
 momentIn p l seen = rule (momentPart l seen) (headIn p l, p + momentSays l)
 
-abbrev pub momentOf : ℕ → ℕ → ℕ → ℕ → List ℕ → List ℕ → Answer (MomentHead × ℕ)
-momentOf q z from p l seen = rule (momentChecks q z from p l seen []) (headOf (momentAt p l), p + momentSays l)
+abbrev pub momentStep : ℕ → ℕ → ℕ → ℕ → List ℕ → List ℕ → Answer (MomentHead × ℕ)
+momentStep q z from p l seen = rule (momentChecks q z from p l seen []) (headOf (momentAt p l), p + momentSays l)
 
-abbrev pub nextOf : List ℕ → ℕ → ℕ → ℕ → List ℕ → Answer (MomentHead × ℕ)
-nextOf b z from q seen = momentOf q z from (pointer b q) (part b q) seen
+abbrev pub momentNext : List ℕ → ℕ → ℕ → ℕ → List ℕ → Answer (MomentHead × ℕ)
+momentNext b z from q seen = momentStep q z from (pointer b q) (part b q) seen
 
 abbrev pub momentsOf : List ℕ → ℕ → ℕ → ℕ → Answer (List MomentHead)
 momentsOf b z from n = rule (momentsChecks z b from 44 [] n) (headsOf (momentsAt b 44 n))

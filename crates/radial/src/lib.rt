@@ -2,7 +2,6 @@
 ghost use mathlib.Core.Path.{_≡_};
 ghost use Prim.Native.Nat.{_+_, _*_, _/_, _^_, _<_, _≤_};
 ghost use lib.Dec.{eqb};
-ghost use lib.Ieee.{binary32, ofBits};
 ghost use lib.ListN.{length};
 ghost use Rattle.wire.specs.Numbers.{fetched};
 ghost use Rattle.wire.specs.Checks.{among};
@@ -10,23 +9,30 @@ ghost use Rattle.wire.specs.Answers.{refused};
 ghost use Rattle.description.specs.Description.{permitted as permittedNames, wordSizes, momentHead};
 ghost use Rattle.description.specs.Refusal.{nameIn, sizeIn, description, radialOf};
 ghost use Rattle.radial.specs.Shown.{room, headerOf, noHeader, noHead, shown};
-ghost use Rattle.radial.specs.Steps.{tellStart, tellFound, tellConstants, tellGot, tellHeads, headIn, startOf, constantIn, constantAt, constantsOf, momentIn, nextOf, momentsOf};
+ghost use Rattle.radial.specs.Steps.{tellStart, tellFound, tellConstants, tellGot, tellHeads, headIn, startOf, constantIn, constantAt, constantsOf, momentIn, momentNext, momentsOf};
 use wire::refusal;
 
-// "The header takes bytes 0 to 67": the first block begins there or later.
-pub const FIRST_PLACE: u32 = 68;
+// "The header takes bytes 0 to 67", and the first block begins there or later.
+const HEADER_SIZE: usize = 68;
 
-// The least and the most blocks, and how many of them are constant.
+const FIRST_PLACE: u32 = 68;
+
+// "The count is 4 to 9": the constant blocks, and at least one moment.
 const FEWEST_BLOCKS: u16 = 4;
 
 const MOST_BLOCKS: u16 = 9;
 
 const CONSTANTS: u16 = 3;
 
-// The most moments: each name once.
+// Room for as many moments as the count allows.
 pub const ROOM: usize = 6;
 
 const MOST_GATES: u16 = 1840;
+
+// Bytes before the rest of a constant block, and before a moment's gates.
+const CONSTANT_HEAD: usize = 6;
+
+const MOMENT_HEAD: usize = 28;
 
 // The header's values, as stored. Angles by their 32 bits.
 pub struct Header {
@@ -106,16 +112,6 @@ struct Heads {
     ok: bool,
     refusal: u8,
     heads: [MomentHead; ROOM],
-}
-
-pub fn float_of(bits: u32) -> f32
-    ensures { λ r. ⌜ r ≡ ofBits binary32 bits ⌝ }
-{
-    if bits % 2147483648 <= 2139095040 {
-        f32::from_bits(bits)
-    } else {
-        0.0f32 / 0.0f32
-    }
 }
 
 fn no_head() -> MomentHead
@@ -218,8 +214,8 @@ fn head_of(part: &[u8], place: u32) -> MomentHead
         noise: wire::fetch16(part, 16),
         flags: wire::fetch8(part, 18),
         word: wire::fetch8(part, 19),
-        scale: float_of(scale),
-        offset: float_of(offset),
+        scale: wire::float_of(scale),
+        offset: wire::float_of(offset),
         scale_bits: scale,
         offset_bits: offset,
     }
@@ -229,14 +225,14 @@ fn head_of(part: &[u8], place: u32) -> MomentHead
 fn begin(body: &[u8]) -> Start
     ensures { λ r. ⌜ tellStart r ≡ startOf (now (body .entry)) ⌝ }
 {
-    if body.len() < 68 {
+    if body.len() < HEADER_SIZE {
         return Start::Refused(refusal::RADIAL_SHORT);
     }
     if wire::fetch8(body, 16) != 0 {
         return Start::Refused(refusal::COMPRESSION);
     }
     let length = wire::fetch16(body, 18);
-    if length < 68 {
+    if (length as usize) < HEADER_SIZE {
         return Start::Refused(refusal::RADIAL_LENGTH);
     }
     if body.len() < length as usize {
@@ -296,21 +292,22 @@ fn listed(seen: &[u32], name: u32) -> bool
 }
 
 // The part of the body from the block's pointer to the end of the radial.
-fn constant(part: &[u8], place: u32, name: &[u8], least: u16) -> Found
+fn constant(part: &[u8], place: u32, name: &[u8], least: usize) -> Found
     requires { ⌜ place + length (now part) < 2 ^ 32 ⌝ }
     ensures { λ r. ⌜ tellFound r ≡ constantIn place (now (part .entry)) (fetched 4 (now (name .entry)) 0) least ⌝ }
 {
-    if part.len() < 6 {
+    if part.len() < CONSTANT_HEAD {
         return Found::Refused(refusal::POINTER);
     }
     if !named(part, name) {
         return Found::Refused(refusal::NAME);
     }
     let length = wire::fetch16(part, 4);
-    if length < least {
+    let size = length as usize;
+    if size < least {
         return Found::Refused(refusal::BLOCK);
     }
-    if part.len() < length as usize {
+    if part.len() < size {
         return Found::Refused(refusal::BLOCK);
     }
     let span = Span {
@@ -320,7 +317,7 @@ fn constant(part: &[u8], place: u32, name: &[u8], least: u16) -> Found
     Found::Constant(span, place + length as u32)
 }
 
-fn constant_at(body: &[u8], size: u32, from: u32, pointer: u32, name: &[u8], least: u16) -> Found
+fn constant_at(body: &[u8], size: u32, from: u32, pointer: u32, name: &[u8], least: usize) -> Found
     requires { ⌜ (size ≤ length (now body)) × (pointer + 4 ≤ length (now body)) ⌝ }
     ensures { λ r. ⌜ tellFound r ≡ constantAt (now (body .entry)) size from pointer (fetched 4 (now (name .entry)) 0) least ⌝ }
 {
@@ -380,7 +377,7 @@ fn moment_in(part: &[u8], place: u32, seen: &[u32]) -> Got
     requires { ⌜ place + length (now part) < 2 ^ 32 ⌝ }
     ensures { λ r. ⌜ tellGot r ≡ momentIn place (now (part .entry)) (now (seen .entry)) ⌝ }
 {
-    if part.len() < 28 {
+    if part.len() < MOMENT_HEAD {
         return Got::Refused(refusal::POINTER);
     }
     if !permitted(part) {
@@ -405,7 +402,7 @@ fn moment_in(part: &[u8], place: u32, seen: &[u32]) -> Got
 
 fn moment_at(body: &[u8], size: u32, from: u32, pointer: u32, seen: &[u32]) -> Got
     requires { ⌜ (size ≤ length (now body)) × (pointer + 4 ≤ length (now body)) ⌝ }
-    ensures { λ r. ⌜ tellGot r ≡ nextOf (now (body .entry)) size from pointer (now (seen .entry)) ⌝ }
+    ensures { λ r. ⌜ tellGot r ≡ momentNext (now (body .entry)) size from pointer (now (seen .entry)) ⌝ }
 {
     let place = wire::fetch32(body, pointer);
     if place < from {

@@ -15,7 +15,6 @@ ghost use Rattle.ulm.specs.Frames.{noFrame, frameFace, headerFace};
 ghost use Rattle.ulm.specs.Radials.{radialFace, noBlock, constantFace, blockFace, gatesFace, worthFace};
 ghost use Rattle.ulm.specs.Steps.{headFace};
 ghost use Rattle.ulm.specs.Bodies.{Leaves, writtenFace, requestFace, censorFace, mapFace, mapCodeFace};
-
 use filter::CodeAnswer;
 use filter::MapAnswer;
 use frame::FrameAnswer;
@@ -346,7 +345,12 @@ pub extern "C" fn ulm_block(body: &[u8], block: u32) -> UlmBlock
 fn four(name: u32) -> [u8; 4]
     ensures { λ r. ⌜ r ≡ be 4 name ⌝ }
 {
-    [(name / 16777216) as u8, (name / 65536 % 256) as u8, (name / 256 % 256) as u8, (name % 256) as u8]
+    [
+        (name / 16777216) as u8,
+        (name / 65536 % 256) as u8,
+        (name / 256 % 256) as u8,
+        (name % 256) as u8,
+    ]
 }
 
 #[no_mangle]
@@ -436,10 +440,20 @@ pub extern "C" fn ulm_map(body: &[u8]) -> UlmMap
 }
 
 #[no_mangle]
-pub extern "C" fn ulm_map_code(body: &[u8], elevation: u64, azimuth: u64, kilometre: u64) -> UlmMapCode
+pub extern "C" fn ulm_map_code(
+    body: &[u8],
+    elevation: u64,
+    azimuth: u64,
+    kilometre: u64,
+) -> UlmMapCode
     ensures { λ r. ⌜ r ≡ mapCodeFace (codeOf (now (body .entry)) elevation azimuth kilometre) ⌝ }
 {
-    match filter::code_at(body, elevation as usize, azimuth as usize, kilometre as usize) {
+    match filter::code_at(
+        body,
+        elevation as usize,
+        azimuth as usize,
+        kilometre as usize,
+    ) {
         CodeAnswer::Code(code) => UlmMapCode {
             refusal: 0,
             code: code as u32,

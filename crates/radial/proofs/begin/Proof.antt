@@ -39,6 +39,10 @@ returns-2 c =
 fetch16-requires : tie.Need-fetch16-requires
 fetch16-requires c κs = search needs
 
+-- src/lib.rt:260:8
+cast-if3 : tie.Need-cast-if3
+cast-if3 c = search needs
+
 -- src/lib.rt:241:9
 returns-3 : tie.Need-returns-3
 returns-3 c =
@@ -84,6 +88,7 @@ begin-spec =
     fetch8-requires
     returns-2
     fetch16-requires
+    cast-if3
     returns-3
     cast-if4
     returns-4

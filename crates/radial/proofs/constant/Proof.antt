@@ -39,14 +39,14 @@ returns-2 c =
 fetch16-requires : tie.Need-fetch16-requires
 fetch16-requires c κs = search needs
 
+-- src/lib.rt:306:16
+cast-size : tie.Need-cast-size
+cast-size c = search needs
+
 -- src/lib.rt:312:9
 returns-3 : tie.Need-returns-3
 returns-3 c =
     simp (same (c .before .before .before), says (c .before), le-ltb _ _ (c .before .before .before .before .if1 .left), not-false (c .before .before .before .named .result) (c .before .before .if2 .left), lt-ltb _ _ (c .if3 .taken))
-
--- src/lib.rt:314:21
-cast-if4 : tie.Need-cast-if4
-cast-if4 c = search needs
 
 -- src/lib.rt:315:9
 returns-4 : tie.Need-returns-4
@@ -74,8 +74,8 @@ constant-spec =
     named-requires
     returns-2
     fetch16-requires
+    cast-size
     returns-3
-    cast-if4
     returns-4
     cast-t11
     add-t12

@@ -10,7 +10,7 @@ use Rattle.radial.proofs.head_of.Statement.{statement}
 use Rattle.radial.proofs.head_of.Tie as tie
 use Rattle.radial.proofs.head_of.Reads as reads
 use Rattle.radial.proofs.head_of.Lts as lts
-use Rattle.radial.proofs.float_of.Reads as float-of-reads
+use Rattle.wire.proofs.float_of.Reads as float-of-reads
 use Rattle.wire.proofs.fetch16.Reads as fetch16-reads
 use Rattle.wire.proofs.fetch32.Reads as fetch32-reads
 use Rattle.wire.proofs.fetch8.Reads as fetch8-reads

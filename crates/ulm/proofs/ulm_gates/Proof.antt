@@ -81,7 +81,7 @@ returns c =
     let m = c .before .before .before .before .before .before .before .before .before .moment in
     let h = c .before .before .before .before .before .before .before .h .given in
     let e : given (h .0 .0) ≡ headShown (momentOf (now (a .body)) (a .name)) =
-        ap tellMoment (sym (h .1)) ∙ m .ensures ∙ ap (λ (x : ℕ). headShown (momentOf (now (a .body)) x)) (name-back (a .name) (f .result) (omega (arith, c .before .before .before .before .before .before .before .before .before .before .before .before .fits)) (f .ensures)) in
+    ap tellMoment (sym (h .1)) ∙ m .ensures ∙ ap (λ (x : ℕ). headShown (momentOf (now (a .body)) x)) (name-back (a .name) (f .result) (omega (arith, c .before .before .before .before .before .before .before .before .before .before .before .before .fits)) (f .ensures)) in
     gates-given (momentOf (now (a .body)) (a .name)) (h .0 .0) (c .moment-size .result) _ e (c .moment-size .ensures) refl
 
 -- src/lib.rt:352:1
