@@ -1,26 +1,16 @@
 -- Halfwords one after the other: read into an array, and written as bytes. Assumes nothing.
-use Prim.Native.Nat.{ℕ, zero, suc, _+_, _*_, _-_, _/_, _%_, _≤_, _<_}
-use native.Mathlib.Nat.{mul-zero, mul-suc}
+use Prim.Native.Nat.{ℕ, suc, _+_, _*_, _-_, _/_, _%_, _<_}
 use native.Mathlib.Omega.{arith}
 use native.Mathlib.Numerals.{add-one}
-use mathlib.Core.Path.{_≡_, refl, sym, ap, _∙_}
-use mathlib.Core.List.{List, [], _∷_, _++_, append-assoc}
+use mathlib.Core.Path.{_≡_, sym, ap, _∙_}
+use mathlib.Core.List.{List, [], _∷_, _++_, map, append-assoc, map-append}
 use lib.ListN.{length, getD, take, drop, set, replicate}
 use lib.Seq.{take-suc, take-at, drop-at, drop-drop, set-at, append-snoc, length-take-le}
-use Rattle.wire.specs.Numbers.{num, nums, be}
+use Rattle.wire.specs.Numbers.{num, nums}
+use Rattle.wire.specs.Tables.{field, render}
+use Rattle.wire.proofs.NumberLaws.{nums-length, nums-snoc}
+use Rattle.wire.proofs.TableLaws.{render-length, total-run, render-append}
 use Rattle.clutter.specs.Censor.{bodyOf}
-
--- ---- numbers of one width
-pub nums-length : (w : ℕ) (b : List ℕ) (p n : ℕ) → length (nums w b p n) ≡ n
-nums-length w b p zero = refl
-nums-length w b p (suc n) = ap suc (nums-length w b (p + w) n)
-
-nums-snoc : (w : ℕ) (b : List ℕ) (p n : ℕ) → nums w b p (suc n) ≡ nums w b p n ++ (num w b (p + w * n) ∷ [])
-nums-snoc w b p zero = let e : p ≡ p + w * 0 = omega (arith, mul-zero w) in ap (λ (k : ℕ). num w b k ∷ []) e
-nums-snoc w b p (suc n) =
-    let e : p + w + w * n ≡ p + w * suc n = omega (arith, mul-suc w n) in
-    ap (λ (l : List ℕ). num w b p ∷ l) (nums-snoc w b (p + w) n)
-    ∙ ap (λ (k : ℕ). num w b p ∷ (nums w b (p + w) n ++ (num w b k ∷ []))) e
 
 -- one number more in an array of `room` places
 pub stored-more : (b : List ℕ) (room i : ℕ) → i < room
@@ -34,29 +24,12 @@ stored-more b room i h =
     ∙ sym (append-snoc (nums 2 b 2 i) x r)
     ∙ ap (λ (l : List ℕ). l ++ r) (sym (nums-snoc 2 b 2 i) ∙ ap (λ (k : ℕ). nums 2 b 2 k) (sym (add-one i)))
 
--- ---- two bytes stored
-two-at : (at : ℕ) (out : List ℕ) (a b : ℕ) → at + 2 ≤ length out → set (set out at a) (suc at) b ≡ take at out ++ (a ∷ b ∷ drop (suc (suc at)) out)
-two-at at [] a b h = absurd (omega arith)
-two-at at (x ∷ []) a b h = absurd (omega arith)
-two-at zero (x ∷ y ∷ out) a b h = refl
-two-at (suc at) (x ∷ y ∷ out) a b h = ap (λ (l : List ℕ). x ∷ l) (two-at at (y ∷ out) a b (omega arith))
-
-pub two-stored : (at : ℕ) (out : List ℕ) (a b : ℕ) → at + 2 ≤ length out
-    → set (set out at a) (at + 1) b ≡ take at out ++ (a ∷ b ∷ drop (at + 2) out)
-two-stored at out a b h =
-    let e : at + 2 ≡ suc (suc at) = omega arith in
-    ap (λ (k : ℕ). set (set out at a) k b) (add-one at)
-    ∙ two-at at out a b h
-    ∙ ap (λ (k : ℕ). take at out ++ (a ∷ b ∷ drop k out)) (sym e)
-
 -- ---- the body of a list
 pub body-length : (l : List ℕ) → length (bodyOf l) ≡ 2 * length l
-body-length [] = refl
-body-length (x ∷ l) = omega (arith, body-length l)
+body-length l = omega (arith, render-length (map (field 2) l), total-run 2 l)
 
 body-append : (l m : List ℕ) → bodyOf (l ++ m) ≡ bodyOf l ++ bodyOf m
-body-append [] m = refl
-body-append (x ∷ l) m = ap (λ (t : List ℕ). be 2 x ++ t) (body-append l m) ∙ sym (append-assoc (be 2 x) (bodyOf l) (bodyOf m))
+body-append l m = ap render (map-append (field 2) l m) ∙ render-append (map (field 2) l) (map (field 2) m)
 
 -- one number more in the output
 pub written-more : (list before out : List ℕ) (i : ℕ) → i < length list → getD list i 0 < 65536 → out ≡ bodyOf (take i list) ++ drop (2 * i) before

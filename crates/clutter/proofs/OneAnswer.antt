@@ -3,22 +3,16 @@ use Prim.Native.Nat.{ℕ}
 use mathlib.Core.Path.{_≡_, sym, _∙_}
 use mathlib.Core.List.{List}
 use Rattle.wire.specs.Answers.{Promise}
-use Rattle.wire.proofs.CheckLaws.{never}
+use Rattle.wire.specs.Writing.{tellWrite}
+use Rattle.wire.specs.declared.WriteAnswer.{WriteAnswer}
 use Rattle.wire.proofs.AnswerLaws.{only}
+use Rattle.wire.proofs.WriteLaws.{write-apart}
 use Rattle.clutter.specs.declared.Censor.{Censor}
-use Rattle.clutter.specs.declared.WriteAnswer.{WriteAnswer}
-use Rattle.clutter.specs.declared.WriteAnswer.the-variants.{Written, Refused}
 use Rattle.clutter.specs.Censor.{censorOf, censorWritten}
-use Rattle.clutter.specs.Promises.{shown, tellWrite}
+use Rattle.clutter.specs.Promises.{shown}
 
 pub censor-only : (body : List ℕ) (a b : Censor) → a ≡ shown (censorOf body) → b ≡ shown (censorOf body) → a ≡ b
 censor-only body a b p q = p ∙ sym q
-
-pub write-apart : (a b : WriteAnswer) → tellWrite a ≡ tellWrite b → a ≡ b
-write-apart (Written x) (Written y) e = cc e
-write-apart (Written x) (Refused n) e = never (cc e)
-write-apart (Refused n) (Written x) e = never (cc e)
-write-apart (Refused n) (Refused m) e = cc e
 
 pub write-only : (list out : List ℕ) (r₁ r₂ : WriteAnswer) (a₁ a₂ : List ℕ) → Promise tellWrite (censorWritten list out) r₁ a₁
     → Promise tellWrite (censorWritten list out) r₂ a₂ → (r₁ ≡ r₂) × (a₁ ≡ a₂)

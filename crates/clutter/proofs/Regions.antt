@@ -1,7 +1,7 @@
 -- The ranges of a region and of n regions, as the code goes through them. Assumes nothing.
 use Prim.Native.Nat.{ℕ, zero, suc, _+_, _*_, _-_, _≤_, _<_}
 use native.Mathlib.Omega.{arith}
-use mathlib.Core.Path.{_≡_, refl, sym, ap, _∙_}
+use mathlib.Core.Path.{_≡_, refl, ap, _∙_}
 use mathlib.Core.Bool.{Bool, true, false}
 use mathlib.Core.List.{List, [], _∷_, _++_}
 use borrow.Author.Tests.{lt-ltb, le-ltb}
@@ -9,7 +9,7 @@ use lib.Dec.{ltb}
 use lib.ListN.{length, getD, drop, length-drop, List·getD-append}
 use lib.Seq.{drop-drop, drop-append-le}
 use Rattle.wire.specs.Checks.{either, Check, someBroken}
-use Rattle.wire.proofs.CheckLaws.{either-false}
+use Rattle.wire.proofs.CheckLaws.{someBroken-append}
 use Rattle.clutter.specs.Censor.{Range, range, outside, region, fieldChecks, regionsChecks}
 
 pub below-least : (x least most : ℕ) → x < least → outside (range least most) x ≡ true
@@ -20,29 +20,10 @@ pub from-least : (x least most : ℕ) → least ≤ x → outside (range least m
 unfolding outside
 from-least x least most h = simp (le-ltb x least h)
 
--- one check after the other
-pub hit : (a b : Bool) → a ≡ true → true ≡ either a b
-hit a b h = simp h
-
-pub miss : (a b r : Bool) → a ≡ false → r ≡ b → r ≡ either a b
-miss a b r h e = simp h e
-
-pub last : (a r : Bool) → r ≡ a → r ≡ either a false
-last a r e = e ∙ sym (either-false a)
-
 -- the checks of these fields, and then what t says
 abbrev pub fieldsThen : List Range → ℕ → List ℕ → Bool → Bool
 fieldsThen [] k l t = t
 fieldsThen (r ∷ rs) k l t = either (outside r (getD l k 0)) (fieldsThen rs (suc k) l t)
-
-someBroken-append : (a b : List Check) → someBroken (a ++ b) ≡ either (someBroken a) (someBroken b)
-someBroken-append [] b = refl
-someBroken-append (k ∷ a) b = go (k .broken) (someBroken-append a b)
-  where
-    go : (t : Bool) → someBroken (a ++ b) ≡ either (someBroken a) (someBroken b)
-        → either t (someBroken (a ++ b)) ≡ either (either t (someBroken a)) (someBroken b)
-    go true h = refl
-    go false h = h
 
 -- the regions from number i on: that one, and those after it
 pub one-more : (n i : ℕ) (l : List ℕ) → i < n

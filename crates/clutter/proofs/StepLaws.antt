@@ -9,18 +9,17 @@ use lib.Dec.{eqb, ltb}
 use lib.ListN.{length, drop, replicate}
 use Rattle.wire.specs.Numbers.{num, nums}
 use Rattle.wire.specs.Checks.{pick, Check, check, decide, someBroken}
-use Rattle.wire.specs.Answers.{Answer, refused, given, Outcome, refusal, Promise}
-use Rattle.wire.proofs.CheckLaws.{AllNumbered, decide-same}
+use Rattle.wire.specs.Answers.{refused, given, refusal}
+use Rattle.wire.specs.Writing.{filled, wrote}
+use Rattle.wire.specs.Sizes.{bytes}
+use Rattle.wire.proofs.NumberLaws.{nums-length}
+use Rattle.wire.proofs.CheckLaws.{AllNumbered, all-append, decide-same}
 use Rattle.clutter.specs.Censor.{mostRegions, Range, region, fieldChecks, regionsChecks, count, fields, censorChecks, listOf, bodyChecks, censorOf, bodyOf, censorWritten}
 use Rattle.clutter.specs.Promises.{places, shown}
 use Rattle.clutter.proofs.Regions.{regions-alone}
-use Rattle.clutter.proofs.Halfwords.{nums-length, body-length}
+use Rattle.clutter.proofs.Halfwords.{body-length}
 
 -- every field's number of refusal is 24
-all-append : (n : ℕ) (a b : List Check) → AllNumbered n a → AllNumbered n b → AllNumbered n (a ++ b)
-all-append n [] b p q = q
-all-append n (k ∷ a) b p q = (p .0, all-append n a b (p .1) q)
-
 fields-24 : (rs : List Range) (k : ℕ) (l : List ℕ) → AllNumbered 24 (fieldChecks rs k l)
 fields-24 [] k l = tt
 fields-24 (r ∷ rs) k l = (refl, fields-24 rs (suc k) l)
@@ -32,15 +31,6 @@ regions-24 (suc n) l = all-append 24 (fieldChecks region 0 l) (regionsChecks n (
 -- the four ways to be refused, then what comes after the checks
 abbrev pub ways : {X : Type 0} → Bool → Bool → Bool → Bool → (ℕ → X) → X → X
 ways absent high misfit broken f later = pick absent (f 23) (pick high (f 24) (pick misfit (f 23) (pick broken (f 24) later)))
-
--- where it is no refusal, none of the four was met
-pub passed-ways : {X : Type 0} (a h m b : Bool) (f : ℕ → X) (later x : X) → ways a h m b f later ≡ x → ((k : ℕ) → f k ≡ x → ⊥)
-    → (a ≡ false) × (h ≡ false) × (m ≡ false) × (b ≡ false) × (later ≡ x)
-passed-ways true h m b f later x e ne = absurd (ne 23 e)
-passed-ways false true m b f later x e ne = absurd (ne 24 e)
-passed-ways false false true b f later x e ne = absurd (ne 23 e)
-passed-ways false false false true f later x e ne = absurd (ne 24 e)
-passed-ways false false false false f later x e ne = (refl, refl, refl, refl, e)
 
 censor-decide : {X : Type 0} (absent misfit : Bool) (list : List ℕ) (rest : List Check) (f : ℕ → X) (ok : X)
     → decide (censorChecks absent misfit list ++ rest) f ok
@@ -107,11 +97,11 @@ module _ (list out : List ℕ) where
       ≡ ways (ltb (length list) 1) (ltb mostRegions (count list)) (not (eqb (length list) (1 + 6 * count list)))
       (someBroken (regionsChecks (count list) (fields list))) (refusal out)
       (pick (ltb (length out) (length (bodyOf list))) (refusal out 13)
-      (record { answer = given (length (bodyOf list)); output = bodyOf list ++ drop (length (bodyOf list)) out }))
+      (wrote (bodyOf list) out))
   unfolding censorWritten
   write-ways =
       censor-decide (ltb (length list) 1) (not (eqb (length list) (1 + 6 * count list))) list (check 13 (ltb (length out) (length (bodyOf list))) ∷ [])
-      (refusal out) (record { answer = given (length (bodyOf list)); output = bodyOf list ++ drop (length (bodyOf list)) out })
+      (refusal out) (wrote (bodyOf list) out)
 
   pub list-empty : length list < 1 → censorWritten list out ≡ refusal out 23
   list-empty a = write-ways ∙ simp (lt-ltb (length list) 1 a)
@@ -129,7 +119,7 @@ module _ (list out : List ℕ) where
     write-fields : censorWritten list out
         ≡ pick (someBroken (regionsChecks (count list) (fields list))) (refusal out 24)
         (pick (ltb (length out) (length (bodyOf list))) (refusal out 13)
-        (record { answer = given (length (bodyOf list)); output = bodyOf list ++ drop (length (bodyOf list)) out }))
+        (wrote (bodyOf list) out))
     write-fields =
         let a : 1 ≤ length list = omega arith in
         write-ways ∙ simp (le-ltb (length list) 1 a, le-ltb mostRegions (count list) h, eq-eqb (length list) (1 + 6 * count list) m)
@@ -141,21 +131,15 @@ module _ (list out : List ℕ) where
     list-room b r = let s : length out < length (bodyOf list) = omega (arith, long) in write-fields ∙ simp (b, lt-ltb (length out) (length (bodyOf list)) s)
 
     pub list-fine : someBroken (regionsChecks (count list) (fields list)) ≡ false → 2 + 12 * count list ≤ length out
-        → censorWritten list out ≡ record { answer = given (length (bodyOf list)); output = bodyOf list ++ drop (length (bodyOf list)) out }
+        → censorWritten list out ≡ wrote (bodyOf list) out
     list-fine b r =
         let s : length (bodyOf list) ≤ length out = omega (arith, long) in write-fields ∙ simp (b, le-ltb (length out) (length (bodyOf list)) s)
 
     -- the same, its length in the words of the code
     pub list-written : someBroken (regionsChecks (count list) (fields list)) ≡ false → 2 + 12 * count list ≤ length out
-        → censorWritten list out ≡ record { answer = given (2 + 12 * count list); output = bodyOf list ++ drop (2 * length list) out }
+        → censorWritten list out ≡ record { answer = given (bytes (2 + 12 * count list)); output = bodyOf list ++ drop (2 * length list) out }
     list-written b r =
         let e : length (bodyOf list) ≡ 2 * length list = body-length list in
         list-fine b r
-        ∙ ap (λ (k : ℕ). record { answer = given k; output = bodyOf list ++ drop (length (bodyOf list)) out }) long
-        ∙ ap (λ (k : ℕ). record { answer = given (2 + 12 * count list); output = bodyOf list ++ drop k out }) e
-
--- a promise kept, by what the right outcome comes to
-pub kept : {R A : Type 0} (tell : R → Answer A) (right o : Outcome A) (r : R) (after : List ℕ) → right ≡ o → tell r ≡ o .answer → after ≡ o .output
-    → Promise tell right r after
-kept {R} {A} tell right o r after e p q =
-    record { answers = p ∙ ap (λ (x : Outcome A). x .answer) (sym e); leaves = q ∙ ap (λ (x : Outcome A). x .output) (sym e) }
+        ∙ ap (λ (k : ℕ). record { answer = given (bytes k); output = filled (bodyOf list) out }) long
+        ∙ ap (λ (k : ℕ). record { answer = given (bytes (2 + 12 * count list)); output = bodyOf list ++ drop k out }) e

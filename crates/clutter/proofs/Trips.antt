@@ -1,37 +1,34 @@
 -- The reader and the writer of message 8 undo each other, and the struct tells the answer. Assumes nothing.
-use Prim.Native.Nat.{ℕ, zero, suc, _+_, _*_, _-_, _≤_, _<_}
+use Prim.Native.Nat.{ℕ, suc, _+_, _*_, _-_, _≤_, _<_}
 use native.Mathlib.Omega.{arith}
 use mathlib.Core.Path.{_≡_, refl, sym, ap, _∙_}
 use mathlib.Core.Bool.{Bool, true, false, not}
-use mathlib.Core.List.{List, [], _∷_, _++_, map}
+use mathlib.Core.List.{List, [], _∷_, map}
 use borrow.Author.Tests.{eqb-true, ltb-false, not-false}
 use lib.Dec.{eqb, ltb}
-use lib.ListN.{length, take, drop, replicate}
+use lib.ListN.{length, take, replicate}
 use lib.Seq.{take-all, take-at, take-length}
 use Rattle.wire.specs.Numbers.{num, nums, Octets}
 use Rattle.wire.specs.Tables.{field, total, Fit, Spells}
 use Rattle.wire.specs.Checks.{pick, someBroken}
-use Rattle.wire.specs.Answers.{Answer, refused, given, Outcome, refusal}
-use Rattle.wire.proofs.TableLaws.{render-length, spells, spelt}
-use Rattle.wire.proofs.CheckLaws.{never}
-use Rattle.clutter.specs.Censor.{mostRegions, regionsChecks, count, fields, listOf, bodyOf, censorOf, censorWritten}
+use Rattle.wire.specs.Answers.{Answer, refused, given}
+use Rattle.wire.specs.Writing.{wrote}
+use Rattle.wire.specs.declared.Bytes.{Bytes}
+use Rattle.wire.proofs.NumberLaws.{nums-length}
+use Rattle.wire.proofs.TableLaws.{render-length, spells, spelt, nums-spell, spell-nums}
+use Rattle.wire.proofs.CheckLaws.{all-hold, hold-none}
+use Rattle.wire.proofs.AnswerLaws.{rule-given}
+use Rattle.wire.proofs.WriteLaws.{accepted}
+use Rattle.clutter.specs.Censor.{mostRegions, regionsChecks, count, fields, listOf, bodyChecks, bodyOf, listChecks, censorOf, censorWritten}
 use Rattle.clutter.specs.Promises.{places, shown, tellCensor}
 use Rattle.clutter.specs.Laws.{Halfwords, WrittenIsRead, ReadIsWritten, StructTells}
-use Rattle.clutter.proofs.Halfwords.{nums-length, body-length}
-use Rattle.clutter.proofs.StepLaws.{ways, passed-ways, read-ways, read-fields, write-ways, list-fine}
+use Rattle.clutter.proofs.Halfwords.{body-length}
+use Rattle.clutter.proofs.StepLaws.{ways, read-ways, read-fields, list-fine}
 
 -- ---- a table of numbers of one width
 numbers-fit : (l : List ℕ) → Halfwords l → Fit (map (field 2) l)
 numbers-fit [] h = tt
 numbers-fit (x ∷ l) h = (let k : x < 65536 = h 0 in omega arith, numbers-fit l (λ i. h (suc i)))
-
-spelt-numbers : (w : ℕ) (b : List ℕ) (p : ℕ) (l : List ℕ) → Spells b p (map (field w) l) → nums w b p (length l) ≡ l
-spelt-numbers w b p [] s = refl
-spelt-numbers w b p (x ∷ l) s = cc (s .0, spelt-numbers w b (p + w) l (s .1))
-
-numbers-spell : (w : ℕ) (b : List ℕ) (p n : ℕ) → Spells b p (map (field w) (nums w b p n))
-numbers-spell w b p zero = tt
-numbers-spell w b p (suc n) = (refl, numbers-spell w b (p + w) n)
 
 -- the body of a list of halfwords holds that list
 body-spells : (list : List ℕ) → Halfwords list → Spells (bodyOf list) 0 (map (field 2) list)
@@ -43,7 +40,7 @@ numbers-body body n o h =
     let l = nums 2 body 0 n in
     let z : length (bodyOf l) ≡ length body = body-length l ∙ ap (λ (k : ℕ). 2 * k) (nums-length 2 body 0 n) ∙ sym h in
     let t : 0 + total (map (field 2) l) ≤ length body = omega (arith, render-length (map (field 2) l)) in
-    sym (spelt (map (field 2) l) body 0 o t (numbers-spell 2 body 0 n)) ∙ take-all (length (bodyOf l)) body (omega arith)
+    sym (spelt (map (field 2) l) body 0 o t (nums-spell 2 body 0 n)) ∙ take-all (length (bodyOf l)) body (omega arith)
 
 -- ---- what an accepted body says
 record Read (body list : List ℕ) : Type 0 where
@@ -53,48 +50,33 @@ record Read (body list : List ℕ) : Type 0 where
   same : listOf body ≡ list
 
 read-says : (body list : List ℕ) → censorOf body ≡ given list → Read body list
+unfolding censorOf
 read-says body list e =
-    let n = num 2 body 0 in
-    let w =
-    passed-ways (ltb (length body) 2) (ltb mostRegions n) (not (eqb (length body) (2 + 12 * n))) (someBroken (regionsChecks n (nums 2 body 2 (6 * n))))
-    refused (given (listOf body)) (given list) (sym (read-ways body n refl) ∙ e) (λ k q. never (cc q))
-    in
+    let p = rule-given (bodyChecks body) (listOf body) list e in
+    let h = all-hold (bodyChecks body) (p .0) in
     record {
-      few = ltb-false mostRegions n (w .1);
-      long = eqb-true (length body) (2 + 12 * n) (not-false _ (w .2));
-      fine = w .3;
-      same = cc (w .4);
+      few = ltb-false mostRegions (num 2 body 0) (h .1 .0);
+      long = eqb-true (length body) (2 + 12 * num 2 body 0) (not-false _ (h .1 .1 .0));
+      fine = hold-none (regionsChecks (num 2 body 0) (nums 2 body 2 (6 * num 2 body 0))) (h .1 .1 .1);
+      same = p .1;
     }
 
 -- ---- what an accepted list says
-record Wrote (list out : List ℕ) (n : ℕ) : Type 0 where
+record Wrote (list out : List ℕ) (size : Bytes) : Type 0 where
   few : count list ≤ mostRegions
   long : length list ≡ 1 + 6 * count list
   fine : someBroken (regionsChecks (count list) (fields list)) ≡ false
-  size : length (bodyOf list) ≡ n
-  output : censorWritten list out .output ≡ bodyOf list ++ drop (length (bodyOf list)) out
+  stands : take (size .0) (censorWritten list out .output) ≡ bodyOf list
 
-room-enough : {A : Type 0} (t : Bool) (out : List ℕ) (o x : Outcome A) (v : A) → pick t (refusal out 13) o ≡ x → x .answer ≡ given v → o ≡ x
-room-enough {A} true out o x v e a = let q : refused 13 ≡ given v = ap (λ (y : Outcome A). y .answer) e ∙ a in never (cc q)
-room-enough false out o x v e a = e
-
-write-says : (list out : List ℕ) (n : ℕ) → censorWritten list out .answer ≡ given n → Wrote list out n
-write-says list out n e =
-    let done : Outcome ℕ = record { answer = given (length (bodyOf list)); output = bodyOf list ++ drop (length (bodyOf list)) out } in
-    let w =
-    passed-ways (ltb (length list) 1) (ltb mostRegions (count list)) (not (eqb (length list) (1 + 6 * count list)))
-    (someBroken (regionsChecks (count list) (fields list))) (refusal out) (pick (ltb (length out) (length (bodyOf list))) (refusal out 13) done)
-    (censorWritten list out) (sym (write-ways list out))
-    (λ k q. let r : refused k ≡ given n = ap (λ (y : Outcome ℕ). y .answer) q ∙ e in absurd (never (cc r)))
-    in
-    let d : done ≡ censorWritten list out = room-enough (ltb (length out) (length (bodyOf list))) out done (censorWritten list out) n (w .4) e in
-    let g : given (length (bodyOf list)) ≡ given n = ap (λ (y : Outcome ℕ). y .answer) d ∙ e in
+write-says : (list out : List ℕ) (size : Bytes) → censorWritten list out .answer ≡ given size → Wrote list out size
+unfolding censorWritten
+write-says list out size e =
+    let a = accepted (listChecks list) (bodyOf list) out size e in
     record {
-      few = ltb-false mostRegions (count list) (w .1);
-      long = eqb-true (length list) (1 + 6 * count list) (not-false _ (w .2));
-      fine = w .3;
-      size = cc g;
-      output = ap (λ (y : Outcome ℕ). y .output) (sym d);
+      few = ltb-false mostRegions (count list) (a .0 .1 .0);
+      long = eqb-true (length list) (1 + 6 * count list) (not-false _ (a .0 .1 .1 .0));
+      fine = hold-none (regionsChecks (count list) (fields list)) (a .0 .1 .1 .1);
+      stands = a .1;
     }
 
 -- ---- the body of an accepted list is read as that list
@@ -105,19 +87,16 @@ body-is-read (n ∷ l) h few long fine =
     let b = bodyOf (n ∷ l) in
     let e : num 2 b 0 ≡ n = body-spells (n ∷ l) h .0 in
     let k : length l ≡ 6 * n = omega arith in
-    let f : nums 2 b 2 (6 * n) ≡ l = ap (λ (i : ℕ). nums 2 b 2 i) (sym k) ∙ spelt-numbers 2 b 2 l (body-spells (n ∷ l) h .1) in
+    let f : nums 2 b 2 (6 * n) ≡ l = ap (λ (i : ℕ). nums 2 b 2 i) (sym k) ∙ spell-nums 2 b 2 l (body-spells (n ∷ l) h .1) in
     let z : length b ≡ 2 + 12 * n = omega (arith, body-length (n ∷ l)) in
     read-fields b n e few z
     ∙ ap (λ (x : List ℕ). pick (someBroken (regionsChecks n x)) (refused 24) (given (n ∷ x))) f
     ∙ ap (λ (t : Bool). pick t (refused 24) (given (n ∷ l))) fine
 
 pub written-is-read : WrittenIsRead
-written-is-read list out n h e =
-    let w = write-says list out n e in
-    let t : take n (censorWritten list out .output) ≡ bodyOf list =
-    ap (λ (o : List ℕ). take n o) (w .output) ∙ take-at (bodyOf list) (drop (length (bodyOf list)) out) n (w .size)
-    in
-    ap censorOf t ∙ body-is-read list h (w .few) (w .long) (w .fine)
+written-is-read list out size h e =
+    let w = write-says list out size e in
+    ap censorOf (w .stands) ∙ body-is-read list h (w .few) (w .long) (w .fine)
 
 pub read-is-written : ReadIsWritten
 read-is-written body out list o e room =
@@ -128,7 +107,7 @@ read-is-written body out list o e room =
     let b : bodyOf (listOf body) ≡ body = numbers-body body (suc (6 * n)) o z in
     ap (λ (l : List ℕ). censorWritten l out) (sym (r .same))
     ∙ list-fine (listOf body) out (r .few) m (r .fine) (omega (arith, r .long))
-    ∙ ap (λ (x : List ℕ). record { answer = given (length x); output = x ++ drop (length x) out }) b
+    ∙ ap (λ (x : List ℕ). wrote x out) b
 
 -- ---- the struct
 ways-told : (n : ℕ) (l : List ℕ) → length l ≡ 6 * n → (a h m b : Bool)

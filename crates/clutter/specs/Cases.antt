@@ -4,16 +4,18 @@ use mathlib.Core.Path.{_≡_}
 use mathlib.Core.List.{List, [], _∷_, _++_, map}
 use lib.ListN.{replicate}
 use Rattle.wire.specs.Answers.{Answer, refused, given, Outcome, refusal}
+use Rattle.wire.specs.Sizes.{bytes}
+use Rattle.wire.specs.declared.Bytes.{Bytes}
 use Rattle.clutter.specs.Censor.{bodyOf, censorOf, censorWritten}
 
 -- a body with the reader's right answer; a list and the output before, with the writer's right outcome
 pub data Case : Type 0 where
   read : List ℕ → Answer (List ℕ) → Case
-  write : List ℕ → List ℕ → Outcome ℕ → Case
+  write : List ℕ → List ℕ → Outcome Bytes → Case
 
 pub data Result : Type 0 where
   answered : Answer (List ℕ) → Result
-  wrote : Outcome ℕ → Result
+  wrote : Outcome Bytes → Result
 
 abbrev pub found : Case → Result
 found (read body answer) = answered (censorOf body)
@@ -46,7 +48,7 @@ room = replicate 14 7
 abbrev pub passes : List ℕ → List Case
 passes fields =
     read (bodyOf (one fields)) (given (one fields))
-    ∷ write (one fields) room (record { answer = given 14; output = bodyOf (one fields) })
+    ∷ write (one fields) room (record { answer = given (bytes 14); output = bodyOf (one fields) })
     ∷ []
 
 abbrev pub breaks : List ℕ → List Case
@@ -91,13 +93,13 @@ abbrev pub listCases : List Case
 listCases =
     write [] [] (refusal [] 23)
     ∷ write (0 ∷ []) (7 ∷ []) (refusal (7 ∷ []) 13)
-    ∷ write (0 ∷ []) (7 ∷ 7 ∷ 7 ∷ []) (record { answer = given 2; output = 0 ∷ 0 ∷ 7 ∷ [] })
+    ∷ write (0 ∷ []) (7 ∷ 7 ∷ 7 ∷ []) (record { answer = given (bytes 2); output = 0 ∷ 0 ∷ 7 ∷ [] })
     ∷ write (0 ∷ 0 ∷ []) room (refusal room 23)
     ∷ write (1 ∷ zone 511 0 360 0 5 2) (replicate 13 7) (refusal (replicate 13 7) 13)
     ∷ write (1 ∷ zone 511 0 360 0 5 2) (replicate 15 7)
-    (record { answer = given 14; output = 0 ∷ 1 ∷ 1 ∷ 255 ∷ 0 ∷ 0 ∷ 1 ∷ 104 ∷ 0 ∷ 0 ∷ 0 ∷ 5 ∷ 0 ∷ 2 ∷ 7 ∷ [] })
+    (record { answer = given (bytes 14); output = 0 ∷ 1 ∷ 1 ∷ 255 ∷ 0 ∷ 0 ∷ 1 ∷ 104 ∷ 0 ∷ 0 ∷ 0 ∷ 5 ∷ 0 ∷ 2 ∷ 7 ∷ [] })
     ∷ write (1 ∷ (zones 1 ++ (0 ∷ []))) room (refusal room 23)
-    ∷ write (25 ∷ zones 25) (replicate 302 7) (record { answer = given 302; output = bodyOf (25 ∷ zones 25) })
+    ∷ write (25 ∷ zones 25) (replicate 302 7) (record { answer = given (bytes 302); output = bodyOf (25 ∷ zones 25) })
     ∷ write (25 ∷ zones 25) (replicate 301 7) (refusal (replicate 301 7) 13)
     ∷ write (26 ∷ zones 26) room (refusal room 24)
     ∷ write (26 ∷ []) room (refusal room 24)

@@ -8,7 +8,9 @@ use lib.ListN.{length, getD, drop}
 use Rattle.wire.specs.Numbers.{num, nums}
 use Rattle.wire.specs.Tables.{field, render}
 use Rattle.wire.specs.Checks.{either, Check, check}
-use Rattle.wire.specs.Answers.{Answer, rule, Outcome, outcome}
+use Rattle.wire.specs.Answers.{Answer, rule, Outcome}
+use Rattle.wire.specs.Writing.{written}
+use Rattle.wire.specs.declared.Bytes.{Bytes}
 
 -- "region count n (0 to 25)"
 abbrev pub mostRegions : ℕ
@@ -87,9 +89,5 @@ abbrev pub listChecks : List ℕ → List Check
 listChecks list = censorChecks (ltb (length list) 1) (not (eqb (length list) (1 + 6 * count list))) list
 
 -- "Body writers: the reader's checks, then 13."
--- "An accepted call that writes fills its output from the start, reports the length and leaves the rest."
-abbrev pub written : List Check → List ℕ → List ℕ → Outcome ℕ
-written ks body out = outcome (ks ++ (check 13 (ltb (length out) (length body)) ∷ [])) out (length body) (body ++ drop (length body) out)
-
-unfoldable pub censorWritten : List ℕ → List ℕ → Outcome ℕ
+unfoldable pub censorWritten : List ℕ → List ℕ → Outcome Bytes
 censorWritten list out = written (listChecks list) (bodyOf list) out

@@ -1,10 +1,12 @@
 -- What holds of every body and list of message 8: the reader and the writer undo each other, and the struct that is handed back tells the answer.
 use Prim.Native.Nat.{ℕ, _≤_, _<_}
 use mathlib.Core.Path.{_≡_}
-use mathlib.Core.List.{List, _++_}
-use lib.ListN.{length, getD, take, drop}
+use mathlib.Core.List.{List}
+use lib.ListN.{length, getD, take}
 use Rattle.wire.specs.Numbers.{Octets}
 use Rattle.wire.specs.Answers.{given}
+use Rattle.wire.specs.Writing.{wrote}
+use Rattle.wire.specs.declared.Bytes.{Bytes}
 use Rattle.clutter.specs.Censor.{censorOf, censorWritten}
 use Rattle.clutter.specs.Promises.{shown, tellCensor}
 
@@ -14,13 +16,13 @@ Halfwords list = (i : ℕ) → getD list i 0 < 65536
 
 -- what the writer writes, the reader accepts with the same numbers
 abbrev pub WrittenIsRead : Type 0
-WrittenIsRead = (list out : List ℕ) (n : ℕ) → Halfwords list → censorWritten list out .answer ≡ given n
-    → censorOf (take n (censorWritten list out .output)) ≡ given list
+WrittenIsRead = (list out : List ℕ) (size : Bytes) → Halfwords list → censorWritten list out .answer ≡ given size
+    → censorOf (take (size .0) (censorWritten list out .output)) ≡ given list
 
 -- what the reader hands back, written, is the body again
 abbrev pub ReadIsWritten : Type 0
 ReadIsWritten = (body out list : List ℕ) → Octets body → censorOf body ≡ given list → length body ≤ length out
-    → censorWritten list out ≡ record { answer = given (length body); output = body ++ drop (length body) out }
+    → censorWritten list out ≡ wrote body out
 
 -- nothing of the answer is lost in the struct
 abbrev pub StructTells : Type 0

@@ -1,4 +1,4 @@
--- The number and values of document 01 that each answer tells.
+-- The number and values of document 01 that the reader's answer tells.
 use Prim.Native.Nat.{ℕ, _*_, _-_}
 use mathlib.Core.List.{List, _∷_, _++_}
 use lib.Dec.{eqb}
@@ -6,8 +6,6 @@ use lib.ListN.{length, take, replicate}
 use Rattle.wire.specs.Checks.{pick}
 use Rattle.wire.specs.Answers.{Answer, refused, given}
 use Rattle.clutter.specs.declared.Censor.{Censor}
-use Rattle.clutter.specs.declared.WriteAnswer.{WriteAnswer}
-use Rattle.clutter.specs.declared.WriteAnswer.the-variants.{Written, Refused}
 use Rattle.clutter.specs.Censor.{mostRegions, count, fields}
 
 -- places for the fields of as many regions as there can be
@@ -22,7 +20,3 @@ shown (given list) = record { number = 0; count = count list; regions = fields l
 -- what such a struct tells: number 0 is no refusal
 abbrev pub tellCensor : Censor → Answer (List ℕ)
 tellCensor r = pick (eqb (r .number) 0) (given (r .count ∷ take (6 * r .count) (r .regions))) (refused (r .number))
-
-abbrev pub tellWrite : WriteAnswer → Answer ℕ
-tellWrite (Written long) = given long
-tellWrite (Refused n) = refused n

@@ -6,8 +6,11 @@ ghost use lib.ListN.{length, take, drop, replicate};
 ghost use Rattle.wire.specs.Numbers.{nums};
 ghost use Rattle.wire.specs.Checks.{someBroken};
 ghost use Rattle.wire.specs.Answers.{refused, Promise};
+ghost use Rattle.wire.specs.Writing.{tellWrite};
 ghost use Rattle.clutter.specs.Censor.{mostRegions, range, outside, region, fieldChecks, regionsChecks, bodyOf, censorOf, censorWritten};
-ghost use Rattle.clutter.specs.Promises.{places, shown, tellWrite};
+ghost use Rattle.clutter.specs.Promises.{places, shown};
+use wire::Bytes;
+use wire::WriteAnswer;
 use wire::refusal;
 
 const MOST_REGIONS: u16 = 25;
@@ -29,12 +32,6 @@ pub struct Censor {
     pub number: u8,
     pub count: u16,
     pub regions: [u16; PLACES],
-}
-
-// The length that was written, or the refusal.
-pub enum WriteAnswer {
-    Written(usize),
-    Refused(u8),
 }
 
 fn beyond(x: u16, least: u16, most: u16) -> bool
@@ -178,5 +175,6 @@ pub fn write_censor(list: &[u16], out: &mut [u8]) -> WriteAnswer
         return WriteAnswer::Refused(refusal::OUTPUT_SMALL);
     }
     put_all(list, out);
-    WriteAnswer::Written(size)
+    let long = Bytes(size as u32);
+    WriteAnswer::Written(long)
 }

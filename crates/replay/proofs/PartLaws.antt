@@ -9,13 +9,10 @@ use lib.ListN.{length, take, drop, length-drop}
 use lib.Seq.{length-take-le}
 use borrow.Author.Tests.{le-ltb, ltb-true, ltb-false}
 use Rattle.wire.specs.Checks.{pick, both}
+use Rattle.wire.proofs.CheckLaws.{both-false}
 use Rattle.message.specs.Header.{radialCut}
 use Rattle.writer.specs.Writing.{cut, segmentsOf, longest, longestRadial, longestBody}
 use Rattle.replay.proofs.FrameBack.{PartFits}
-
-both-false : (t : Bool) → both t false ≡ false
-both-false true = refl
-both-false false = refl
 
 abbrev pub AllFit : ℕ → List (List ℕ) → Type 0
 AllFit kind [] = Unit {0}

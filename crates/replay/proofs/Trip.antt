@@ -2,15 +2,11 @@
 use Prim.Native.Nat.{ℕ, _%_, _≤_, _<_}
 use native.Mathlib.Omega.{arith}
 use mathlib.Core.Path.{_≡_, refl, ap, _∙_}
-use mathlib.Core.List.{List, [], _++_}
-use lib.ListN.{length, take, drop}
-use lib.Seq.{take-at}
+use mathlib.Core.List.{List, []}
+use lib.ListN.{length}
 use borrow.Author.Tests.{ltb-false, eqb-true, not-false}
-use Rattle.wire.specs.Sizes.{bytes}
 use Rattle.wire.specs.Checks.{AllHold}
-use Rattle.wire.specs.declared.Bytes.{Bytes}
-use Rattle.wire.proofs.CheckLaws.{all-hold}
-use Rattle.wire.proofs.AnswerLaws.{outcome-given}
+use Rattle.wire.proofs.WriteLaws.{accepted as accepted-write}
 use Rattle.segments.specs.Walk.{finish, setOf}
 use Rattle.segments.specs.Theorems.{accepted}
 use Rattle.writer.specs.Writing.{segmentsOf, framesFrom, framesOf, longest, writeChecks, writeOf}
@@ -27,10 +23,10 @@ some-segment : (kind : ℕ) (body : List ℕ) → 0 < length (segmentsOf kind bo
 some-segment kind body = rw (segments-cut kind body) (cut-some _ body)
 
 -- the frames of a message whose checks hold, read as a set
-frames-back : (g : Given) (body room : List ℕ) (space : ℕ) → Fits g → AllHold (writeChecks g body space) → length body ≤ length room
+frames-back : (g : Given) (body room : List ℕ) → Fits g → AllHold (writeChecks g body) → length body ≤ length room
     → setOf (framesOf g body) room ≡ accepted (headerBack g body) body room
 unfolding framesOf setOf written
-frames-back g body room space fits a r =
+frames-back g body room fits a r =
     let parts = segmentsOf (g .kind) body in
     let n = length parts in
     let even : length body % 2 ≡ 0 = eqb-true (length body % 2) 0 (not-false _ (a .1 .1 .1 .0)) in
@@ -45,10 +41,5 @@ frames-back g body room space fits a r =
 pub round-trip : RoundTrip
 unfolding writeOf
 round-trip g body out room size fits e r =
-    let frames = framesOf g body in
-    let o = outcome-given (writeChecks g body (length out)) out (bytes (length frames)) (frames ++ drop (length frames) out) size e in
-    let l : length frames ≡ size .0 = ap (λ (b : Bytes). b .0) (o .1) in
-    let t : take (size .0) (writeOf g body out .output) ≡ frames =
-    ap (λ (x : List ℕ). take (size .0) x) (o .2) ∙ take-at frames (drop (length frames) out) (size .0) l
-    in
-    ap (λ (x : List ℕ). setOf x room) t ∙ frames-back g body room (length out) fits (all-hold (writeChecks g body (length out)) (o .0)) r
+    let a = accepted-write (writeChecks g body) (framesOf g body) out size e in
+    ap (λ (x : List ℕ). setOf x room) (a .1) ∙ frames-back g body room fits (a .0) r

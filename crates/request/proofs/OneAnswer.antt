@@ -3,14 +3,15 @@ use Prim.Native.Nat.{ℕ}
 use mathlib.Core.Path.{_≡_}
 use mathlib.Core.List.{List}
 use Rattle.wire.specs.Answers.{Promise}
+use Rattle.wire.specs.Writing.{tellWrite}
+use Rattle.wire.specs.declared.WriteAnswer.{WriteAnswer}
 use Rattle.wire.proofs.CheckLaws.{never}
 use Rattle.wire.proofs.AnswerLaws.{only, only-answer}
+use Rattle.wire.proofs.WriteLaws.{write-apart}
 use Rattle.request.specs.declared.RequestAnswer.{RequestAnswer}
 use Rattle.request.specs.declared.RequestAnswer.the-variants.{Code, Refused}
-use Rattle.request.specs.declared.WriteAnswer.{WriteAnswer}
-use Rattle.request.specs.declared.WriteAnswer.the-variants.{Written, Refused as NotWritten}
 use Rattle.request.specs.Request.{requestOf, requestWritten}
-use Rattle.request.specs.Promises.{tellRequest, tellWrite}
+use Rattle.request.specs.Promises.{tellRequest}
 
 pub request-apart : (a b : RequestAnswer) → tellRequest a ≡ tellRequest b → a ≡ b
 request-apart (Code x) (Code y) e = cc e
@@ -20,12 +21,6 @@ request-apart (Refused n) (Refused m) e = cc e
 
 pub request-only : (body : List ℕ) (a b : RequestAnswer) → tellRequest a ≡ requestOf body → tellRequest b ≡ requestOf body → a ≡ b
 request-only body = only-answer tellRequest request-apart (requestOf body)
-
-pub write-apart : (a b : WriteAnswer) → tellWrite a ≡ tellWrite b → a ≡ b
-write-apart (Written x) (Written y) e = cc e
-write-apart (Written x) (NotWritten n) e = never (cc e)
-write-apart (NotWritten n) (Written x) e = never (cc e)
-write-apart (NotWritten n) (NotWritten m) e = cc e
 
 pub write-only : (list out : List ℕ) (r₁ r₂ : WriteAnswer) (a₁ a₂ : List ℕ) → Promise tellWrite (requestWritten list out) r₁ a₁
     → Promise tellWrite (requestWritten list out) r₂ a₂ → (r₁ ≡ r₂) × (a₁ ≡ a₂)

@@ -1,28 +1,15 @@
 -- What each way through the reader and the writer comes to. Assumes nothing.
 use Prim.Native.Nat.{ℕ, _/_, _%_, _≤_, _<_}
 use native.Mathlib.Omega.{arith}
-use mathlib.Core.Path.{_≡_, refl, sym, ap, _∙_}
-use mathlib.Core.Bool.{Bool, true, false}
-use mathlib.Core.List.{List, [], _∷_}
+use mathlib.Core.Path.{_≡_}
+use mathlib.Core.Bool.{true, false}
+use mathlib.Core.List.{List, _∷_}
 use borrow.Author.Tests.{eq-eqb, ne-eqb, lt-ltb, le-ltb}
-use lib.ListN.{length, getD, drop, set}
+use lib.ListN.{length, getD, drop}
 use Rattle.wire.specs.Numbers.{num}
-use Rattle.wire.specs.Checks.{either}
-use Rattle.wire.specs.Answers.{Answer, refused, given, Outcome, refusal, Promise}
+use Rattle.wire.specs.Answers.{refused, given, refusal}
+use Rattle.wire.specs.Sizes.{bytes}
 use Rattle.request.specs.Request.{isPermitted, requestOf, requestWritten}
-
--- one test after the other
-pub hit : (a b : Bool) → a ≡ true → true ≡ either a b
-hit a b h = simp h
-
-pub miss : (a b r : Bool) → a ≡ false → r ≡ b → r ≡ either a b
-miss a b r h e = simp h e
-
--- two stores at the start
-pub two-stored : (out : List ℕ) (first second : ℕ) → 2 ≤ length out → set (set out 0 first) 1 second ≡ first ∷ second ∷ drop 2 out
-two-stored [] first second h = absurd (omega arith)
-two-stored (x ∷ []) first second h = absurd (omega arith)
-two-stored (x ∷ y ∷ out) first second h = refl
 
 -- ---- the reader
 module _ (body : List ℕ) where
@@ -53,14 +40,8 @@ module _ (list out : List ℕ) where
   list-room h p r = simp (eq-eqb (length list) 1 h, p, lt-ltb (length out) 2 r)
 
   pub list-fine : length list ≡ 1 → isPermitted (getD list 0 0) ≡ true → 2 ≤ length out → getD list 0 0 < 65536
-      → requestWritten list out ≡ record { answer = given 2; output = getD list 0 0 / 256 ∷ getD list 0 0 % 256 ∷ drop 2 out }
+      → requestWritten list out ≡ record { answer = given (bytes 2); output = getD list 0 0 / 256 ∷ getD list 0 0 % 256 ∷ drop 2 out }
   unfolding requestWritten
   list-fine h p r x =
       let e : getD list 0 0 / 256 % 256 ≡ getD list 0 0 / 256 = omega arith in
       simp (eq-eqb (length list) 1 h, p, le-ltb (length out) 2 r, e)
-
--- a promise kept, by what the right outcome comes to
-pub kept : {R A : Type 0} (tell : R → Answer A) (right o : Outcome A) (r : R) (after : List ℕ) → right ≡ o → tell r ≡ o .answer → after ≡ o .output
-    → Promise tell right r after
-kept {R} {A} tell right o r after e p q =
-    record { answers = p ∙ ap (λ (x : Outcome A). x .answer) (sym e); leaves = q ∙ ap (λ (x : Outcome A). x .output) (sym e) }

@@ -3,18 +3,20 @@ use Prim.Native.Nat.{ℕ, _^_, _≤_, _<_}
 use native.Mathlib.Omega.{arith}
 use mathlib.Core.Path.{_≡_, refl, sym, ap, _∙_}
 use mathlib.Core.Bool.{Bool, true, false}
-use mathlib.Core.Option.{none}
-use mathlib.Core.List.{List, [], _∷_, _++_}
+use mathlib.Core.List.{List, [], _∷_}
 use borrow.Author.Tests.{eqb-true, le-ltb, not-false}
-use lib.Dec.{eqb, ltb}
-use lib.ListN.{length, getD, take, drop}
+use lib.Dec.{eqb}
+use lib.ListN.{length, getD, take}
 use lib.Seq.{take-all}
 use Rattle.wire.specs.Numbers.{num, be}
-use Rattle.wire.specs.Checks.{pick, among, check, Check, first}
+use Rattle.wire.specs.Checks.{pick, among}
 use Rattle.wire.specs.Answers.{given}
+use Rattle.wire.specs.Writing.{wrote}
+use Rattle.wire.specs.declared.Bytes.{Bytes}
 use Rattle.wire.proofs.NumberLaws.{num-be, be-num}
 use Rattle.wire.proofs.CheckLaws.{never, all-hold}
-use Rattle.wire.proofs.AnswerLaws.{rule-given, outcome-given}
+use Rattle.wire.proofs.AnswerLaws.{rule-given}
+use Rattle.wire.proofs.WriteLaws.{accepted}
 use Rattle.request.specs.Request.{permitted, isPermitted, requestChecks, requestOf, requestWritten}
 use Rattle.request.specs.Laws.{WrittenIsRead, ReadIsWritten}
 use Rattle.request.proofs.StepLaws.{body-fine}
@@ -57,31 +59,21 @@ one-number (x ∷ []) h = refl
 one-number (x ∷ y ∷ list) h = absurd (omega arith)
 
 -- an accepted list: its length, that its number is permitted, and what was written
-module _ (list out : List ℕ) (n : ℕ) (e : requestWritten list out .answer ≡ given n) where
-  checks : List Check
-  checks = requestChecks (eqb (length list) 1) (getD list 0 0) ++ (check 13 (ltb (length out) 2) ∷ [])
-
-  accepted : (first checks ≡ none) × (2 ≡ n) × (requestWritten list out .output ≡ be 2 (getD list 0 0) ++ drop 2 out)
-  unfolding requestWritten checks
-  accepted = outcome-given checks out 2 (be 2 (getD list 0 0) ++ drop 2 out) n e
-
-  accepted-long : length list ≡ 1
-  unfolding checks
-  accepted-long = eqb-true (length list) 1 (not-false _ (all-hold checks (accepted .0) .0))
-
-  accepted-code : isPermitted (getD list 0 0) ≡ true
-  unfolding checks
-  accepted-code = not-false _ (all-hold checks (accepted .0) .1 .0)
+written-says : (list out : List ℕ) (size : Bytes) → requestWritten list out .answer ≡ given size
+    → (length list ≡ 1) × (isPermitted (getD list 0 0) ≡ true) × (take (size .0) (requestWritten list out .output) ≡ be 2 (getD list 0 0))
+unfolding requestWritten
+written-says list out size e =
+    let a = accepted (requestChecks (eqb (length list) 1) (getD list 0 0)) (be 2 (getD list 0 0)) out size e in
+    (eqb-true (length list) 1 (not-false _ (a .0 .0)), not-false _ (a .0 .1 .0), a .1)
 
 pub written-is-read : WrittenIsRead
-written-is-read list out n e =
-    let a = accepted list out n e in
-    let w : take n (requestWritten list out .output) ≡ be 2 (getD list 0 0) = rw (a .2, ← a .1) refl in
-    (one-number list (accepted-long list out n e), ap requestOf w ∙ bytes-are-read (getD list 0 0) (accepted-code list out n e))
+written-is-read list out size e =
+    let w = written-says list out size e in
+    (one-number list (w .0), ap requestOf (w .2) ∙ bytes-are-read (getD list 0 0) (w .1))
 
 -- a permitted code in room enough is written as its two bytes
 code-is-written : (code : ℕ) (out : List ℕ) → isPermitted code ≡ true → 2 ≤ length out
-    → requestWritten (code ∷ []) out ≡ record { answer = given (length (be 2 code)); output = be 2 code ++ drop (length (be 2 code)) out }
+    → requestWritten (code ∷ []) out ≡ wrote (be 2 code) out
 unfolding requestWritten
 code-is-written code out p h = simp (p, le-ltb (length out) 2 h)
 
@@ -89,5 +81,4 @@ pub read-is-written : ReadIsWritten
 read-is-written body out code o e room =
     let h = read-is body code e in
     let w : be 2 code ≡ body = ap (λ (n : ℕ). be 2 n) (sym (h .2)) ∙ be-num 2 body 0 o (omega arith) ∙ take-all 2 body (omega arith) in
-    code-is-written code out (h .1) (omega arith)
-    ∙ ap (λ (b : List ℕ). record { answer = given (length b); output = b ++ drop (length b) out }) w
+    code-is-written code out (h .1) (omega arith) ∙ ap (λ (b : List ℕ). wrote b out) w

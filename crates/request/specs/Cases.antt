@@ -3,16 +3,18 @@ use Prim.Native.Nat.{ℕ}
 use mathlib.Core.Path.{_≡_}
 use mathlib.Core.List.{List, [], _∷_, map}
 use Rattle.wire.specs.Answers.{Answer, refused, given, Outcome, refusal}
+use Rattle.wire.specs.Sizes.{bytes}
+use Rattle.wire.specs.declared.Bytes.{Bytes}
 use Rattle.request.specs.Request.{requestOf, requestWritten}
 
 -- a body with the reader's right answer; a list and the output before, with the writer's right outcome
 pub data Case : Type 0 where
   read : List ℕ → Answer ℕ → Case
-  write : List ℕ → List ℕ → Outcome ℕ → Case
+  write : List ℕ → List ℕ → Outcome Bytes → Case
 
 pub data Result : Type 0 where
   answered : Answer ℕ → Result
-  wrote : Outcome ℕ → Result
+  wrote : Outcome Bytes → Result
 
 abbrev pub found : Case → Result
 found (read body answer) = answered (requestOf body)
@@ -53,6 +55,6 @@ cases =
     ∷ write (129 ∷ 129 ∷ []) (7 ∷ 7 ∷ []) (refusal (7 ∷ 7 ∷ []) 23)
     ∷ write (128 ∷ []) (7 ∷ []) (refusal (7 ∷ []) 24)
     ∷ write (160 ∷ []) (7 ∷ []) (refusal (7 ∷ []) 13)
-    ∷ write (160 ∷ []) (7 ∷ 7 ∷ []) (record { answer = given 2; output = 0 ∷ 160 ∷ [] })
-    ∷ write (160 ∷ []) (7 ∷ 7 ∷ 7 ∷ []) (record { answer = given 2; output = 0 ∷ 160 ∷ 7 ∷ [] })
+    ∷ write (160 ∷ []) (7 ∷ 7 ∷ []) (record { answer = given (bytes 2); output = 0 ∷ 160 ∷ [] })
+    ∷ write (160 ∷ []) (7 ∷ 7 ∷ 7 ∷ []) (record { answer = given (bytes 2); output = 0 ∷ 160 ∷ 7 ∷ [] })
     ∷ []

@@ -1,18 +1,20 @@
 -- What holds of every body and list of message 9: the reader and the writer undo each other.
 use Prim.Native.Nat.{ℕ, _≤_}
 use mathlib.Core.Path.{_≡_}
-use mathlib.Core.List.{List, [], _∷_, _++_}
-use lib.ListN.{length, getD, take, drop}
+use mathlib.Core.List.{List, [], _∷_}
+use lib.ListN.{length, getD, take}
 use Rattle.wire.specs.Numbers.{Octets}
 use Rattle.wire.specs.Answers.{given}
+use Rattle.wire.specs.Writing.{wrote}
+use Rattle.wire.specs.declared.Bytes.{Bytes}
 use Rattle.request.specs.Request.{requestOf, requestWritten}
 
 -- what the writer writes of a list, the reader accepts, with the list's one number
 abbrev pub WrittenIsRead : Type 0
-WrittenIsRead = (list out : List ℕ) (n : ℕ) → requestWritten list out .answer ≡ given n
-    → (list ≡ getD list 0 0 ∷ []) × (requestOf (take n (requestWritten list out .output)) ≡ given (getD list 0 0))
+WrittenIsRead = (list out : List ℕ) (size : Bytes) → requestWritten list out .answer ≡ given size
+    → (list ≡ getD list 0 0 ∷ []) × (requestOf (take (size .0) (requestWritten list out .output)) ≡ given (getD list 0 0))
 
 -- what the reader hands back, written, is the body again
 abbrev pub ReadIsWritten : Type 0
 ReadIsWritten = (body out : List ℕ) (code : ℕ) → Octets body → requestOf body ≡ given code → length body ≤ length out
-    → requestWritten (code ∷ []) out ≡ record { answer = given (length body); output = body ++ drop (length body) out }
+    → requestWritten (code ∷ []) out ≡ wrote body out

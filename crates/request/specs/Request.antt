@@ -1,13 +1,15 @@
 -- "Message 9: one halfword, 129, 130, 132, 136, 144 or 160."
 use Prim.Native.Nat.{ℕ}
 use mathlib.Core.Bool.{Bool, not}
-use mathlib.Core.List.{List, [], _∷_, _++_}
-use lib.Dec.{eqb, ltb}
-use lib.ListN.{length, getD, drop}
+use mathlib.Core.List.{List, [], _∷_}
+use lib.Dec.{eqb}
+use lib.ListN.{length, getD}
 use Rattle.wire.specs.Numbers.{num}
 use Rattle.wire.specs.Tables.{Field, field, render, total}
 use Rattle.wire.specs.Checks.{among, Check, check}
-use Rattle.wire.specs.Answers.{Answer, rule, Outcome, outcome}
+use Rattle.wire.specs.Answers.{Answer, rule, Outcome}
+use Rattle.wire.specs.Writing.{written}
+use Rattle.wire.specs.declared.Bytes.{Bytes}
 
 abbrev pub permitted : List ℕ
 permitted = 129 ∷ 130 ∷ 132 ∷ 136 ∷ 144 ∷ 160 ∷ []
@@ -27,11 +29,6 @@ requestChecks oneHalfword code = check 23 (not oneHalfword) ∷ check 24 (not (i
 unfoldable pub requestOf : List ℕ → Answer ℕ
 requestOf body = rule (requestChecks (eqb (length body) (total (requestTable (num 2 body 0)))) (num 2 body 0)) (num 2 body 0)
 
--- "Body writers: the reader's checks, then 13."
--- "An accepted call that writes fills its output from the start, reports the length and leaves the rest."
-abbrev pub written : List Check → List ℕ → List ℕ → Outcome ℕ
-written ks body out = outcome (ks ++ (check 13 (ltb (length out) (length body)) ∷ [])) out (length body) (body ++ drop (length body) out)
-
--- a list: one number
-unfoldable pub requestWritten : List ℕ → List ℕ → Outcome ℕ
+-- a list: one number. "Body writers: the reader's checks, then 13."
+unfoldable pub requestWritten : List ℕ → List ℕ → Outcome Bytes
 requestWritten list out = written (requestChecks (eqb (length list) 1) (getD list 0 0)) (render (requestTable (getD list 0 0))) out

@@ -4,18 +4,15 @@ ghost use Prim.Native.Nat.{_≤_};
 ghost use mathlib.Core.List.{_∷_};
 ghost use lib.ListN.{length, drop};
 ghost use Rattle.wire.specs.Answers.{Promise};
+ghost use Rattle.wire.specs.Writing.{tellWrite};
 ghost use Rattle.request.specs.Request.{isPermitted, requestOf, requestWritten};
-ghost use Rattle.request.specs.Promises.{tellRequest, tellWrite};
+ghost use Rattle.request.specs.Promises.{tellRequest};
+use wire::Bytes;
+use wire::WriteAnswer;
 use wire::refusal;
 
 pub enum RequestAnswer {
     Code(u16),
-    Refused(u8),
-}
-
-// The length that was written, or the refusal.
-pub enum WriteAnswer {
-    Written(usize),
     Refused(u8),
 }
 
@@ -77,5 +74,5 @@ pub fn write_request(list: &[u16], out: &mut [u8]) -> WriteAnswer
     let high = (code / 256) as u8;
     let low = (code % 256) as u8;
     put(out, high, low);
-    WriteAnswer::Written(2)
+    WriteAnswer::Written(Bytes(2))
 }

@@ -1,27 +1,26 @@
 -- A set is accepted exactly if it is whole. Assumes nothing.
-use Prim.Native.Nat.{ℕ, zero, suc, _≤_, _<_}
+use Prim.Native.Nat.{ℕ, _≤_}
 use mathlib.Core.Path.{_≡_, refl, sym, ap, subst, _∙_}
-use mathlib.Core.Bool.{Bool, true, false, not}
+use mathlib.Core.Bool.{true, not}
 use mathlib.Core.Option.{Option, none, some}
-use mathlib.Core.List.{List, [], _∷_, _++_, map, flatten, List·Memᴰ}
+use mathlib.Core.List.{List, [], map, flatten, List·Memᴰ}
 use native.Mathlib.Omega.{arith}
-use lib.Dec.{ltb}
 use lib.ListN.{length, take, drop}
 use lib.Seq.{take-at}
 use borrow.Author.Tests.{ltb-false, le-ltb, not-false}
 use Rattle.wire.specs.Checks.{first, AllHold}
-use Rattle.wire.specs.Answers.{Answer, refused, given, Outcome, refusal, outcome}
+use Rattle.wire.specs.Answers.{Answer, refused, given, Outcome, refusal}
 use Rattle.wire.specs.Sizes.{bytes}
-use Rattle.wire.specs.declared.Bytes.{Bytes}
+use Rattle.wire.specs.Writing.{filled}
 use Rattle.wire.proofs.CheckLaws.{never, all-hold, none-broken, decide-none}
 use Rattle.wire.proofs.AnswerLaws.{outcome-given}
 use Rattle.message.specs.declared.Header.{Header}
 use Rattle.segments.specs.Segment.{Segment, segmentIn, numbered, found, orNothing, headerNumbered}
-use Rattle.segments.specs.Walk.{seen, count, allSeen, joined, bodyOf, endChecks, SetSays, filled, finish, walk, setOf}
-use Rattle.segments.specs.Whole.{headerFrom, numberFrom, Agree, Distinct, Orderly, Joined, Whole}
+use Rattle.segments.specs.Walk.{seen, count, allSeen, joined, bodyOf, endChecks, SetSays, finish, walk, setOf}
+use Rattle.segments.specs.Whole.{headerFrom, Agree, Orderly, Joined, Whole}
 use Rattle.segments.specs.Theorems.{accepted, AcceptedExactlyIfWhole}
-use Rattle.segments.proofs.FrameLists.{AllMet, Cut, cut, Ended, ended, walked}
-use Rattle.segments.proofs.OrderFree.{agree-both, leader, all-agree, distinct, all-met, Found, found-in, is-found, joined-from, joined-to, count-is}
+use Rattle.segments.proofs.FrameLists.{cut, Ended, ended, walked}
+use Rattle.segments.proofs.OrderFree.{agree-both, leader, all-agree, distinct, all-met, found-in, is-found, joined-from, joined-to, count-is}
 
 -- what is said of the segments met
 abbrev pub says : List Segment → SetSays

@@ -10,18 +10,19 @@ use lib.Dec.{eqb, ltb}
 use lib.ListN.{length}
 use borrow.Author.Tests.{ltb-true}
 use Rattle.wire.specs.Checks.{pick, both, Check, first, decide, AllHold}
-use Rattle.wire.specs.Answers.{Answer, refused, given, rule, Outcome}
+use Rattle.wire.specs.Answers.{Answer, refused, given, rule}
 use Rattle.wire.specs.Sizes.{bytes}
+use Rattle.wire.specs.Writing.{filled}
 use Rattle.wire.proofs.CheckLaws.{never, decide-none, decide-some}
 use Rattle.frame.specs.Session.{after}
 use Rattle.message.specs.declared.Header.{Header}
-use Rattle.segments.specs.Segment.{Segment, segmentIn, numbered, found, orNothing, headerNumbered, dataNumbered}
-use Rattle.segments.specs.Walk.{turnChecks, walk, count, allSeen, joined, bodyOf, endChecks, SetSays, filled, finish, setOf}
-use Rattle.segments.specs.Whole.{headerFrom, numberFrom, Passes, Agree, Distinct, Orderly}
+use Rattle.segments.specs.Segment.{Segment, segmentIn, numbered, orNothing, headerNumbered, dataNumbered}
+use Rattle.segments.specs.Walk.{turnChecks, walk, count, allSeen, joined, bodyOf, endChecks, SetSays, finish, setOf}
+use Rattle.segments.specs.Whole.{headerFrom, numberFrom, Agree, Distinct, Orderly}
 use Rattle.segments.specs.Theorems.{accepted, WholeFrames, AnyOrder}
 use Rattle.segments.proofs.FrameLists.{Ended, ended}
-use Rattle.segments.proofs.OrderFree.{leader, all-agree, distinct, Found, found-in, is-found, count-is}
-use Rattle.segments.proofs.Accepted.{says, Accepting, accepting, finished, orderly-walked}
+use Rattle.segments.proofs.OrderFree.{leader, all-agree, distinct, found-in, is-found, count-is}
+use Rattle.segments.proofs.Accepted.{says, accepting, finished, orderly-walked}
 use Rattle.segments.proofs.OutputApart.{finish-answer}
 
 -- ---- rearrangement

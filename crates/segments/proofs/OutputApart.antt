@@ -4,11 +4,12 @@ use mathlib.Core.Path.{_≡_, refl, sym, ap, _∙_}
 use mathlib.Core.List.{List, []}
 use lib.ListN.{length, take, drop}
 use lib.Seq.{take-at}
-use Rattle.wire.specs.Answers.{Answer, refused, given, rule, Outcome}
+use Rattle.wire.specs.Answers.{Answer, refused, given, rule}
+use Rattle.wire.specs.Writing.{filled}
 use Rattle.wire.proofs.CheckLaws.{never}
 use Rattle.wire.proofs.AnswerLaws.{outcome-answer, outcome-given}
 use Rattle.segments.specs.Segment.{Segment}
-use Rattle.segments.specs.Walk.{bodyOf, endChecks, SetSays, filled, finish, walk, setOf}
+use Rattle.segments.specs.Walk.{bodyOf, endChecks, SetSays, finish, walk, setOf}
 use Rattle.segments.specs.Theorems.{AnswerApartFromOutput}
 use Rattle.segments.proofs.Accepted.{says}
 

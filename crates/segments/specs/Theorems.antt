@@ -4,11 +4,12 @@ use mathlib.Core.Path.{_≡_}
 use mathlib.Core.Logic.{_↔_}
 use mathlib.Core.List.{List, flatten, List·Memᴰ, List·Permᴰ}
 use lib.ListN.{length, take}
-use Rattle.wire.specs.Answers.{Answer, refused, given, Outcome}
+use Rattle.wire.specs.Answers.{refused, given, Outcome}
 use Rattle.wire.specs.Sizes.{bytes}
+use Rattle.wire.specs.Writing.{filled}
 use Rattle.frame.specs.Session.{headSize, sizeIn}
 use Rattle.message.specs.declared.Header.{Header}
-use Rattle.segments.specs.Walk.{SetSays, filled, setOf}
+use Rattle.segments.specs.Walk.{SetSays, setOf}
 use Rattle.segments.specs.Whole.{Whole}
 
 -- the outcome that accepts: segment 1's header h, and the body with its length at the start of the output

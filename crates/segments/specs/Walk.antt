@@ -3,9 +3,10 @@ use Prim.Native.Nat.{ℕ, zero, suc}
 use mathlib.Core.Bool.{Bool, true, not}
 use mathlib.Core.List.{List, [], _∷_, _++_}
 use lib.Dec.{ltb, eqb}
-use lib.ListN.{length, drop}
+use lib.ListN.{length}
 use Rattle.wire.specs.Checks.{pick, both, Check, check, decide}
 use Rattle.wire.specs.Answers.{Answer, refused, given, Outcome, refusal, outcome}
+use Rattle.wire.specs.Writing.{filled}
 use Rattle.wire.specs.Sizes.{bytes}
 use Rattle.wire.specs.declared.Bytes.{Bytes}
 use Rattle.frame.specs.Session.{after}
@@ -58,14 +59,10 @@ abbrev pub endChecks : List Segment → ℕ → List Check
 endChecks gs room =
     check 12 (not (seen gs 1)) ∷ check 12 (not (allSeen gs (count gs))) ∷ check 13 (ltb room (length (bodyOf gs))) ∷ []
 
--- "The answer is segment 1's header and, in the lent output, the data .. joined, with its length"
+-- "The answer is segment 1's header and, in the lent output, the data .. joined, with its length; output past that length stays"
 pub record SetSays : Type 0 where
   pub header : Header
   pub long : Bytes
-
--- what stands in an output that held `out`, with `body` from its start: "output past that length stays"
-abbrev pub filled : List ℕ → List ℕ → List ℕ
-filled body out = body ++ drop (length body) out
 
 abbrev pub finish : Answer (List Segment) → List ℕ → Outcome SetSays
 finish (refused n) out = refusal out n

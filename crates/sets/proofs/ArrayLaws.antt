@@ -1,23 +1,20 @@
 -- Laws of the arrays alone: flags all set, the length of the parts, and the parts joined. Assumes nothing.
-use Prim.Native.Nat.{ℕ, zero, suc, _+_, _-_, _*_, _≤_, _<_}
+use Prim.Native.Nat.{ℕ, zero, suc, _+_, _-_, _≤_, _<_}
 use mathlib.Core.Path.{_≡_, refl, sym, ap, subst, _∙_}
 use mathlib.Core.Bool.{Bool, true, false}
-use mathlib.Core.List.{List, [], _∷_, _++_, append-assoc, append-nil}
+use mathlib.Core.List.{List, _++_, append-assoc}
 use native.Mathlib.Omega.{arith}
 use native.Mathlib.Numerals.{add-one}
-use lib.ListN.{length, getD, set, take, drop, length-append, length-drop, drop-of-length-le}
-use lib.Seq.{take-all, take-at, drop-at, drop-drop, take-suc, drop-cons, set-at, length-take-le}
-use Rattle.wire.specs.Checks.{both}
+use lib.ListN.{length, getD, take, drop, length-append, length-drop}
+use lib.Seq.{take-at, drop-at, drop-drop, length-take-le}
+use Rattle.wire.specs.Writing.{filled, copied}
 use Rattle.message.specs.Header.{mostSegments}
-use Rattle.segments.specs.Walk.{filled}
+use Rattle.wire.proofs.CheckLaws.{both-false}
+use Rattle.wire.proofs.CopyLaws.{copied-same}
 use Rattle.segments.proofs.NumberedLaws.{by-eq}
 use Rattle.sets.specs.Arrays.{Parts, Within, allSet, partsLong, parts}
 
 -- ---- the flags
-both-false : (b : Bool) → both b false ≡ false
-both-false true = refl
-both-false false = refl
-
 -- one number more: its flag stands one place before it
 pub set-more : (flags : List Bool) (number : ℕ) → 1 ≤ number → allSet flags (number - 1) ≡ true → getD flags (number - 1) false ≡ true
     → allSet flags (number + 1 - 1) ≡ true
@@ -64,19 +61,6 @@ module _ (s starts ends : List ℕ) where
       length-append (parts s starts ends n) (take (getD ends n 0 - getD starts n 0) (drop (getD starts n 0) s))
       ∙ rw (parts-long p w n (omega arith), part-long n (p n (omega arith) .0) (w n (omega arith)))
 
--- ---- the copy, one byte more
-pub copy-more : (from to₀ to : List ℕ) (i : ℕ) → length from ≡ length to₀ → i < length to₀ → to ≡ take i from ++ drop i to₀
-    → set to i (getD from i 0) ≡ take (i + 1) from ++ drop (i + 1) to₀
-copy-more from to₀ to i l m e =
-    let n : i < length from = omega arith in
-    rw (e, add-one, take-suc from i 0 n, drop-cons to₀ i 0 m, append-assoc)
-    (set-at (take i from) (getD to₀ i 0) (drop (suc i) to₀) (getD from i 0) i (length-take-le i from (omega arith)))
-
-pub copied : (from to₀ to : List ℕ) (i : ℕ) → length from ≡ length to₀ → length to₀ ≤ i → to ≡ take i from ++ drop i to₀ → to ≡ from
-copied from to₀ to i l m e =
-    let n : length from ≤ i = omega arith in
-    e ∙ rw (take-all i from n, drop-of-length-le to₀ {i = i} m) (append-nil from)
-
 -- ---- one part more in the output: `out` holds the first k parts and then what it held before
 module _ (s starts ends : List ℕ) (p : Parts starts ends) (w : Within s ends) (k n : ℕ) (low : k < n) (most : n ≤ mostSegments) (out₀ out : List ℕ)
     (room : partsLong starts ends n ≤ length out₀) (place : ℕ) (is : place ≡ partsLong starts ends k) (same : length out ≡ length out₀)
@@ -99,18 +83,19 @@ module _ (s starts ends : List ℕ) (p : Parts starts ends) (w : Within s ends) 
   filled-long : length (parts s starts ends k) ≡ place
   filled-long = parts-long s starts ends p w k (omega arith) ∙ sym is
 
-  pub join-fits : length part ≡ length (take (place + more - place) (drop place out))
-  join-fits =
+  fits-part : length part ≡ length (take (place + more - place) (drop place out))
+  fits-part =
       let l : length (drop place out) ≡ length out - place = length-drop place out in
       let m : place + more - place ≤ length (drop place out) = omega (arith, fits) in
       long ∙ sym back ∙ sym (length-take-le (place + more - place) (drop place out) m)
 
-  pub join-more : (ys : List ℕ) → ys ≡ part
+  pub join-more : (ys : List ℕ) → ys ≡ copied part (take (place + more - place) (drop place out))
       → take place out ++ (ys ++ drop (place + more - place) (drop place out)) ≡ parts s starts ends (k + 1) ++ drop (place + more) out₀
   join-more ys e =
       let a : take place out ≡ parts s starts ends k = ap (λ (x : List ℕ). take place x) holds ∙ take-at (parts s starts ends k) (drop place out₀) place filled-long in
       let b : drop place out ≡ drop place out₀ = ap (λ (x : List ℕ). drop place x) holds ∙ drop-at (parts s starts ends k) (drop place out₀) place filled-long in
-      rw (a, b, e, back, parts-more s starts ends k, append-assoc, drop-drop)
+      let f : ys ≡ part = e ∙ copied-same part (take (place + more - place) (drop place out)) fits-part in
+      rw (a, b, f, back, parts-more s starts ends k, append-assoc, drop-drop)
 
   pub join-long : (l : List ℕ) → l ≡ parts s starts ends (k + 1) ++ drop (place + more) out₀ → length l ≡ length out₀
   join-long l e =

@@ -1,25 +1,24 @@
 -- What the whole reader promises, from what the first pass left. Assumes nothing.
-use Prim.Native.Nat.{ℕ, zero, suc, _+_, _-_, _≤_, _<_}
+use Prim.Native.Nat.{ℕ, zero, suc, _≤_, _<_}
 use mathlib.Core.Path.{_≡_, refl, sym, ap, subst, _∙_}
-use mathlib.Core.Bool.{Bool, true, false, not}
-use mathlib.Core.Option.{Option, none, some}
-use mathlib.Core.List.{List, [], _∷_, _++_}
+use mathlib.Core.Bool.{Bool, true, false}
+use mathlib.Core.Option.{none, some}
+use mathlib.Core.List.{List, []}
 use native.Mathlib.Omega.{arith}
-use lib.Dec.{ltb}
 use lib.ListN.{length, getD}
 use borrow.Author.Tests.{lt-ltb, le-ltb}
-use Rattle.wire.specs.Checks.{both, first}
+use Rattle.wire.specs.Checks.{first}
 use Rattle.wire.specs.Answers.{Answer, refused, given, Outcome, refusal, outcome, Promise}
 use Rattle.wire.specs.Sizes.{bytes}
+use Rattle.wire.specs.Writing.{filled}
 use Rattle.wire.proofs.CheckLaws.{decide-none, decide-some}
-use Rattle.message.specs.declared.Header.{Header}
+use Rattle.wire.proofs.AnswerLaws.{kept}
 use Rattle.message.specs.Header.{mostSegments}
-use Rattle.segments.specs.Segment.{Segment, headerNumbered, dataNumbered}
-use Rattle.segments.specs.Walk.{seen, allSeen, joined, bodyOf, endChecks, SetSays, filled, finish, walk, setOf, count}
+use Rattle.segments.specs.Segment.{Segment, headerNumbered}
+use Rattle.segments.specs.Walk.{seen, allSeen, joined, bodyOf, endChecks, SetSays, finish, walk, setOf, count}
 use Rattle.sets.specs.declared.Heads.{Heads}
 use Rattle.sets.specs.declared.Gathered.{Gathered}
 use Rattle.sets.specs.declared.Gathered.the-variants.{Ended, Refused as Broken}
-use Rattle.sets.specs.declared.SetAnswer.{SetAnswer}
 use Rattle.sets.specs.declared.SetAnswer.the-variants.{Set, Refused}
 use Rattle.sets.specs.Promises.{tellSet}
 use Rattle.sets.specs.Arrays.{Tells, Met, GatheredBy, Gathers, Parts, Within, allSet, partsLong, parts}
@@ -33,16 +32,12 @@ pub met-is : (s : List ℕ) (flags : List Bool) (starts ends : List ℕ) (r : Ga
     → Met s heads flags starts ends
 met-is s flags starts ends r heads g e = gathered-as s flags starts ends r (Ended heads) g e
 
--- ---- the promise of a refusal: its number, and the output as it was
-promised : (s out : List ℕ) (n : ℕ) → setOf s out ≡ refusal out n → Promise tellSet (setOf s out) (Refused n) out
-promised s out n e = record { answers = sym (ap (λ (o : Outcome SetSays). o .answer) e); leaves = sym (ap (λ (o : Outcome SetSays). o .output) e) }
-
 pub broken-off : (s : List ℕ) (flags : List Bool) (starts ends : List ℕ) (r : Gathered) (n : ℕ) (out : List ℕ) → Gathers s flags starts ends r → r ≡ Broken n
     → Promise tellSet (setOf s out) (Refused n) out
 unfolding setOf
 broken-off s flags starts ends r n out g e =
     let w : walk (length s) [] s ≡ refused n = gathered-as s flags starts ends r (Broken n) g e in
-    promised s out n (ap (λ (a : Answer (List Segment)). finish a out) w)
+    kept tellSet _ (Refused n) _ out (ap (λ (a : Answer (List Segment)). finish a out) w) refl
 
 -- ---- the arrays and the segments met
 module _ (s : List ℕ) (at : ℕ) (heads : Heads) (flags : List Bool) (starts ends : List ℕ) (gs : List Segment) (t : Tells s at heads flags starts ends gs) where
@@ -94,7 +89,9 @@ module _ (s : List ℕ) (heads : Heads) (flags : List Bool) (starts ends : List 
 
     stops : (k : ℕ) → first (endChecks gs (length out)) ≡ some k → Promise tellSet (setOf s out) (Refused k) out
     stops k e =
-        promised s out k (ended ∙ decide-some (endChecks gs (length out)) (refusal out) (record { answer = given says; output = filled (bodyOf gs) out }) k e)
+        kept tellSet _ (Refused k) _ out
+        (ended ∙ decide-some (endChecks gs (length out)) (refusal out) (record { answer = given says; output = filled (bodyOf gs) out }) k e)
+        refl
 
     pub one-absent : getD flags 0 false ≡ false → Promise tellSet (setOf s out) (Refused 12) out
     one-absent a = let p : seen gs 1 ≡ false = sym is-one ∙ a in stops 12 (simp p)

@@ -7,10 +7,11 @@ ghost use lib.Dec.{eqb};
 ghost use lib.ListN.{length};
 ghost use Rattle.wire.specs.Checks.{pick, someBroken};
 ghost use Rattle.wire.specs.Answers.{Promise};
+ghost use Rattle.wire.specs.Writing.{filled};
 ghost use Rattle.frame.specs.Session.{sessionLimit};
 ghost use Rattle.message.specs.Header.{mostSegments};
 ghost use Rattle.segments.specs.Segment.{segmentIn, agreeChecks};
-ghost use Rattle.segments.specs.Walk.{filled, setOf};
+ghost use Rattle.segments.specs.Walk.{setOf};
 ghost use Rattle.sets.specs.Promises.{tellSet};
 ghost use Rattle.sets.specs.Arrays.{SegmentRead, TurnTaken, Blank, Gathers, Parts, Within, allSet, partsLong, parts};
 use frame::FrameAnswer;
@@ -219,18 +220,6 @@ fn joined_length(starts: &[usize; MOST_SEGMENTS], ends: &[usize; MOST_SEGMENTS],
     sum
 }
 
-// All of `from` into `to`, which is as long.
-fn copy(from: &[u8], to: &mut [u8])
-    requires { ⌜ length (now from) ≡ length (now to) ⌝ }
-    ensures { λ r. ⌜ now (to .exit) ≡ now (from .entry) ⌝ }
-{
-    let mut i = 0;
-    while i < to.len() {
-        to[i] = from[i];
-        i += 1;
-    }
-}
-
 // The second pass: the data of segments 1 to n, one after the other from the output's start.
 fn join(
     frames: &[u8],
@@ -248,7 +237,7 @@ fn join(
         let start = starts[k];
         let end = ends[k];
         let next = place + (end - start);
-        copy(&frames[start..end], &mut out[place..next]);
+        wire::copy(&frames[start..end], &mut out[place..next]);
         place = next;
         k += 1;
     }

@@ -1,9 +1,9 @@
 -- Laws of answers and promises. Assumes nothing.
 use Prim.Native.Nat.{ℕ}
-use mathlib.Core.Path.{_≡_, refl, ap, sym, _∙_}
-use mathlib.Core.Option.{Option, none, some}
+use mathlib.Core.Path.{_≡_, ap, sym, _∙_}
+use mathlib.Core.Option.{none, some}
 use mathlib.Core.List.{List}
-use Rattle.wire.specs.Checks.{Check, first, decide}
+use Rattle.wire.specs.Checks.{Check, first}
 use Rattle.wire.specs.Answers.{Answer, refused, given, rule, Outcome, refusal, outcome, Promise}
 use Rattle.wire.proofs.CheckLaws.{passed, stopped, decide-none, decide-some, decide-map, never}
 
@@ -30,6 +30,12 @@ pub outcome-given : {A : Type 0} (ks : List Check) (out : List ℕ) (v : A) (aft
 outcome-given {A} ks out v after w e =
     let p = rule-given ks v w (sym (outcome-answer ks out v after) ∙ e) in
     (p .0, p .1, ap (λ (o : Outcome A). o .output) (decide-none ks (refusal out) (record { answer = given v; output = after }) (p .0)))
+
+-- a promise kept: the right outcome is what r tells with `left` in the output, and that is what it leaves
+pub kept : {R A : Type 0} (tell : R → Answer A) (right : Outcome A) (r : R) (after left : List ℕ) → right ≡ record { answer = tell r; output = left }
+    → after ≡ left → Promise tell right r after
+kept {R} {A} tell right r after left e l =
+    record { answers = sym (ap (λ (o : Outcome A). o .answer) e); leaves = l ∙ sym (ap (λ (o : Outcome A). o .output) e) }
 
 -- no two different answers satisfy one promise, where `tell` tells different answers apart
 pub only : {R A : Type 0} (tell : R → Answer A) → ((a b : R) → tell a ≡ tell b → a ≡ b) → (right : Outcome A) (r₁ r₂ : R) (a₁ a₂ : List ℕ)

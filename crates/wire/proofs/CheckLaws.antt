@@ -5,7 +5,7 @@ use mathlib.Core.Bool.{Bool, true, false}
 use mathlib.Core.Option.{Option, none, some}
 use mathlib.Core.List.{List, [], _∷_, _++_}
 use native.Mathlib.Omega.{arith}
-use Rattle.wire.specs.Checks.{pick, either, Check, first, decide, someBroken, AllHold, Blamed}
+use Rattle.wire.specs.Checks.{pick, either, both, Check, first, decide, someBroken, AllHold, Blamed}
 
 -- zero is not one, so anything follows: for two constructors that cannot meet, by `never (cc e)`
 pub never {ℓ} : {A : Type ℓ} → _≡_ {A = ℕ} 0 1 → A
@@ -14,9 +14,26 @@ never e = absurd (no-way e)
     no-way : _≡_ {A = ℕ} 0 1 → ⊥
     no-way p = omega (arith, p)
 
+-- ---- tests joined
 pub either-false : (t : Bool) → either t false ≡ t
 either-false true = refl
 either-false false = refl
+
+pub both-false : (t : Bool) → both t false ≡ false
+both-false true = refl
+both-false false = refl
+
+-- one test after the other: it is met; it is not, and the next ones say; it is the last
+pub hit : (a b : Bool) → a ≡ true → true ≡ either a b
+hit a b h = simp h
+
+pub miss : (a b r : Bool) → a ≡ false → r ≡ b → r ≡ either a b
+miss a b r h e = simp h e
+
+pub last : (a r : Bool) → r ≡ a → r ≡ either a false
+last a r e = e ∙ sym (either-false a)
+
+-- ---- checks in turn
 
 abbrev answered {ℓ} : {X : Type ℓ} → Option ℕ → (ℕ → X) → X → X
 answered none refused accepted = accepted
@@ -75,6 +92,10 @@ abbrev pub AllNumbered : ℕ → List Check → Type 0
 AllNumbered n [] = Unit {0}
 AllNumbered n (k ∷ ks) = (k .number ≡ n) × AllNumbered n ks
 
+pub all-append : (n : ℕ) (a b : List Check) → AllNumbered n a → AllNumbered n b → AllNumbered n (a ++ b)
+all-append n [] b p q = q
+all-append n (k ∷ a) b p q = (p .0, all-append n a b (p .1) q)
+
 -- checks of one number decide as one: is some of them broken
 pub decide-same {ℓ} : {X : Type ℓ} (n : ℕ) (ks rest : List Check) (f : ℕ → X) (ok : X) → AllNumbered n ks
     → decide (ks ++ rest) f ok ≡ pick (someBroken ks) (f n) (decide rest f ok)
@@ -101,6 +122,20 @@ all-hold (k ∷ ks) e = let p = holds-first k ks e in (p .0, all-hold ks (p .1))
 pub none-broken : (ks : List Check) → AllHold ks → first ks ≡ none
 none-broken [] p = refl
 none-broken (k ∷ ks) p = simp (p .0) (none-broken ks (p .1))
+
+-- no check is broken, said as a test
+pub hold-none : (ks : List Check) → AllHold ks → someBroken ks ≡ false
+hold-none [] p = refl
+hold-none (k ∷ ks) p = simp (p .0) (hold-none ks (p .1))
+
+pub someBroken-append : (a b : List Check) → someBroken (a ++ b) ≡ either (someBroken a) (someBroken b)
+someBroken-append [] b = refl
+someBroken-append (k ∷ a) b = go (k .broken) (someBroken-append a b)
+  where
+    go : (t : Bool) → someBroken (a ++ b) ≡ either (someBroken a) (someBroken b)
+        → either t (someBroken (a ++ b)) ≡ either (either t (someBroken a)) (someBroken b)
+    go true h = refl
+    go false h = h
 
 pub all-hold-append : (a b : List Check) → AllHold (a ++ b) → AllHold a × AllHold b
 all-hold-append [] b p = (tt, p)

@@ -5,4 +5,6 @@ pub mod TableLaws
 pub mod FiniteLaws
 pub mod CheckLaws
 pub mod AnswerLaws
+pub mod WriteLaws
+pub mod CopyLaws
 pub mod FloatLaws

@@ -1,12 +1,11 @@
 -- Laws of big-endian numbers: what a number depends on, that a fetch gives it, and that the bytes of a number spell it. Assumes nothing.
 use Prim.Native.Nat.{ℕ, zero, suc, _+_, _*_, _/_, _%_, _^_, _≤_, _<_}
-use native.Mathlib.Nat.{add-zero, zero-add, add-assoc, pow-zero, pow-suc, div-lt-iff-lt-mul}
+use native.Mathlib.Nat.{add-zero, zero-add, add-assoc, mul-zero, mul-suc, pow-zero, pow-suc, div-lt-iff-lt-mul}
 use native.Mathlib.Omega.{arith}
-use native.Mathlib.Numerals.{add-one}
 use mathlib.Core.Path.{_≡_, refl, sym, ap, _∙_}
 use mathlib.Core.List.{List, [], _∷_, _++_, append-assoc}
 use lib.ListN.{length, getD, take, drop, length-append, length-drop, List·getD-append}
-use lib.Seq.{getD-drop, getD-take, getD-at, take-suc, length-take-le}
+use lib.Seq.{getD-drop, getD-take, getD-at, take-suc}
 use borrow.Author.Tests.{le-leb, lt-leb}
 use Rattle.wire.specs.Numbers.{num, fetched, nums, be, Octets}
 
@@ -18,6 +17,10 @@ fetched-whole w b p h = simp (le-leb (p + w) (length b) h)
 pub fetched-short : (w : ℕ) (b : List ℕ) (p : ℕ) → length b < p + w → fetched w b p ≡ 0
 unfolding fetched
 fetched-short w b p h = simp (lt-leb (p + w) (length b) h)
+
+-- what a fetch answered is the number there
+pub number-is : (w : ℕ) (b : List ℕ) (p r : ℕ) → r ≡ fetched w b p → p + w ≤ length b → num w b p ≡ r
+number-is w b p r e h = sym (e ∙ fetched-whole w b p h)
 
 -- ---- a number by its bytes
 pub num-one : (b : List ℕ) (p : ℕ) → num 1 b p ≡ getD b p 0
@@ -51,6 +54,24 @@ pub num-fits : (w : ℕ) (b : List ℕ) (p : ℕ) → Octets b → num w b p < 2
 unfolding num
 num-fits zero b p o = rw pow-zero (omega arith)
 num-fits (suc w) b p o = rw pow-suc (omega (arith, num-fits w b p o, o (p + w)))
+
+-- ---- a run of numbers of one width
+pub nums-length : (w : ℕ) (b : List ℕ) (p n : ℕ) → length (nums w b p n) ≡ n
+nums-length w b p zero = refl
+nums-length w b p (suc n) = ap suc (nums-length w b (p + w) n)
+
+-- number i of a run: one law for every width
+pub nums-at : (w : ℕ) (b : List ℕ) (p n i : ℕ) → i < n → getD (nums w b p n) i 0 ≡ num w b (p + i * w)
+nums-at w b p zero i h = absurd (omega arith)
+nums-at w b p (suc n) zero h = let e : p + 0 * w ≡ p = omega arith in rw e
+nums-at w b p (suc n) (suc i) h = let e : p + suc i * w ≡ p + w + i * w = omega arith in rw e (nums-at w b (p + w) n i (omega arith))
+
+pub nums-snoc : (w : ℕ) (b : List ℕ) (p n : ℕ) → nums w b p (suc n) ≡ nums w b p n ++ (num w b (p + w * n) ∷ [])
+nums-snoc w b p zero = let e : p ≡ p + w * 0 = omega (arith, mul-zero w) in ap (λ (k : ℕ). num w b k ∷ []) e
+nums-snoc w b p (suc n) =
+    let e : p + w + w * n ≡ p + w * suc n = omega (arith, mul-suc w n) in
+    ap (λ (l : List ℕ). num w b p ∷ l) (nums-snoc w b (p + w) n)
+    ∙ ap (λ (k : ℕ). num w b p ∷ (nums w b (p + w) n ++ (num w b k ∷ []))) e
 
 -- ---- the bytes of a number
 pub be-length : (w n : ℕ) → length (be w n) ≡ w

@@ -1,13 +1,13 @@
 -- The two laws between a table's bytes and what they spell, and what they need. Assumes nothing.
-use Prim.Native.Nat.{ℕ, zero, suc, _+_, _*_, _^_, _≤_, _<_}
-use native.Mathlib.Nat.{add-zero, add-assoc}
+use Prim.Native.Nat.{ℕ, zero, suc, _+_, _*_, _≤_}
+use native.Mathlib.Nat.{add-zero}
 use native.Mathlib.Omega.{arith}
 use mathlib.Core.Path.{_≡_, refl, sym, ap, _∙_}
-use mathlib.Core.List.{List, [], _∷_, _++_, append-assoc}
-use lib.ListN.{length, getD, take, drop, length-append, length-drop, take-append-drop}
-use lib.Seq.{take-at, drop-at, drop-drop, take-add, take-append-seam}
+use mathlib.Core.List.{List, [], _∷_, _++_, map, append-assoc}
+use lib.ListN.{length, take, drop, length-append, take-append-drop}
+use lib.Seq.{drop-at, drop-drop, take-add, take-append-seam}
 use Rattle.wire.specs.Numbers.{num, nums, be, Octets}
-use Rattle.wire.specs.Tables.{Field, render, total, Fit, Spells, Holds}
+use Rattle.wire.specs.Tables.{Field, field, render, total, Fit, Spells, Holds}
 use Rattle.wire.proofs.NumberLaws.{num-drop, num-fits, be-length, num-be, be-num}
 
 pub render-length : (fs : List Field) → length (render fs) ≡ total fs
@@ -59,3 +59,22 @@ spelt (f ∷ fs) b p o h s =
 pub spells-fit : (fs : List Field) (b : List ℕ) (p : ℕ) → Octets b → Spells b p fs → Fit fs
 spells-fit [] b p o s = tt
 spells-fit (f ∷ fs) b p o s = (rw (← s .0) (num-fits (f .wide) b p o), spells-fit fs b (p + f .wide) o (s .1))
+
+-- ---- a run of numbers of one width, as a table
+pub nums-spell : (w : ℕ) (b : List ℕ) (p n : ℕ) → Spells b p (map (field w) (nums w b p n))
+nums-spell w b p zero = tt
+nums-spell w b p (suc n) = (refl, nums-spell w b (p + w) n)
+
+pub spell-nums : (w : ℕ) (b : List ℕ) (p : ℕ) (xs : List ℕ) → Spells b p (map (field w) xs) → nums w b p (length xs) ≡ xs
+spell-nums w b p [] s = refl
+spell-nums w b p (x ∷ xs) s = cc (s .0, spell-nums w b (p + w) xs (s .1))
+
+pub total-run : (w : ℕ) (xs : List ℕ) → total (map (field w) xs) ≡ length xs * w
+total-run w [] = omega arith
+total-run w (x ∷ xs) = omega (arith, total-run w xs)
+
+-- ---- tables one after the other
+pub render-append : (fs gs : List Field) → render (fs ++ gs) ≡ render fs ++ render gs
+render-append [] gs = refl
+render-append (f ∷ fs) gs =
+    ap (λ (l : List ℕ). be (f .wide) (f .value) ++ l) (render-append fs gs) ∙ sym (append-assoc (be (f .wide) (f .value)) (render fs) (render gs))

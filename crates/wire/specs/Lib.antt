@@ -4,3 +4,4 @@ pub mod Tables
 pub mod Checks
 pub mod Answers
 pub mod Sizes
+pub mod Writing

@@ -5,6 +5,7 @@ ghost use lib.ListN.{length};
 ghost use lib.Ieee.{binary32, ofBits};
 ghost use Rattle.wire.specs.Numbers.{num, fetched};
 ghost use Rattle.wire.specs.Sizes.{halved};
+ghost use Rattle.wire.specs.Writing.{copied};
 
 pub mod refusal;
 
@@ -17,6 +18,12 @@ pub fn to_halfwords(size: Bytes) -> Halfwords
     ensures { λ r. ⌜ r ≡ halved size ⌝ }
 {
     Halfwords(size.0 / 2)
+}
+
+// What a writer answers: the length of what it wrote, or the refusal.
+pub enum WriteAnswer {
+    Written(Bytes),
+    Refused(u8),
 }
 
 fn wide16(x: u8) -> u16
@@ -79,6 +86,27 @@ pub fn fetch32(b: &[u8], at: u32) -> u32
         return whole32(b, place);
     }
     0
+}
+
+// One part onto another of the same length. Parts of different lengths are left alone.
+pub fn copy(from: &[u8], to: &mut [u8])
+    ensures { λ r. ⌜ now (to .exit) ≡ copied (now (from .entry)) (now (to .entry)) ⌝ }
+{
+    if from.len() != to.len() {
+        return;
+    }
+    copy_all(from, to);
+}
+
+fn copy_all(from: &[u8], to: &mut [u8])
+    requires { ⌜ length (now from) ≡ length (now to) ⌝ }
+    ensures { λ r. ⌜ now (to .exit) ≡ now (from .entry) ⌝ }
+{
+    let mut i = 0;
+    while i < to.len() {
+        to[i] = from[i];
+        i += 1;
+    }
 }
 
 // An infinity's 32 bits without the sign; above them lie the patterns of NaN. The sign's weight.

@@ -2,19 +2,18 @@
 use Prim.Native.Nat.{ℕ, _+_, _*_, _≤_}
 use native.Mathlib.Omega.{arith}
 use mathlib.Core.Path.{_≡_, refl, sym, ap, _∙_}
-use mathlib.Core.List.{List, [], _∷_, _++_}
+use mathlib.Core.List.{List, [], _∷_}
 use lib.Dec.{ltb}
-use lib.ListN.{length, drop}
+use lib.ListN.{length}
 use Rattle.wire.specs.Checks.{pick, check, someBroken}
-use Rattle.wire.specs.Answers.{given, Outcome, refusal, Promise}
-use Rattle.wire.specs.Sizes.{bytes, odd}
+use Rattle.wire.specs.Answers.{Outcome, refusal}
+use Rattle.wire.specs.Writing.{wrote}
+use Rattle.wire.specs.Sizes.{odd}
 use Rattle.wire.specs.declared.Bytes.{Bytes}
 use Rattle.wire.proofs.CheckLaws.{decide-same}
 use Rattle.message.specs.Header.{notPermitted, timeChecks}
 use Rattle.writer.specs.declared.Given.{Given}
-use Rattle.writer.specs.declared.WriteAnswer.{WriteAnswer}
 use Rattle.writer.specs.Writing.{segmentsOf, framesOf, longest, writeOf}
-use Rattle.writer.specs.Promises.{tellWrite}
 use Rattle.writer.proofs.CutLaws.{segments-joined, count-most}
 use Rattle.writer.proofs.FrameLaws.{frames-length}
 
@@ -24,29 +23,20 @@ message-length g body =
     let parts = segmentsOf (g .kind) body in
     frames-length g (length parts) 1 parts ∙ ap (λ (l : List ℕ). length l + 28 * length parts) (segments-joined (g .kind) body)
 
--- the outcome where nothing is refused
-abbrev pub accepted : Given → List ℕ → List ℕ → Outcome Bytes
-accepted g body out = record { answer = given (bytes (length (framesOf g body))); output = framesOf g body ++ drop (length (framesOf g body)) out }
-
 pub write-decides : (g : Given) (body out : List ℕ)
     → writeOf g body out
     ≡ pick (notPermitted (g .kind)) (refusal out 6)
     (pick (someBroken (timeChecks (g .date) (g .milliseconds))) (refusal out 8)
     (pick (odd (length body)) (refusal out 25)
     (pick (ltb (longest (g .kind) .0) (length body)) (refusal out 26)
-    (pick (ltb (length out) (length (framesOf g body))) (refusal out 13) (accepted g body out)))))
+    (pick (ltb (length out) (length (framesOf g body))) (refusal out 13) (wrote (framesOf g body) out)))))
 unfolding writeOf
 write-decides g body out =
     let last =
     check 25 (odd (length body)) ∷ check 26 (ltb (longest (g .kind) .0) (length body)) ∷ check 13 (ltb (length out) (length (framesOf g body))) ∷ []
     in
     ap (λ (x : Outcome Bytes). pick (notPermitted (g .kind)) (refusal out 6) x)
-    (decide-same 8 (timeChecks (g .date) (g .milliseconds)) last (refusal out) (accepted g body out) (refl, (refl, tt)))
-
--- the promise, from the whole outcome
-pub promised : (r : WriteAnswer) (after : List ℕ) (right : Outcome Bytes) → right ≡ record { answer = tellWrite r; output = after }
-    → Promise tellWrite right r after
-promised r after right e = rw e (record { answers = refl; leaves = refl })
+    (decide-same 8 (timeChecks (g .date) (g .milliseconds)) last (refusal out) (wrote (framesOf g body) out) (refl, (refl, tt)))
 
 -- the length as it is computed
 pub whole-is : (g : Given) (body : List ℕ) (n : ℕ) → n ≡ length (segmentsOf (g .kind) body) → length body + 28 * n ≡ length (framesOf g body)

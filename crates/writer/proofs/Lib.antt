@@ -1,5 +1,4 @@
 -- What the crates above cite of written frames.
-pub mod CopyLaws
 pub mod CutLaws
 pub mod FrameLaws
 pub mod LoopLaws

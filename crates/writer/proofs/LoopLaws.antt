@@ -7,6 +7,7 @@ use lib.Dec.{eqb}
 use lib.ListN.{length, take, drop, length-append, length-drop, drop-of-length-le}
 use lib.Seq.{take-at, drop-at, drop-drop, length-take-le}
 use Rattle.wire.specs.Checks.{pick}
+use Rattle.wire.specs.Writing.{filled}
 use Rattle.wire.proofs.ListLaws.{part-is}
 use Rattle.writer.specs.declared.Given.{Given}
 use Rattle.writer.specs.Writing.{cut, segmentsOf, frameOf, framesFrom, framesOf}
@@ -154,7 +155,7 @@ module _ (given : Given) (n : ℕ) (body out₀ out : List ℕ) (k start place :
     pub ends : (last : List ℕ)
         → last ≡ frameOf given n k (take (length body - start) (drop start body))
         ++ drop (28 + length (take (length body - start) (drop start body))) (take (length out - place) (drop place out))
-        → take place out ++ (last ++ drop (length out - place) (drop place out)) ≡ framesOf given body ++ drop (length (framesOf given body)) out₀
+        → take place out ++ (last ++ drop (length out - place) (drop place out)) ≡ filled (framesOf given body) out₀
     unfolding framesFrom
     ends last f =
         let part = take (length body - start) (drop start body) in

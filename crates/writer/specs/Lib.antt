@@ -1,4 +1,3 @@
 -- Frames written, as document 01 has it under "Writing".
 pub mod Writing
-pub mod Promises
 pub mod Cases

@@ -5,7 +5,8 @@ use lib.Dec.{ltb, eqb}
 use lib.ListN.{length, take, drop}
 use Rattle.wire.specs.Tables.{render}
 use Rattle.wire.specs.Checks.{pick, Check, check}
-use Rattle.wire.specs.Answers.{Outcome, outcome}
+use Rattle.wire.specs.Answers.{Outcome}
+use Rattle.wire.specs.Writing.{written}
 use Rattle.wire.specs.Sizes.{bytes, halved, odd}
 use Rattle.wire.specs.declared.Bytes.{Bytes}
 use Rattle.frame.specs.Session.{headTable, dataKind, sessionLimit}
@@ -68,18 +69,15 @@ longestRadial = bytes (sessionLimit .0 - headerSize)
 abbrev pub longest : ℕ → Bytes
 longest kind = pick (eqb kind radialType) longestRadial longestBody
 
--- "Frame writer: 6, 8, 25, 26, 13."
-abbrev pub writeChecks : Given → List ℕ → ℕ → List Check
-writeChecks given body room =
+-- "Frame writer: 6, 8, 25, 26, 13.": those before 13
+abbrev pub writeChecks : Given → List ℕ → List Check
+writeChecks given body =
     check 6 (notPermitted (given .kind))
     ∷ timeChecks (given .date) (given .milliseconds)
     ++ (check 25 (odd (length body))
     ∷ check 26 (ltb (longest (given .kind) .0) (length body))
-    ∷ check 13 (ltb room (length (framesOf given body)))
     ∷ [])
 
--- what the writer answers, the length of what it wrote, and the output then: "fills its output from the start, .. and leaves the rest"
+-- what the writer answers, and the output then
 unfoldable pub writeOf : Given → List ℕ → List ℕ → Outcome Bytes
-writeOf given body out =
-    outcome (writeChecks given body (length out)) out (bytes (length (framesOf given body)))
-    (framesOf given body ++ drop (length (framesOf given body)) out)
+writeOf given body out = written (writeChecks given body) (framesOf given body) out

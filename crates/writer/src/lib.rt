@@ -4,9 +4,10 @@ ghost use mathlib.Core.List.{_++_};
 ghost use Prim.Native.Nat.{_+_, _≤_, _<_};
 ghost use lib.ListN.{length, drop};
 ghost use Rattle.wire.specs.Answers.{Promise};
+ghost use Rattle.wire.specs.Writing.{filled, tellWrite};
 ghost use Rattle.writer.specs.Writing.{segmentsOf, heads, frameOf, framesOf, longest, writeOf};
-ghost use Rattle.writer.specs.Promises.{tellWrite};
 use wire::Bytes;
+use wire::WriteAnswer;
 use wire::refusal;
 
 // What every segment repeats. `kind` is the type of Table I, a word that the language keeps for itself.
@@ -16,11 +17,6 @@ pub struct Given {
     pub sequence: u16,
     pub date: u16,
     pub milliseconds: u32,
-}
-
-pub enum WriteAnswer {
-    Written(Bytes),
-    Refused(u8),
 }
 
 const DATA_KIND: u8 = 2;
@@ -88,7 +84,7 @@ fn segments_of(kind: u8, body: &[u8]) -> usize
 // All frames from the start of the output, which has room for them.
 fn write_frames(given: Given, n: u16, body: &[u8], out: &mut [u8])
     requires { ⌜ (n ≡ length (segmentsOf (given .kind) (now body))) × (length (now body) ≤ 307200) × (length (framesOf given (now body)) ≤ length (now out)) ⌝ }
-    ensures { λ r. ⌜ now (out .exit) ≡ framesOf given (now (body .entry)) ++ drop (length (framesOf given (now (body .entry)))) (now (out .entry)) ⌝ }
+    ensures { λ r. ⌜ now (out .exit) ≡ filled (framesOf given (now (body .entry))) (now (out .entry)) ⌝ }
 {
     let mut k: u16 = 1;
     let mut start = 0;
@@ -110,8 +106,8 @@ fn write_frame(given: Given, n: u16, k: u16, part: &[u8], out: &mut [u8])
 {
     let head = heads_of(given, n, k, Bytes(HEADER + part.len() as u32));
     let end = HEADS + part.len();
-    copy(&head, &mut out[..HEADS]);
-    copy(part, &mut out[HEADS..end]);
+    wire::copy(&head, &mut out[..HEADS]);
+    wire::copy(part, &mut out[HEADS..end]);
 }
 
 // The bytes before the data of segment k of n, which is a message of `size` with its header.
@@ -152,16 +148,4 @@ fn heads_of(given: Given, n: u16, k: u16, size: Bytes) -> [u8; 28]
         (k / 256 % 256) as u8,
         (k % 256) as u8,
     ]
-}
-
-// One part onto another of the same length.
-fn copy(from: &[u8], to: &mut [u8])
-    requires { ⌜ length (now from) ≡ length (now to) ⌝ }
-    ensures { λ r. ⌜ now (to .exit) ≡ now (from .entry) ⌝ }
-{
-    let mut i = 0;
-    while i < from.len() {
-        to[i] = from[i];
-        i += 1;
-    }
 }

@@ -2,7 +2,7 @@ use native.Mathlib.Omega.{arith}
 use denote.Ref.{now}
 use borrow.Author.Needs.{needs}
 use lib.ListN.{length-set}
-use Rattle.clutter.proofs.Halfwords.{two-stored}
+use Rattle.wire.proofs.ListLaws.{two-stored}
 use Rattle.clutter.proofs.put.Statement.{statement}
 use Rattle.clutter.proofs.put.Tie as tie
 

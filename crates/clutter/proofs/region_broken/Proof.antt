@@ -4,7 +4,8 @@ use denote.Ref.{now}
 use borrow.Author.Needs.{needs}
 use lib.ListN.{take}
 use Rattle.clutter.specs.Censor.{region}
-use Rattle.clutter.proofs.Regions.{fieldsThen, hit, miss, last}
+use Rattle.wire.proofs.CheckLaws.{hit, miss, last}
+use Rattle.clutter.proofs.Regions.{fieldsThen}
 use Rattle.clutter.proofs.region_broken.Statement.{statement}
 use Rattle.clutter.proofs.region_broken.Tie as tie
 

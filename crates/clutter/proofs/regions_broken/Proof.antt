@@ -8,7 +8,8 @@ use lib.ListN.{drop}
 use Rattle.wire.specs.Checks.{either, someBroken}
 use Rattle.wire.proofs.ListLaws.{part-is}
 use Rattle.clutter.specs.Censor.{region, fieldChecks, regionsChecks}
-use Rattle.clutter.proofs.Regions.{hit, miss, one-more, no-more, all-left}
+use Rattle.wire.proofs.CheckLaws.{hit, miss}
+use Rattle.clutter.proofs.Regions.{one-more, no-more, all-left}
 use Rattle.clutter.proofs.regions_broken.Statement.{statement}
 use Rattle.clutter.proofs.regions_broken.Tie as tie
 

@@ -6,7 +6,8 @@ use borrow.Author.Needs.{needs}
 use Rattle.wire.specs.Checks.{someBroken}
 use Rattle.wire.proofs.ListLaws.{part-is}
 use Rattle.clutter.specs.Censor.{regionsChecks, count, fields}
-use Rattle.clutter.proofs.StepLaws.{kept, list-empty, list-high, list-misfits, list-broken, list-room, list-written}
+use Rattle.wire.proofs.AnswerLaws.{kept}
+use Rattle.clutter.proofs.StepLaws.{list-empty, list-high, list-misfits, list-broken, list-room, list-written}
 use Rattle.clutter.proofs.write_censor.Statement.{statement}
 use Rattle.clutter.proofs.write_censor.Tie as tie
 
@@ -19,13 +20,13 @@ told-is c =
     ap (λ (x : List ℕ). someBroken (regionsChecks (count l) x)) (sym (part-is l 1)) ∙ sym (c .regions-broken .ensures)
 
 returns : tie.Need-returns
-returns c = kept _ _ _ _ _ (list-empty _ _ (c .if1 .taken)) refl refl
+returns c = kept _ _ _ _ _ (list-empty _ _ (c .if1 .taken)) refl
 
 shared-slice-read-count : tie.Need-shared-slice-read-count
 shared-slice-read-count c = search needs
 
 returns-2 : tie.Need-returns-2
-returns-2 c = kept _ _ _ _ _ (list-high _ _ (c .before .before .if1 .left) (c .if2 .taken)) refl refl
+returns-2 c = kept _ _ _ _ _ (list-high _ _ (c .before .before .if1 .left) (c .if2 .taken)) refl
 
 cast-n : tie.Need-cast-n
 cast-n c = search needs
@@ -37,7 +38,7 @@ add-if3 : tie.Need-add-if3
 add-if3 c = search needs
 
 returns-3 : tie.Need-returns-3
-returns-3 c = kept _ _ _ _ _ (list-misfits _ _ (c .before .before .before .if1 .left) (c .before .if2 .left) (c .if3 .taken)) refl refl
+returns-3 c = kept _ _ _ _ _ (list-misfits _ _ (c .before .before .before .if1 .left) (c .before .if2 .left) (c .if3 .taken)) refl
 
 sub-regions-broken : tie.Need-sub-regions-broken
 sub-regions-broken c = search needs
@@ -52,7 +53,7 @@ regions-broken-requires : tie.Need-regions-broken-requires
 regions-broken-requires c κs = search needs
 
 returns-4 : tie.Need-returns-4
-returns-4 c = kept _ _ _ _ _ (list-broken _ _ (c .before .before .before .before .if2 .left) (c .before .before .before .if3 .left) (told-is (c .before) ∙ c .if4 .taken)) refl refl
+returns-4 c = kept _ _ _ _ _ (list-broken _ _ (c .before .before .before .before .if2 .left) (c .before .before .before .if3 .left) (told-is (c .before) ∙ c .if4 .taken)) refl
 
 mul-size : tie.Need-mul-size
 mul-size c = search needs
@@ -61,16 +62,19 @@ add-size : tie.Need-add-size
 add-size c = search needs
 
 returns-5 : tie.Need-returns-5
-returns-5 c = kept _ _ _ _ _ (list-room _ _ (c .before .before .before .before .before .if2 .left) (c .before .before .before .before .if3 .left) (told-is (c .before .before) ∙ c .before .if4 .left) (c .if5 .taken)) refl refl
+returns-5 c = kept _ _ _ _ _ (list-room _ _ (c .before .before .before .before .before .if2 .left) (c .before .before .before .before .if3 .left) (told-is (c .before .before) ∙ c .before .if4 .left) (c .if5 .taken)) refl
 
 put-all-requires : tie.Need-put-all-requires
 put-all-requires c κs = search needs
+
+cast-t20 : tie.Need-cast-t20
+cast-t20 c = search needs
 
 same-length : tie.Need-same-length
 same-length c = search needs
 
 returns-6 : tie.Need-returns-6
-returns-6 c = kept _ _ _ _ _ (list-written _ _ (c .before .before .before .before .before .before .before .before .before .if2 .left) (c .before .before .before .before .before .before .before .before .if3 .left) (told-is (c .before .before .before .before .before .before) ∙ c .before .before .before .before .before .if4 .left) (c .before .before .before .before .if5 .left)) refl (c .before .before .put-all .ensures)
+returns-6 c = kept _ _ _ _ _ (list-written _ _ (c .before .before .before .before .before .before .before .before .before .if2 .left) (c .before .before .before .before .before .before .before .before .if3 .left) (told-is (c .before .before .before .before .before .before) ∙ c .before .before .before .before .before .if4 .left) (c .before .before .before .before .if5 .left)) (c .before .before .put-all .ensures)
 
 pub write-censor-spec : {M : Type 1} → statement M
 write-censor-spec =
@@ -92,5 +96,6 @@ write-censor-spec =
     add-size
     returns-5
     put-all-requires
+    cast-t20
     same-length
     returns-6)

@@ -1,8 +1,7 @@
 use mathlib.Core.Path.{sym}
 use borrow.Author.Tests.{eq-eqb, ne-eqb}
-use Rattle.wire.proofs.CheckLaws.{either-false}
+use Rattle.wire.proofs.CheckLaws.{either-false, hit, miss}
 use Rattle.request.specs.Request.{isPermitted}
-use Rattle.request.proofs.StepLaws.{hit, miss}
 use Rattle.request.proofs.permits.Statement.{statement}
 use Rattle.request.proofs.permits.Tie as tie
 

@@ -2,7 +2,7 @@ use native.Mathlib.Omega.{arith}
 use denote.Ref.{now}
 use borrow.Author.Needs.{needs}
 use lib.ListN.{length-set}
-use Rattle.request.proofs.StepLaws.{two-stored}
+use Rattle.wire.proofs.ListLaws.{two-stored}
 use Rattle.request.proofs.put.Statement.{statement}
 use Rattle.request.proofs.put.Tie as tie
 
@@ -16,7 +16,7 @@ same-length : tie.Need-same-length
 same-length c = search needs
 
 returns : tie.Need-returns
-returns c = two-stored (now (c .args .out)) _ _ (c .pre)
+returns c = two-stored 0 (now (c .args .out)) _ _ (c .pre)
 
 pub put-spec : {M : Type 1} → statement M
 put-spec = tie.close (tie.spec slice-write-out slice-write-out-2 same-length returns)

@@ -5,13 +5,12 @@ use mathlib.Core.List.{_++_}
 use mathlib.Core.Path.{_≡_, refl}
 use Prim.Native.Nat.{ℕ, _-_, _≤_}
 use Rattle.sets.specs.Arrays.{partsLong, parts}
-use Rattle.sets.proofs.ArrayLaws.{long-more, long-next, join-fits, join-more, join-long, joined-is}
+use Rattle.sets.proofs.ArrayLaws.{long-more, long-next, join-more, join-long, joined-is}
 use borrow.Author.Needs.{needs}
 use Rattle.sets.proofs.join.Statement.{statement}
 use Rattle.sets.proofs.join.Tie as tie
 use Rattle.sets.proofs.join.Reads as reads
 use Rattle.sets.proofs.join.Lts as lts
-use Rattle.sets.proofs.copy.Reads as copy-reads
 
 abbrev Inv-loop : tie.InvT-loop
 Inv-loop frames starts ends n out₀ place₀ k₀ out place k = (k ≤ n) × (place ≡ partsLong starts ends k) × (length out ≡ length out₀) × (out ≡ parts frames starts ends k ++ drop place out₀)
@@ -74,7 +73,7 @@ part-copy-end-2 c = omega (arith, c .before .before .before .before .before .bef
 
 -- src/lib.rt:241:9
 copy-requires : tie.Need-copy-requires Inv-loop μ-loop
-copy-requires c κs = join-fits _ _ _ (c .before .before .before .before .before .before .before .before .pre .1) (c .before .before .before .before .before .before .before .before .pre .2) _ _ (omega arith) (c .before .before .before .before .before .before .before .before .pre .0) _ _ (c .before .before .before .before .before .before .before .before .pre .3) _ (c .before .before .before .before .before .loop .inv .1) (c .before .before .before .before .before .loop .inv .2) (c .before .before .before .before .before .loop .inv .3)
+copy-requires c κs = search needs
 
 -- src/lib.rt:243:9
 add-k : tie.Need-add-k Inv-loop μ-loop

@@ -2,8 +2,9 @@
 use Rattle.writer.proofs.FrameLaws.{heads-length, frame-done}
 use denote.Ref.{now}
 use lib.Seq.{length-take-le}
-use lib.ListN.{length}
-use mathlib.Core.Path.{sym, ap, _∙_}
+use lib.ListN.{length, take}
+use mathlib.Core.Path.{_≡_, sym, ap, _∙_}
+use Rattle.wire.proofs.CopyLaws.{copied-same}
 use borrow.Author.Needs.{needs}
 use Rattle.writer.proofs.write_frame.Statement.{statement}
 use Rattle.writer.proofs.write_frame.Tie as tie
@@ -30,9 +31,7 @@ slice-aggregate-copy-2 : tie.Need-slice-aggregate-copy-2
 slice-aggregate-copy-2 c = sym (length-take-le 28 (now (c .before .before .before .before .before .args .out)) (search needs))
 
 copy-requires : tie.Need-copy-requires
-copy-requires c κs =
-    ap length (c .before .before .heads-of .ensures) ∙ heads-length _ _ _ _
-    ∙ sym (length-take-le 28 (now (c .before .before .before .before .before .args .out)) (search needs))
+copy-requires c κs = search needs
 
 sub-copy : tie.Need-sub-copy
 sub-copy c = search needs
@@ -51,9 +50,14 @@ same-length c = search needs
 
 returns : tie.Need-returns
 returns c =
+    let s = c .before .before .before .before .before .before .before in
+    let out = now (s .before .before .before .before .before .args .out) in
+    let l : length (s .before .before .heads-of .result) ≡ length (take 28 out) =
+    ap length (s .before .before .heads-of .ensures) ∙ heads-length _ _ _ _ ∙ sym (length-take-le 28 out (search needs))
+    in
     frame-done _ _ _ _ _ _ _
-    (c .before .before .before .before .before .before .copy .ensures ∙ c .before .before .before .before .before .before .before .before .before .heads-of .ensures)
-    (c .before .before .copy2 .ensures)
+    (c .before .before .before .before .before .before .copy .ensures ∙ copied-same _ _ l ∙ s .before .before .heads-of .ensures)
+    (c .before .before .copy2 .ensures ∙ copied-same _ _ (search needs))
 
 pub write-frame-spec : {M : Type 1} → statement M
 write-frame-spec =

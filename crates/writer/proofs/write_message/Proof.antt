@@ -1,8 +1,11 @@
 -- `write_message` meets its contract: one test for each number, in the rule's order. Assumes nothing.
-use Rattle.writer.proofs.EntryLaws.{whole-is, most, write-decides, promised}
-use Rattle.writer.specs.declared.WriteAnswer.the-variants.{Refused}
+use Rattle.writer.proofs.EntryLaws.{whole-is, most, write-decides}
+use Rattle.wire.specs.declared.WriteAnswer.the-variants.{Refused}
+use Rattle.wire.specs.Writing.{filled, tellWrite}
+use Rattle.wire.proofs.AnswerLaws.{kept}
+use Rattle.writer.specs.Writing.{framesOf}
 use borrow.Author.Tests.{lt-ltb, le-ltb, eq-eqb, ne-eqb}
-use mathlib.Core.Path.{_∙_}
+use mathlib.Core.Path.{refl, _∙_}
 use native.Mathlib.Omega.{arith}
 use denote.Ref.{now}
 use borrow.Author.Needs.{needs}
@@ -15,12 +18,13 @@ breaks-type-requires c κs = search needs
 returns : tie.Need-returns
 returns c =
     let a = c .before .before .before .before .args in
-    promised (Refused 6) (now (a .out)) _
+    kept tellWrite _ (Refused 6) _ (now (a .out))
     (write-decides (a .given) (now (a .body)) (now (a .out))
     ∙ simp (
       ← c .before .breaks-type .ensures,
       c .if1 .taken,
     ))
+    refl
 
 breaks-time-requires : tie.Need-breaks-time-requires
 breaks-time-requires c κs = search needs
@@ -28,7 +32,7 @@ breaks-time-requires c κs = search needs
 returns-2 : tie.Need-returns-2
 returns-2 c =
     let a = c .before .before .before .before .before .before .args in
-    promised (Refused 8) (now (a .out)) _
+    kept tellWrite _ (Refused 8) _ (now (a .out))
     (write-decides (a .given) (now (a .body)) (now (a .out))
     ∙ simp (
       ← c .before .before .before .breaks-type .ensures,
@@ -36,11 +40,12 @@ returns-2 c =
       ← c .before .breaks-time .ensures,
       c .if2 .taken,
     ))
+    refl
 
 returns-3 : tie.Need-returns-3
 returns-3 c =
     let a = c .before .before .before .before .before .before .before .args in
-    promised (Refused 25) (now (a .out)) _
+    kept tellWrite _ (Refused 25) _ (now (a .out))
     (write-decides (a .given) (now (a .body)) (now (a .out))
     ∙ simp (
       ← c .before .before .before .before .breaks-type .ensures,
@@ -49,6 +54,7 @@ returns-3 c =
       c .before .if2 .left,
       ne-eqb _ _ (c .if3 .taken),
     ))
+    refl
 
 longest-of-requires : tie.Need-longest-of-requires
 longest-of-requires c κs = search needs
@@ -56,7 +62,7 @@ longest-of-requires c κs = search needs
 returns-4 : tie.Need-returns-4
 returns-4 c =
     let a = c .before .before .before .before .before .before .before .before .before .args in
-    promised (Refused 26) (now (a .out)) _
+    kept tellWrite _ (Refused 26) _ (now (a .out))
     (write-decides (a .given) (now (a .body)) (now (a .out))
     ∙ simp (
       ← c .before .before .before .before .before .before .breaks-type .ensures,
@@ -67,6 +73,7 @@ returns-4 c =
       ← c .before .longest-of .ensures,
       lt-ltb _ _ (c .if4 .taken),
     ))
+    refl
 
 segments-of-requires : tie.Need-segments-of-requires
 segments-of-requires c κs = search needs
@@ -84,7 +91,7 @@ add-whole c =
 returns-5 : tie.Need-returns-5
 returns-5 c =
     let a = c .before .before .before .before .before .before .before .before .before .before .before .args in
-    promised (Refused 13) (now (a .out)) _
+    kept tellWrite _ (Refused 13) _ (now (a .out))
     (write-decides (a .given) (now (a .body)) (now (a .out))
     ∙ simp (
       ← c .before .before .before .before .before .before .before .before .breaks-type .ensures,
@@ -97,6 +104,7 @@ returns-5 c =
       ← whole-is (a .given) (now (a .body)) _ (c .before .segments-of .ensures),
       lt-ltb _ _ (c .if5 .taken),
     ))
+    refl
 
 cast-write-frames : tie.Need-cast-write-frames
 cast-write-frames c =
@@ -122,7 +130,7 @@ same-length c = search needs
 returns-6 : tie.Need-returns-6
 returns-6 c =
     let a = c .before .before .before .before .before .before .before .before .before .before .before .before .before .before .before .args in
-    promised _ _ _
+    kept tellWrite _ _ _ (filled (framesOf (a .given) (now (a .body))) (now (a .out)))
     (write-decides (a .given) (now (a .body)) (now (a .out))
     ∙ simp (
       ← c .before .before .before .before .before .before .before .before .before .before .before .before .breaks-type .ensures,
@@ -134,8 +142,8 @@ returns-6 c =
       le-ltb _ _ (c .before .before .before .before .before .before .if4 .left),
       ← whole-is (a .given) (now (a .body)) _ (c .before .before .before .before .before .segments-of .ensures),
       le-ltb _ _ (c .before .before .before .before .if5 .left),
-      c .before .before .write-frames .ensures,
     ))
+    (c .before .before .write-frames .ensures)
 
 pub write-message-spec : {M : Type 1} → statement M
 write-message-spec =

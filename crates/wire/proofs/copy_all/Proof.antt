@@ -1,16 +1,16 @@
--- `copy` meets its contract: a turn of its loop copies one byte more. Assumes nothing.
-use Rattle.writer.proofs.CopyLaws.{Copied, copy-turn, copy-end}
+-- `copy_all` meets its contract: a turn of its loop copies one byte more. Assumes nothing.
+use Rattle.wire.proofs.CopyLaws.{Copied, copy-turn, copy-end}
 use lib.ListN.{length}
 use Prim.Native.Nat.{_-_}
 use borrow.Author.Needs.{needs}
-use Rattle.writer.proofs.copy.Statement.{statement}
-use Rattle.writer.proofs.copy.Tie as tie
+use Rattle.wire.proofs.copy_all.Statement.{statement}
+use Rattle.wire.proofs.copy_all.Tie as tie
 
 abbrev Inv-loop : tie.InvT-loop
 Inv-loop from to₀ i₀ to i = Copied from to₀ to i
 
 abbrev μ-loop : tie.MeasureT-loop
-μ-loop from to₀ i₀ to i = length from - i
+μ-loop from to₀ i₀ to i = length to₀ - i
 
 loop-holds : tie.Need-loop-holds Inv-loop μ-loop
 loop-holds c = search needs
@@ -36,8 +36,8 @@ same-length c = search needs
 returns : tie.Need-returns Inv-loop μ-loop
 returns c = copy-end _ _ _ _ (search needs) (c .before .loop .inv) (search needs)
 
-pub copy-spec : {M : Type 1} → statement M
-copy-spec =
+pub copy-all-spec : {M : Type 1} → statement M
+copy-all-spec =
     tie.close
     (tie.spec
     Inv-loop

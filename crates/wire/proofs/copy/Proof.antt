@@ -1,0 +1,21 @@
+-- `copy` meets its contract: one test of the lengths, then the loop. Assumes nothing.
+use mathlib.Core.Path.{sym, _∙_}
+use borrow.Author.Needs.{needs}
+use Rattle.wire.proofs.CopyLaws.{copied-same, copied-other}
+use Rattle.wire.proofs.copy.Statement.{statement}
+use Rattle.wire.proofs.copy.Tie as tie
+
+returns : tie.Need-returns
+returns c = sym (copied-other _ _ (c .if1 .taken))
+
+copy-all-requires : tie.Need-copy-all-requires
+copy-all-requires c κs = search needs
+
+same-length : tie.Need-same-length
+same-length c = search needs
+
+returns-2 : tie.Need-returns-2
+returns-2 c = c .before .before .copy-all .ensures ∙ sym (copied-same _ _ (search needs))
+
+pub copy-spec : {M : Type 1} → statement M
+copy-spec = tie.close (tie.spec returns copy-all-requires same-length returns-2)
