@@ -5,7 +5,7 @@ use mathlib.Core.Option.{Option, none, some}
 use mathlib.Core.List.{List, [], _∷_, _++_, append-nil}
 use native.Mathlib.Omega.{arith}
 use Rattle.wire.specs.Numbers.{num, be}
-use Rattle.wire.specs.Answers.{Answer, refused, given}
+use Rattle.wire.specs.Answers.{Answer, refused, given, Outcome, Promise}
 use Rattle.wire.proofs.NumberLaws.{num-be}
 use Rattle.wire.proofs.CheckLaws.{never}
 use Rattle.description.specs.Description.{momentHead, Moment, Description, gates, wordBytes, gateBytes}
@@ -19,6 +19,7 @@ use Rattle.ulm.specs.declared.UlmRadial.{UlmRadial}
 use Rattle.ulm.specs.declared.UlmBlock.{UlmBlock}
 use Rattle.ulm.specs.declared.UlmGates.{UlmGates}
 use Rattle.ulm.specs.Radials.{radialFace, noBlock, constantFace, lyingFace, blockFace, gatesFace}
+use Rattle.ulm.specs.Lent.{Leaves}
 use Rattle.ulm.specs.Steps.{headFace}
 
 -- ---- a name as four bytes
@@ -158,3 +159,8 @@ pub block-refused : (a : Answer Asked) (n : ℕ) → _≡_ {A = Answer (Option T
 block-refused (refused k) n e = let p : n ≡ k = cc e in ap noBlock p
 block-refused (given noSuch) n e = never (cc e)
 block-refused (given (lies l)) n e = never (cc e)
+
+-- ---- lent memory: a promise of the library, told by `tell`, is the promise to C
+pub leaves-of : {R S A : Type 0} (tell : S → Answer A) (face : Answer A → R) (right : Outcome A) (s : S) (r : R) (after : List ℕ) → Promise tell right s after
+    → r ≡ face (tell s) → Leaves face right r after
+leaves-of tell face right s r after p e = record { answers = e ∙ ap face (p .answers); leaves = p .leaves }

@@ -1,8 +1,8 @@
 -- Messages 8, 9 and 15 as C receives them, and what every writer answers. "On a refusal every other field is 0."
 use Prim.Native.Nat.{ℕ}
 use mathlib.Core.List.{List}
-use mathlib.Core.Path.{_≡_}
-use Rattle.wire.specs.Answers.{Answer, refused, given, Outcome}
+use Rattle.wire.specs.Answers.{Answer, refused, given}
+use Rattle.wire.specs.declared.Bytes.{Bytes}
 use Rattle.clutter.specs.Promises.{shown}
 use Rattle.map.specs.Reading.{Summary}
 use Rattle.ulm.specs.declared.UlmWritten.{UlmWritten}
@@ -11,14 +11,9 @@ use Rattle.ulm.specs.declared.UlmCensor.{UlmCensor}
 use Rattle.ulm.specs.declared.UlmMap.{UlmMap}
 use Rattle.ulm.specs.declared.UlmMapCode.{UlmMapCode}
 
--- the promise of an entry that lends: the struct, and what then stands in the output
-pub record Leaves {R : Type 0} (right : R) (output : List ℕ) (r : R) (after : List ℕ) : Type 0 where
-  pub answers : r ≡ right
-  pub leaves : after ≡ output
-
-abbrev pub writtenFace : Answer ℕ → UlmWritten
+abbrev pub writtenFace : Answer Bytes → UlmWritten
 writtenFace (refused n) = record { refusal = n; length = 0 }
-writtenFace (given long) = record { refusal = 0; length = long }
+writtenFace (given long) = record { refusal = 0; length = long .0 }
 
 abbrev pub requestFace : Answer ℕ → UlmRequest
 requestFace (refused n) = record { refusal = n; code = 0 }

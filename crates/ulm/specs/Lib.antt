@@ -1,4 +1,5 @@
 -- Each answer of the library as the struct that C receives.
+pub mod Lent
 pub mod Frames
 pub mod Radials
 pub mod Bodies

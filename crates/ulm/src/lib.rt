@@ -11,10 +11,14 @@ ghost use Rattle.gate.specs.Promises.{tellGate};
 ghost use Rattle.request.specs.Request.{requestOf, requestWritten};
 ghost use Rattle.clutter.specs.Censor.{censorOf, censorWritten};
 ghost use Rattle.map.specs.Reading.{summaryOf, codeOf};
-ghost use Rattle.ulm.specs.Frames.{noFrame, frameFace, headerFace};
+ghost use Rattle.segments.specs.Walk.{setOf};
+ghost use Rattle.writer.specs.Writing.{writeOf};
+ghost use Rattle.wire.specs.Writing.{tellWrite};
+ghost use Rattle.ulm.specs.Lent.{Leaves};
+ghost use Rattle.ulm.specs.Frames.{noFrame, frameFace, headerFace, setFace};
 ghost use Rattle.ulm.specs.Radials.{radialFace, noBlock, constantFace, blockFace, gatesFace, worthFace};
 ghost use Rattle.ulm.specs.Steps.{headFace};
-ghost use Rattle.ulm.specs.Bodies.{Leaves, writtenFace, requestFace, censorFace, mapFace, mapCodeFace};
+ghost use Rattle.ulm.specs.Bodies.{writtenFace, requestFace, censorFace, mapFace, mapCodeFace};
 use filter::CodeAnswer;
 use filter::MapAnswer;
 use frame::FrameAnswer;
@@ -25,6 +29,9 @@ use lookup::MomentAnswer;
 use message::HeaderAnswer;
 use radial::MomentHead;
 use request::RequestAnswer;
+use sets::SetAnswer;
+use wire::WriteAnswer;
+use writer::Given;
 
 #[repr(C)]
 pub struct UlmFrame {
@@ -48,6 +55,20 @@ pub struct UlmHeader {
     pub ms: u32,
     pub segments: u32,
     pub number: u32,
+}
+
+#[repr(C)]
+pub struct UlmSet {
+    pub refusal: u32,
+    pub size: u32,
+    pub channel: u32,
+    pub kind: u32,
+    pub sequence: u32,
+    pub date: u32,
+    pub ms: u32,
+    pub segments: u32,
+    pub number: u32,
+    pub length: u64,
 }
 
 #[repr(C)]
@@ -463,4 +484,87 @@ pub extern "C" fn ulm_map_code(
             code: 0,
         },
     }
+}
+
+#[no_mangle]
+pub extern "C" fn ulm_set(buf: &[u8], out: &mut [u8]) -> UlmSet
+    ensures { λ r. ⌜ Leaves setFace (setOf (now (buf .entry)) (now (out .entry))) r (now (out .exit)) ⌝ }
+{
+    match sets::read_set(buf, out) {
+        SetAnswer::Set(h, long) => UlmSet {
+            refusal: 0,
+            size: h.size.0,
+            channel: h.channel as u32,
+            kind: h.kind as u32,
+            sequence: h.sequence as u32,
+            date: h.date as u32,
+            ms: h.milliseconds,
+            segments: h.segments as u32,
+            number: h.number as u32,
+            length: long.0 as u64,
+        },
+        SetAnswer::Refused(number) => UlmSet {
+            refusal: number as u32,
+            size: 0,
+            channel: 0,
+            kind: 0,
+            sequence: 0,
+            date: 0,
+            ms: 0,
+            segments: 0,
+            number: 0,
+            length: 0,
+        },
+    }
+}
+
+fn written_face(answer: WriteAnswer) -> UlmWritten
+    ensures { λ r. ⌜ r ≡ writtenFace (tellWrite answer) ⌝ }
+{
+    match answer {
+        WriteAnswer::Written(long) => UlmWritten {
+            refusal: 0,
+            length: long.0 as u64,
+        },
+        WriteAnswer::Refused(number) => UlmWritten {
+            refusal: number as u32,
+            length: 0,
+        },
+    }
+}
+
+#[no_mangle]
+pub extern "C" fn ulm_write(
+    channel: u8,
+    kind: u8,
+    sequence: u16,
+    date: u16,
+    ms: u32,
+    body: &[u8],
+    out: &mut [u8],
+) -> UlmWritten
+    ensures { λ r. ⌜ Leaves writtenFace (writeOf (record { channel = channel; kind = kind; sequence = sequence; date = date; milliseconds = ms }) (now (body .entry)) (now (out .entry))) r (now (out .exit)) ⌝ }
+{
+    let given = Given {
+        channel,
+        kind,
+        sequence,
+        date,
+        milliseconds: ms,
+    };
+    written_face(writer::write_message(given, body, out))
+}
+
+#[no_mangle]
+pub extern "C" fn ulm_write_request(list: &[u16], out: &mut [u8]) -> UlmWritten
+    ensures { λ r. ⌜ Leaves writtenFace (requestWritten (now (list .entry)) (now (out .entry))) r (now (out .exit)) ⌝ }
+{
+    written_face(request::write_request(list, out))
+}
+
+#[no_mangle]
+pub extern "C" fn ulm_write_censor(list: &[u16], out: &mut [u8]) -> UlmWritten
+    ensures { λ r. ⌜ Leaves writtenFace (censorWritten (now (list .entry)) (now (out .entry))) r (now (out .exit)) ⌝ }
+{
+    written_face(clutter::write_censor(list, out))
 }
