@@ -6,21 +6,22 @@ use mathlib.Core.Bool.{Bool, true, false}
 use mathlib.Core.Option.{Option, none, some}
 use mathlib.Core.List.{List, [], _∷_, _++_, map}
 use lib.Dec.{eqb}
-use lib.ListN.{length, getD, take, drop, List·getD-eq-default}
+use lib.ListN.{length, getD, take, drop, replicate, length-append, length-replicate, List·getD-eq-default}
 use lib.Seq.{length-take-le}
 use denote.Ref.{RefT, now}
 use Rattle.wire.specs.Numbers.{num, fetched, Octets}
 use Rattle.wire.specs.Checks.{pick}
 use Rattle.wire.specs.Answers.{Answer, refused, given}
 use Rattle.wire.proofs.CheckLaws.{never}
-use Rattle.description.specs.Description.{RVOL, RELV, RRAD, constants, momentHead, Moment, Description, blockCount}
+use Rattle.description.specs.Description.{RVOL, RELV, RRAD, constants, mostBlocks, momentHead, Moment, Description, blockCount}
 use Rattle.description.specs.Refusal.{radialOf}
 use Rattle.description.specs.Lookups.{onward, momentNamed, momentOf, Lying, momentLying, blocks, Asked, noSuch, lies, blockOf, Part, gatesIn, gatesOf, bytesIn}
 use Rattle.description.proofs.Accepted.{agreed}
 use Rattle.description.proofs.Naming.{gate-words}
 use Rattle.radial.specs.declared.MomentHead.{MomentHead}
 use Rattle.radial.specs.declared.Radial.{Radial}
-use Rattle.radial.specs.Shown.{headOf, shown}
+use Rattle.radial.specs.Shown.{headOf, noHead, room, shown}
+use Rattle.radial.proofs.LoopLaws.{map-length}
 use Rattle.radial.proofs.HandedLaws.{Shows, shows-given, shows-refused, heads-taken}
 use Rattle.lookup.specs.declared.Located.{Located}
 use Rattle.lookup.specs.Told.{Told, headShown, toldOf, blockShown, partOf, LiesAt}
@@ -47,6 +48,9 @@ moment-at [] rest j other h = absurd (omega arith)
 moment-at (m ∷ ms) rest zero other h = refl
 moment-at (m ∷ ms) rest (suc j) other h = moment-at ms rest j other (omega arith)
 
+filled : (ms : List Moment) → constants + length ms ≤ mostBlocks → length (map headOf ms) + length (replicate (room - length ms) noHead) ≡ room
+filled ms h = omega (arith, map-length ms, length-replicate (room - length ms) noHead)
+
 -- the struct that the reader gave
 module _ (b : List ℕ) (r : Radial) (e : r ≡ shown (radialOf b)) where
   pub moment-refused : (n : ℕ) → (r .refusal ≡ 0 → ⊥) → refused (r .refusal) ≡ headShown (momentOf b n)
@@ -69,6 +73,14 @@ module _ (b : List ℕ) (r : Radial) (e : r ≡ shown (radialOf b)) where
 
     pub counted : Octets b → (4 ≤ r .count) × (r .count ≤ 9)
     counted o = let lay = agreed b d o (s .accepted) .0 in (rw count-is (lay .some), rw count-is (lay .few))
+
+    -- the places for heads are all there
+    pub all-there : Octets b → length (r .moments) ≡ room
+    all-there o =
+        let few = agreed b d o (s .accepted) .0 .few in
+        ap (λ (x : Radial). length (x .moments)) (s .shows)
+        ∙ length-append (map headOf (d .moments)) (replicate (room - length (d .moments)) noHead)
+        ∙ filled (d .moments) few
 
     pub moment-found : (n : ℕ) → headNamed n (take (r .count - constants) (r .moments)) ≡ headShown (momentOf b n)
     unfolding momentOf

@@ -2,13 +2,12 @@
 ghost use mathlib.Core.Path.{_≡_};
 ghost use Prim.Native.Nat.{_+_, _≤_};
 ghost use mathlib.Core.Option.{some};
-ghost use lib.ListN.{length, take};
+ghost use lib.ListN.{length};
 ghost use Rattle.wire.specs.Numbers.{num, fetched};
 ghost use Rattle.wire.specs.Answers.{given};
 ghost use Rattle.description.specs.Lookups.{momentOf, blockOf, gatesOf};
-ghost use Rattle.radial.specs.Shown.{room};
 ghost use Rattle.lookup.specs.Told.{tellMoment, headShown, tellBlock, blockShown, LiesAt, partOf, Lent};
-ghost use Rattle.lookup.specs.Steps.{headNamed, constantTold, momentTold, Locates};
+ghost use Rattle.lookup.specs.Steps.{constantTold, momentTold, Locates};
 use radial::MomentHead;
 use radial::Span;
 use wire::refusal;
@@ -44,22 +43,6 @@ struct Located {
     size: usize,
 }
 
-// The moment with a name, among the first `count`.
-fn find(heads: [MomentHead; radial::ROOM], count: usize, name: u32) -> MomentAnswer
-    requires { ⌜ count ≤ room ⌝ }
-    ensures { λ r. ⌜ tellMoment r ≡ headNamed name (take count heads) ⌝ }
-{
-    let mut i = 0;
-    while i < count {
-        let head = heads[i];
-        if head.name == name {
-            return MomentAnswer::Moment(head);
-        }
-        i += 1;
-    }
-    MomentAnswer::Refused(refusal::ASKED_FOR)
-}
-
 pub fn moment(body: &[u8], name: [u8; 4]) -> MomentAnswer
     ensures { λ r. ⌜ tellMoment r ≡ headShown (momentOf (now (body .entry)) (num 4 name 0)) ⌝ }
 {
@@ -68,8 +51,16 @@ pub fn moment(body: &[u8], name: [u8; 4]) -> MomentAnswer
     if read.refusal != 0 {
         return MomentAnswer::Refused(read.refusal);
     }
-    let heads = read.moments;
-    find(heads, (read.count - CONSTANTS) as usize, wanted)
+    let count = (read.count - CONSTANTS) as usize;
+    let mut i = 0;
+    while i < count {
+        let head = read.moments[i];
+        if head.name == wanted {
+            return MomentAnswer::Moment(head);
+        }
+        i += 1;
+    }
+    MomentAnswer::Refused(refusal::ASKED_FOR)
 }
 
 fn constant(name: &[u8], span: Span) -> BlockAnswer
@@ -107,9 +98,9 @@ pub fn block(body: &[u8], k: u32) -> BlockAnswer
         let span = read.radial;
         return constant(b"RRAD", span);
     }
-    let heads = read.moments;
     let i = (k - 4) as usize;
-    moment_block(heads[i])
+    let head = read.moments[i];
+    moment_block(head)
 }
 
 fn moment_block(head: MomentHead) -> BlockAnswer
