@@ -90,7 +90,8 @@ wall buffer message body gates place name f h m w =
     let inMessage = within message body gates (record { place = 16; size = f .size .0 - 16 }) (gatesIn m) (w .after) lent (omega arith) in
     let inBuffer =
     within buffer message gates (record { place = f .start; size = f .size .0 }) (record { place = 16 + (m .place + 28); size = gateBytes m }) (w .taken) inMessage (omega arith)
-    in
-    (same-place buffer gates (record { place = f .start + (16 + (m .place + 28)); size = gateBytes m }) (onTheWall place m) (omega (arith, F .starts)) refl inBuffer,
-    omega (arith, F .ends),
-    omega (arith, F .ends, F .inside))
+    in (
+      same-place buffer gates (record { place = f .start + (16 + (m .place + 28)); size = gateBytes m }) (onTheWall place m) (omega (arith, F .starts)) refl inBuffer,
+      omega (arith, F .ends),
+      omega (arith, F .ends, F .inside),
+    )

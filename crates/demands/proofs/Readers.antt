@@ -45,6 +45,7 @@ by-turns (suc turns) gs rest out = go (eqb (length rest) 0) (by-turns turns (gs 
   where
     more : List Segment
     more = gs ++ (segmentIn rest ∷ [])
+
     go : (t : Bool) → ByChecks (turnsChecks turns (gs ++ (segmentIn rest ∷ [])) (after rest) (length out)) (finish (walk turns (gs ++ (segmentIn rest ∷ [])) (after rest)) out .answer)
         → ByChecks (pick t (endChecks gs (length out)) (turnChecks gs rest ++ turnsChecks turns (gs ++ (segmentIn rest ∷ [])) (after rest) (length out)))
         (finish (pick t (given gs) (decide (turnChecks gs rest) refused (walk turns (gs ++ (segmentIn rest ∷ [])) (after rest)))) out .answer)
