@@ -9,7 +9,7 @@ use lib.Dec.{leb}
 use borrow.Author.Tests.{leb-true}
 use Rattle.wire.specs.Checks.{pick, both, Check, check, first, decide, AllHold, Blamed}
 use Rattle.wire.specs.Answers.{Answer, refused, given, rule, Outcome, outcome, Promise}
-use Rattle.wire.proofs.CheckLaws.{never, passed, stopped, decide-none, decide-some, all-hold, all-hold-join, none-broken, blame}
+use Rattle.wire.proofs.CheckLaws.{never, both-true, passed, stopped, decide-none, decide-some, all-hold, all-hold-join, none-broken, blame}
 use Rattle.wire.proofs.AnswerLaws.{rule-given, rule-refused, outcome-answer, outcome-refused}
 use Rattle.demands.specs.Notions.{One, lastNumber, OfTheTable, ByChecks, Kept, KeptLent}
 
@@ -17,10 +17,6 @@ use Rattle.demands.specs.Notions.{One, lastNumber, OfTheTable, ByChecks,
 abbrev pub inside : List Check → Bool
 inside [] = true
 inside (k ∷ ks) = both (both (leb 1 (k .number)) (leb (k .number) lastNumber)) (inside ks)
-
-both-true : (a b : Bool) → both a b ≡ true → (a ≡ true) × (b ≡ true)
-both-true true b e = (refl, e)
-both-true false b e = (e, cc e)
 
 pub inside-join : (a b : List Check) → inside a ≡ true → inside b ≡ true → inside (a ++ b) ≡ true
 inside-join [] b p q = q

@@ -11,7 +11,7 @@ use Rattle.wire.specs.Answers.{Answer, refused, given, rule, Outcome, refusal, 
 use Rattle.wire.proofs.CheckLaws.{never, decide-map}
 use Rattle.frame.specs.Session.{Stream, end, frame, frameChecks, frameIn, frameAt, after}
 use Rattle.segments.specs.Segment.{Segment, segmentIn}
-use Rattle.segments.specs.Walk.{SetSays, walk, finish, setOf, turnChecks, endChecks, bodyOf, filled}
+use Rattle.segments.specs.Walk.{SetSays, walk, finish, setOf, turnChecks, endChecks, bodyOf}
 use Rattle.description.specs.Description.{Moment, Description, gates}
 use Rattle.description.specs.Refusal.{description, radialChecks, radialOf}
 use Rattle.description.specs.Lookups.{onward, momentNamed, momentOf, Asked, noSuch, lies, blocks, blockOf}

@@ -13,6 +13,7 @@ use Rattle.wire.specs.Tables.{total, Spells}
 use Rattle.wire.specs.Answers.{refused, given}
 use Rattle.wire.proofs.CheckLaws.{all-hold, none-broken, decide-none}
 use Rattle.wire.proofs.AnswerLaws.{rule-given}
+use Rattle.wire.proofs.TableLaws.{total-run}
 use Rattle.description.specs.Description.{headerSize, constants, fewestBlocks, mostBlocks, firstPlace, RVOL, RELV, RRAD, volumeLeast}
 use Rattle.description.specs.Description.{elevationLeast, radialLeast, Block, Moment, Description, blockCount}
 use Rattle.description.specs.Description.{wordBytes, blockSize, momentSize, blockFields, momentFields, momentPlaces, headerBefore, headerAfter, pointers, momentPieces, pieces}
@@ -21,7 +22,6 @@ use Rattle.description.specs.Refusal.{sizeIn, countIn, pointer, part, na
 use Rattle.description.specs.Refusal.{momentsChecks, constantChecks, endAt}
 use Rattle.description.specs.Refusal.{radialChecks, radialOf}
 use Rattle.description.specs.Demand3.{Exactly, Unique}
-use Rattle.description.proofs.Runs.{total-run}
 use Rattle.description.proofs.Pieces.{AllSpell, AllWithin, all-spell, all-stand, all-fit}
 use Rattle.description.proofs.Blocks.{block-reads, block-holds, block-size, block-lies, block-spelt, block-end, block-is}
 use Rattle.description.proofs.Blocks.{block-read, moment-reads, moment-holds, moment-size, moment-lies, moment-spelt, moment-name}

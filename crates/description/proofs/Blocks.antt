@@ -10,10 +10,12 @@ use borrow.Author.Tests.{ltb-false, eqb-true, not-false, le-ltb, eq-eqb}
 use Rattle.wire.specs.Numbers.{num, nums}
 use Rattle.wire.specs.Checks.{Check, among, AllHold}
 use Rattle.wire.specs.Tables.{Spells}
+use Rattle.wire.proofs.NumberLaws.{nums-length}
+use Rattle.wire.proofs.TableLaws.{nums-spell, spell-nums}
 use Rattle.description.specs.Description.{permitted, mostGates, wordSizes, constantHead, momentHead, Block, Moment, gates, wordBytes, blockSize}
 use Rattle.description.specs.Description.{momentSize, blockFields, momentFields, Member, Absent, BlockLies, MomentLies, blockEnd, momentEnd}
 use Rattle.description.specs.Refusal.{nameIn, blockAt, momentAt, blockSays, momentSays, blockChecks, momentChecks}
-use Rattle.description.proofs.Runs.{nums-length, nums-spell, spell-nums, part-spells, part-spelt, among-member, member-among}
+use Rattle.description.proofs.Runs.{part-spells, part-spelt, among-member, member-among}
 use Rattle.description.proofs.Runs.{among-absent, absent-among}
 
 -- each check of the list holds, and R: what the checks after them say is left open

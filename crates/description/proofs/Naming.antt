@@ -13,15 +13,16 @@ use Rattle.wire.specs.Checks.{pick}
 use Rattle.wire.specs.Tables.{field, render, Spells}
 use Rattle.wire.specs.Answers.{Answer, refused, given}
 use Rattle.wire.proofs.CheckLaws.{never}
-use Rattle.wire.proofs.TableLaws.{render-length, spelt}
+use Rattle.wire.proofs.TableLaws.{render-length, spelt, nums-spell, total-run}
 use Rattle.wire.proofs.AnswerLaws.{rule-given}
+use Rattle.wire.proofs.NumberLaws.{nums-length, nums-at}
 use Rattle.description.specs.Description.{constants, RVOL, RELV, RRAD, momentHead, mostGates, wordSizes, Member, Piece, Moment, Description, gates}
 use Rattle.description.specs.Description.{wordBytes, gateBytes, momentSize, momentPieces, pieces, InPieces, Named, AllStand, Layout, MomentsLie, blockEnd, momentEnd}
 use Rattle.description.specs.Refusal.{sizeIn, pointer, part, momentAt, momentsAt, countIn, description, radialChecks, radialOf}
 use Rattle.description.specs.Lookups.{onward, momentNamed, momentOf, momentLying, blockOf, gatesIn}
 use Rattle.description.specs.Lookups.{gatesOf}
 use Rattle.description.specs.Demand3.{InBlocks, Listed, NamedExactly, Unnamed, CodeAt, GateWords}
-use Rattle.description.proofs.Runs.{nums-length, nums-at, nums-spell, total-run, part-spelt-from}
+use Rattle.description.proofs.Runs.{part-spelt-from}
 use Rattle.description.proofs.Accepted.{block-total, moment-total, places-total, accepted, agreed}
 
 -- ---- the bytes that are named

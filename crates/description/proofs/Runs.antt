@@ -1,44 +1,18 @@
--- Laws of runs of numbers, of tables read from a part, and of membership: what the theorems need and no radial knows. Assumes nothing.
-use Prim.Native.Nat.{ℕ, zero, suc, _+_, _*_, _<_}
+-- Laws of tables read from a part, and of membership: what the theorems need and no radial knows. Assumes nothing.
+use Prim.Native.Nat.{ℕ, _+_}
 use native.Mathlib.Nat.{add-zero, add-assoc}
-use native.Mathlib.Omega.{arith}
-use mathlib.Core.Path.{_≡_, refl, sym, ap, _∙_}
+use mathlib.Core.Path.{_≡_, refl, sym, _∙_}
 use mathlib.Core.Bool.{Bool, true, false}
 use mathlib.Core.Logic.{_⊎_, inl, inr}
-use mathlib.Core.List.{List, [], _∷_, map}
+use mathlib.Core.List.{List, [], _∷_}
 use lib.Dec.{eqb}
-use lib.ListN.{length, getD, drop}
+use lib.ListN.{drop}
 use borrow.Author.Tests.{eqb-true, eqb-false, eq-eqb, ne-eqb}
-use Rattle.wire.specs.Numbers.{num, nums}
 use Rattle.wire.specs.Checks.{pick, among}
-use Rattle.wire.specs.Tables.{Field, field, total, Spells}
+use Rattle.wire.specs.Tables.{Field, Spells}
 use Rattle.wire.proofs.NumberLaws.{num-drop}
 use Rattle.wire.proofs.CheckLaws.{never}
 use Rattle.description.specs.Description.{Member, Absent}
-
--- ---- a run of numbers of one width
-pub nums-length : (w : ℕ) (b : List ℕ) (p n : ℕ) → length (nums w b p n) ≡ n
-nums-length w b p zero = refl
-nums-length w b p (suc n) = ap suc (nums-length w b (p + w) n)
-
--- number i of a run: 8- and 16-bit gates by one law
-pub nums-at : (w : ℕ) (b : List ℕ) (p n i : ℕ) → i < n → getD (nums w b p n) i 0 ≡ num w b (p + i * w)
-nums-at w b p zero i h = absurd (omega arith)
-nums-at w b p (suc n) zero h = let e : p + 0 * w ≡ p = omega arith in rw e
-nums-at w b p (suc n) (suc i) h = let e : p + suc i * w ≡ p + w + i * w = omega arith in rw e (nums-at w b (p + w) n i (omega arith))
-
--- what is read as a run is spelt there; and what is spelt there is read
-pub nums-spell : (w : ℕ) (b : List ℕ) (p n : ℕ) → Spells b p (map (field w) (nums w b p n))
-nums-spell w b p zero = tt
-nums-spell w b p (suc n) = (refl, nums-spell w b (p + w) n)
-
-pub spell-nums : (w : ℕ) (b : List ℕ) (p : ℕ) (xs : List ℕ) → Spells b p (map (field w) xs) → nums w b p (length xs) ≡ xs
-spell-nums w b p [] s = refl
-spell-nums w b p (x ∷ xs) s = cc (s .0, spell-nums w b (p + w) xs (s .1))
-
-pub total-run : (w : ℕ) (xs : List ℕ) → total (map (field w) xs) ≡ length xs * w
-total-run w [] = omega arith
-total-run w (x ∷ xs) = omega (arith, total-run w xs)
 
 -- ---- a table read from the part of b that begins at p
 part-spells-from : (fs : List Field) (b : List ℕ) (p q : ℕ) → Spells b (p + q) fs → Spells (drop p b) q fs

@@ -1,21 +1,17 @@
 -- A part of a body, `drop p b`: whether a field of it is cut off, and its number by a fetch. Assumes nothing.
-use Prim.Native.Nat.{ℕ, _+_, _-_, _≤_, _<_}
+use Prim.Native.Nat.{ℕ, _+_, _≤_, _<_}
 use native.Mathlib.Nat.{add-zero}
 use native.Mathlib.Omega.{arith}
 use mathlib.Core.Path.{_≡_, sym, ap, _∙_}
 use mathlib.Core.Bool.{true, false}
 use mathlib.Core.List.{List}
 use lib.Dec.{ltb}
-use lib.ListN.{length, take, drop, length-drop}
-use lib.Seq.{take-all, drop-drop}
+use lib.ListN.{length, drop, length-drop}
+use lib.Seq.{drop-drop}
 use borrow.Author.Tests.{lt-ltb, le-ltb}
 use Rattle.wire.specs.Numbers.{num, fetched}
 use Rattle.wire.proofs.NumberLaws.{num-drop, fetched-whole}
 use Rattle.map.specs.Reading.{value, after}
-
--- what `&b[p..]` lends
-pub rest-is : (b : List ℕ) (p : ℕ) → take (length b - p) (drop p b) ≡ drop p b
-rest-is b p = take-all (length b - p) (drop p b) (rw length-drop (omega arith))
 
 pub after-drop : (b : List ℕ) (p : ℕ) → after (drop p b) ≡ drop (p + 2) b
 after-drop b p = drop-drop 2 p b

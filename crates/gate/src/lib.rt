@@ -6,6 +6,7 @@ ghost use Rattle.gate.specs.Value.{notFinite, valueChecks, valueOf, gate
 ghost use Rattle.gate.specs.Steps.{WordThere, codeIn};
 ghost use Rattle.gate.specs.Promises.{tellGate};
 use lookup::MomentAnswer;
+use lookup::Name;
 use wire::INFINITE;
 use wire::SIGN;
 use wire::refusal;
@@ -68,7 +69,7 @@ fn code_in(body: &[u8], place: u32, word: u8, gate: usize) -> u16
 }
 
 // The value of a gate, counted from 0, of the moment with a name.
-pub fn gate_value(body: &[u8], name: [u8; 4], gate: usize) -> GateAnswer
+pub fn gate_value(body: &[u8], name: Name, gate: usize) -> GateAnswer
     ensures { λ r. ⌜ tellGate r ≡ gateOf (now (body .entry)) (num 4 name 0) gate ⌝ }
 {
     match lookup::moment(body, name) {

@@ -12,6 +12,9 @@ use radial::MomentHead;
 use radial::Span;
 use wire::refusal;
 
+// The four bytes that a moment is asked for by.
+pub type Name = [u8; 4];
+
 // The blocks that are no moments.
 const CONSTANTS: u16 = 3;
 
@@ -43,7 +46,7 @@ struct Located {
     size: usize,
 }
 
-pub fn moment(body: &[u8], name: [u8; 4]) -> MomentAnswer
+pub fn moment(body: &[u8], name: Name) -> MomentAnswer
     ensures { λ r. ⌜ tellMoment r ≡ headShown (momentOf (now (body .entry)) (num 4 name 0)) ⌝ }
 {
     let wanted = wire::fetch32(&name, 0);
@@ -114,7 +117,7 @@ fn moment_block(head: MomentHead) -> BlockAnswer
     BlockAnswer::Moment(lying, head)
 }
 
-fn locate(body: &[u8], name: [u8; 4]) -> Located
+fn locate(body: &[u8], name: Name) -> Located
     ensures { λ r. ⌜ Locates (now (body .entry)) (num 4 name 0) r ⌝ }
 {
     match moment(body, name) {
@@ -142,7 +145,7 @@ fn part(body: &[u8], found: Located) -> &[u8]
     &body[start..end]
 }
 
-pub fn gates(body: &[u8], name: [u8; 4]) -> &[u8]
+pub fn gates(body: &[u8], name: Name) -> &[u8]
     ensures { λ r. ⌜ LiesAt (body .entry) r (partOf (gatesOf (now (body .entry)) (num 4 name 0))) ⌝ }
 {
     part(body, locate(body, name))
@@ -155,7 +158,7 @@ pub struct LentGates<'a> {
     pub part: &'a [u8],
 }
 
-pub fn lent<'a>(body: &'a [u8], name: [u8; 4]) -> LentGates<'a>
+pub fn lent<'a>(body: &'a [u8], name: Name) -> LentGates<'a>
     ensures { λ r. ⌜ Lent (body .entry) (num 4 name 0) r ⌝ }
 {
     let found = locate(body, name);

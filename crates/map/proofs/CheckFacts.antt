@@ -8,10 +8,10 @@ use lib.Dec.{ltb, eqb}
 use lib.ListN.{length, drop, length-drop}
 use borrow.Author.Tests.{ltb-false, le-ltb, eq-eqb, eqb-true, not-false}
 use Rattle.wire.specs.Checks.{either, both, AllHold}
-use Rattle.wire.proofs.CheckLaws.{all-hold-append, all-hold-join}
+use Rattle.wire.proofs.CheckLaws.{all-hold-append, all-hold-join, neither}
 use Rattle.map.specs.Map.{mostMinutes, mostElevations, mostZones, mostCode, lastKilometre}
 use Rattle.map.specs.Reading.{value, after, endBroken, zonesChecks, runSize, runChecks, azimuthPart, elevationPart, dateIn, minutesIn, segmentsIn, leftoverChecks, mapChecks}
-use Rattle.map.proofs.FieldLaws.{either-false, both-false}
+use Rattle.map.proofs.FieldLaws.{both-rest}
 
 -- ---- the end field
 pub record EndFacts (left from end : ℕ) : Type 0 where
@@ -21,14 +21,14 @@ pub record EndFacts (left from end : ℕ) : Type 0 where
 
 pub end-facts : (left from end : ℕ) → endBroken left from end ≡ false → EndFacts left from end
 end-facts left from end e =
-    let p = either-false (ltb lastKilometre end) (either (ltb end from) (both (eqb left 0) (not (eqb end lastKilometre)))) e in
-    let q = either-false (ltb end from) (both (eqb left 0) (not (eqb end lastKilometre))) (p .1) in
+    let p = neither (ltb lastKilometre end) (either (ltb end from) (both (eqb left 0) (not (eqb end lastKilometre)))) e in
+    let q = neither (ltb end from) (both (eqb left 0) (not (eqb end lastKilometre))) (p .1) in
     record {
       high = ltb-false lastKilometre end (p .0);
       low = ltb-false end from (q .0);
       last =
           λ z. eqb-true end lastKilometre
-          (not-false (eqb end lastKilometre) (both-false (eqb left 0) (not (eqb end lastKilometre)) (eq-eqb left 0 z) (q .1)));
+          (not-false (eqb end lastKilometre) (both-rest (eqb left 0) (not (eqb end lastKilometre)) (eq-eqb left 0 z) (q .1)));
     }
 
 pub end-holds : (left from end : ℕ) → EndFacts left from end → endBroken left from end ≡ false
@@ -75,7 +75,7 @@ pub record AzimuthFacts (b : List ℕ) : Type 0 where
 
 pub azimuth-facts : (b : List ℕ) → AllHold (azimuthPart .checks b) → AzimuthFacts b
 azimuth-facts b p =
-    let q = either-false (ltb (value b) 1) (ltb mostZones (value b)) (p .1 .0) in
+    let q = neither (ltb (value b) 1) (ltb mostZones (value b)) (p .1 .0) in
     record {
       here = ltb-false (length b) 2 (p .0);
       some = ltb-false (value b) 1 (q .0);
@@ -98,7 +98,7 @@ pub record MapFacts (b : List ℕ) : Type 0 where
 
 pub map-facts : (b : List ℕ) → AllHold (mapChecks b) → MapFacts b
 map-facts b p =
-    let q = either-false (ltb (segmentsIn b) 1) (ltb mostElevations (segmentsIn b)) (p .1 .1 .1 .1 .1 .0) in
+    let q = neither (ltb (segmentsIn b) 1) (ltb mostElevations (segmentsIn b)) (p .1 .1 .1 .1 .1 .0) in
     let r = all-hold-append (runChecks elevationPart (segmentsIn b) (drop 6 b)) (leftoverChecks b) (p .1 .1 .1 .1 .1 .1) in
     let l : 2 ≤ length (drop 4 b) = ltb-false (length (drop 4 b)) 2 (p .1 .1 .1 .1 .0) in
     let k = simp length-drop at l in

@@ -1,14 +1,13 @@
--- Laws of one halfword field, of tests joined, and of tables joined. Assumes nothing.
+-- Laws of one halfword field, and of tests joined. Assumes nothing.
 use Prim.Native.Nat.{ℕ, _+_, _≤_}
 use native.Mathlib.Omega.{arith}
-use mathlib.Core.Path.{_≡_, refl, sym, ap, _∙_}
+use mathlib.Core.Path.{_≡_, ap, _∙_}
 use mathlib.Core.Bool.{Bool, true, false}
-use mathlib.Core.List.{List, [], _∷_, _++_, append-assoc}
+use mathlib.Core.List.{List, _++_}
 use lib.ListN.{length, drop, take-append-drop}
 use lib.Seq.{getD-drop}
 use Rattle.wire.specs.Numbers.{num, be, Octets}
-use Rattle.wire.specs.Checks.{either, both}
-use Rattle.wire.specs.Tables.{Field, render}
+use Rattle.wire.specs.Checks.{both}
 use Rattle.wire.proofs.NumberLaws.{num-be, be-num}
 use Rattle.wire.proofs.CheckLaws.{never}
 
@@ -22,17 +21,7 @@ value-of v t h = num-be 2 v t (omega arith)
 pub octets-drop : (n : ℕ) (b : List ℕ) → Octets b → Octets (drop n b)
 octets-drop n b o i = rw (getD-drop n b i 0) (o (n + i))
 
--- ---- tables one after the other
-pub render-append : (fs gs : List Field) → render (fs ++ gs) ≡ render fs ++ render gs
-render-append [] gs = refl
-render-append (f ∷ fs) gs =
-    ap (λ (l : List ℕ). be (f .wide) (f .value) ++ l) (render-append fs gs) ∙ sym (append-assoc (be (f .wide) (f .value)) (render fs) (render gs))
-
 -- ---- tests joined
-pub either-false : (a b : Bool) → either a b ≡ false → (a ≡ false) × (b ≡ false)
-either-false true b e = never (cc e)
-either-false false b e = (refl, e)
-
-pub both-false : (a b : Bool) → a ≡ true → both a b ≡ false → b ≡ false
-both-false true b p e = e
-both-false false b p e = never (cc p)
+pub both-rest : (a b : Bool) → a ≡ true → both a b ≡ false → b ≡ false
+both-rest true b p e = e
+both-rest false b p e = never (cc p)

@@ -11,9 +11,10 @@ use Rattle.wire.specs.Numbers.{Octets}
 use Rattle.wire.specs.Checks.{AllHold}
 use Rattle.wire.specs.Tables.{Field, render}
 use Rattle.wire.proofs.CheckLaws.{all-hold-append, all-hold-join}
+use Rattle.wire.proofs.TableLaws.{render-append}
 use Rattle.map.specs.Map.{fieldsOf, Each}
 use Rattle.map.specs.Reading.{Part, runSize, runChecks, runIn}
-use Rattle.map.proofs.FieldLaws.{octets-drop, render-append}
+use Rattle.map.proofs.FieldLaws.{octets-drop}
 
 module _ {A : Type 0} (part : Part A) where
   -- ---- of any part

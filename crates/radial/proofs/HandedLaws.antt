@@ -15,6 +15,7 @@ use Rattle.wire.specs.Checks.{Check, first, pick}
 use Rattle.wire.specs.Answers.{Answer, refused, given}
 use Rattle.wire.proofs.CheckLaws.{blame, all-hold, never}
 use Rattle.wire.proofs.AnswerLaws.{rule-given, rule-refused}
+use Rattle.wire.proofs.NumberLaws.{nums-length}
 use Rattle.description.specs.Description.{constants, constantHead, Block, Moment, Description, blockSize, blockCount}
 use Rattle.description.specs.Refusal.{
   sizeIn,
@@ -33,7 +34,6 @@ use Rattle.description.specs.Refusal.{
   endAt,
   radialOf,
 }
-use Rattle.description.proofs.Runs.{nums-length}
 use Rattle.description.proofs.Accepted.{exactly, moments-length}
 use Rattle.radial.specs.declared.Span.{Span}
 use Rattle.radial.specs.declared.MomentHead.{MomentHead}

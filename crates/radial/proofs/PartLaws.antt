@@ -12,9 +12,8 @@ use lib.Seq.{length-take-le}
 use borrow.Author.Tests.{lt-ltb, le-ltb, ltb-true, ltb-false}
 use Rattle.wire.specs.Numbers.{num, nums}
 use Rattle.wire.specs.Answers.{refused}
-use Rattle.wire.proofs.NumberLaws.{num-take}
+use Rattle.wire.proofs.NumberLaws.{num-take, nums-length}
 use Rattle.description.specs.Refusal.{momentSays, momentAt}
-use Rattle.description.proofs.Runs.{nums-length}
 use Rattle.radial.specs.Shown.{headOf}
 use Rattle.radial.specs.Steps.{headIn, constantIn, constantStep, momentIn, momentStep}
 

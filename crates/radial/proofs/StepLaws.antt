@@ -1,6 +1,6 @@
 -- What the steps of the reader say, in the rule's own checks. Assumes nothing.
 use Prim.Native.Nat.{ℕ, _+_, _≤_, _<_}
-use mathlib.Core.Path.{_≡_, refl, sym, ap, _∙_}
+use mathlib.Core.Path.{_≡_, refl, sym}
 use mathlib.Core.Bool.{Bool, true, false}
 use mathlib.Core.List.{List, [], _∷_}
 use lib.Dec.{eqb}
@@ -11,17 +11,8 @@ use borrow.Author.Tests.{eq-eqb, ne-eqb}
 use Rattle.wire.specs.Numbers.{num, fetched}
 use Rattle.description.specs.Description.{RVOL, RELV, RRAD}
 use Rattle.description.specs.Refusal.{nameIn}
-use Rattle.wire.specs.Checks.{either, among}
+use Rattle.wire.specs.Checks.{among}
 use Rattle.wire.proofs.NumberLaws.{fetched-whole}
-
--- what a fetch answered is the number there
-pub number-is : (w : ℕ) (b : List ℕ) (p r : ℕ) → r ≡ fetched w b p → p + w ≤ length b → num w b p ≡ r
-number-is w b p r e h = sym (e ∙ fetched-whole w b p h)
-
--- the last of the alternatives
-pub or-not : (t : Bool) → t ≡ either t false
-or-not true = refl
-or-not false = refl
 
 -- ---- a list searched from the front: what is left answers as the whole
 pub among-here : (x : ℕ) (l : List ℕ) (i : ℕ) → i < length l → x ≡ getD l i 0 → among x (drop i l) ≡ true

@@ -11,9 +11,9 @@ use Rattle.wire.specs.Checks.{decide, pick}
 use Rattle.wire.specs.Answers.{Answer, refused, given, rule}
 use Rattle.wire.proofs.CheckLaws.{all-hold}
 use Rattle.wire.proofs.AnswerLaws.{rule-given}
+use Rattle.wire.proofs.NumberLaws.{nums-length}
 use Rattle.description.specs.Description.{Description, constants}
 use Rattle.description.specs.Refusal.{sizeIn, countIn, pointer, part, blockSays, blockAt, description, momentsAt, headerChecks, constantsChecks, momentsChecks, endAt, radialOf}
-use Rattle.description.proofs.Runs.{nums-length}
 use Rattle.description.proofs.Accepted.{moments-length}
 use Rattle.radial.specs.declared.Header.{Header}
 use Rattle.radial.specs.declared.Span.{Span}

@@ -23,6 +23,14 @@ pub both-false : (t : Bool) → both t false ≡ false
 both-false true = refl
 both-false false = refl
 
+pub neither : (a b : Bool) → either a b ≡ false → (a ≡ false) × (b ≡ false)
+neither true b e = never (cc e)
+neither false b e = (refl, e)
+
+pub both-true : (a b : Bool) → both a b ≡ true → (a ≡ true) × (b ≡ true)
+both-true true b e = (refl, e)
+both-true false b e = (e, cc e)
+
 -- one test after the other: it is met; it is not, and the next ones say; it is the last
 pub hit : (a b : Bool) → a ≡ true → true ≡ either a b
 hit a b h = simp h

@@ -4,10 +4,10 @@ use mathlib.Core.Path.{_≡_, sym, ap, _∙_, subst}
 use mathlib.Core.List.{List}
 use lib.ListN.{length, take, drop, length-drop}
 use native.Mathlib.Omega.{arith}
+use Rattle.wire.proofs.ListLaws.{part-is}
 use Rattle.map.specs.Reading.{runSize, azimuthPart}
 use Rattle.map.specs.Map.{codeFrom}
 use Rattle.filter.specs.Steps.{azimuthThere}
-use Rattle.filter.proofs.PartLaws.{rest-is}
 use borrow.Author.Needs.{needs}
 use Rattle.filter.proofs.azimuth_code.Statement.{statement}
 use Rattle.filter.proofs.azimuth_code.Tie as tie
@@ -16,7 +16,7 @@ use Rattle.filter.proofs.azimuth_code.Tie as tie
 there : (c : tie.After-pass-azimuths) → let p = now (c .before .before .args .part) in take (length p - c .pass-azimuths .result) (drop (c .pass-azimuths .result) p) ≡ azimuthThere (c .before .before .args .index) p
 there c =
     let p = now (c .before .before .args .part) in
-    rest-is p (c .pass-azimuths .result) ∙ ap (λ (n : ℕ). drop n p) (c .pass-azimuths .ensures)
+    part-is p (c .pass-azimuths .result) ∙ ap (λ (n : ℕ). drop n p) (c .pass-azimuths .ensures)
 
 pass-azimuths-requires : tie.Need-pass-azimuths-requires
 pass-azimuths-requires c κs = search needs

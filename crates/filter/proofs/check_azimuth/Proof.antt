@@ -4,10 +4,11 @@ use mathlib.Core.Path.{_≡_, sym, ap, _∙_, subst}
 use native.Mathlib.Omega.{arith}
 use mathlib.Core.List.{List}
 use lib.ListN.{length, take, drop}
+use Rattle.wire.proofs.ListLaws.{part-is}
 use Rattle.map.specs.Reading.{value, after}
 use Rattle.map.specs.Map.{mostZones}
 use Rattle.filter.specs.Steps.{zonesStep}
-use Rattle.filter.proofs.PartLaws.{fetched-value, rest-is}
+use Rattle.filter.proofs.PartLaws.{fetched-value}
 use Rattle.filter.proofs.StepLaws.{azimuth-cut, azimuth-none, azimuth-many, azimuth-stop, azimuth-next, zones-size}
 use borrow.Author.Needs.{needs}
 use Rattle.filter.proofs.check_azimuth.Statement.{statement}
@@ -23,7 +24,7 @@ zoned c =
     let b = now (c .before .before .before .before .before .before .before .before .args .part) in
     c .check-zones .ensures
     ∙ ap (λ (n : ℕ). zonesStep n (take (length b - 2) (drop 2 b))) (c .before .wide .ensures ∙ counted (c .before .before .before .before .before))
-    ∙ ap (λ (l : List ℕ). zonesStep (value b) l) (rest-is b 2)
+    ∙ ap (λ (l : List ℕ). zonesStep (value b) l) (part-is b 2)
 
 returns : tie.Need-returns
 returns c = azimuth-cut (now (c .before .before .args .part)) (c .if1 .taken)

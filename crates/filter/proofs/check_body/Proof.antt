@@ -4,10 +4,10 @@ use mathlib.Core.Path.{_≡_, sym, ap, _∙_}
 use mathlib.Core.List.{List}
 use lib.ListN.{length, drop}
 use native.Mathlib.Omega.{arith}
+use Rattle.wire.proofs.ListLaws.{part-is}
 use Rattle.filter.specs.declared.Step.the-variants.{Next}
 use Rattle.filter.specs.Steps.{runStep, headStep}
 use Rattle.map.specs.Reading.{elevationPart}
-use Rattle.filter.proofs.PartLaws.{rest-is}
 use Rattle.filter.proofs.BodyLaws.{head-stop, head-long, segments-stop, segments-fit, body-left, body-next}
 use borrow.Author.Needs.{needs}
 use Rattle.filter.proofs.check_body.Statement.{statement}
@@ -24,7 +24,7 @@ long c = head-long (now (c .before .before .before .before .args .body)) (c .cou
 checked : (c : tie.After-check-elevations) → c .check-elevations .result ≡ runStep elevationPart (c .before .before .before .count .given .0 .0) (drop 6 (now (c .before .before .before .before .before .before .before .args .body)))
 checked c =
     c .check-elevations .ensures
-    ∙ ap (λ (l : List ℕ). runStep elevationPart (c .before .before .before .count .given .0 .0) l) (rest-is (now (c .before .before .before .before .before .before .before .args .body)) 6)
+    ∙ ap (λ (l : List ℕ). runStep elevationPart (c .before .before .before .count .given .0 .0) l) (part-is (now (c .before .before .before .before .before .before .before .args .body)) 6)
 
 check-head-requires : tie.Need-check-head-requires
 check-head-requires c κs = search needs

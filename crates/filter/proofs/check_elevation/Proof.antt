@@ -4,11 +4,11 @@ use native.Mathlib.Omega.{arith}
 use lib.ListN.{length, drop}
 use denote.Ref.{now}
 use mathlib.Core.List.{List}
+use Rattle.wire.proofs.ListLaws.{part-is}
 use Rattle.map.specs.Reading.{azimuthPart, elevationPart}
 use Rattle.map.proofs.Accepted.{azimuth-long}
 use Rattle.map.specs.Map.{azimuths}
 use Rattle.filter.specs.Steps.{partStep}
-use Rattle.filter.proofs.PartLaws.{rest-is}
 use Rattle.filter.proofs.StepLaws.{walk, walk-start, walk-turn, walk-stop, walk-done, part-fits}
 use borrow.Author.Needs.{needs}
 use Rattle.filter.proofs.check_elevation.Statement.{statement}
@@ -23,7 +23,7 @@ abbrev μ-loop : tie.MeasureT-loop
 checked : (c : tie.After-check-azimuth Inv-loop μ-loop) → c .check-azimuth .result ≡ partStep azimuthPart (drop (c .before .before .before .loop .at) (now (c .before .before .before .before .before .args .part)))
 checked c =
     let b = now (c .before .before .before .before .before .args .part) in
-    c .check-azimuth .ensures ∙ ap (λ (l : List ℕ). partStep azimuthPart l) (rest-is b (c .before .before .before .loop .at))
+    c .check-azimuth .ensures ∙ ap (λ (l : List ℕ). partStep azimuthPart l) (part-is b (c .before .before .before .loop .at))
 
 loop-holds : tie.Need-loop-holds Inv-loop μ-loop
 loop-holds c =

@@ -4,10 +4,10 @@ use mathlib.Core.Path.{_≡_, sym, ap, _∙_}
 use mathlib.Core.List.{List}
 use native.Mathlib.Omega.{arith}
 use lib.ListN.{length, drop}
+use Rattle.wire.proofs.ListLaws.{part-is}
 use Rattle.map.specs.Reading.{elevationPart}
 use Rattle.map.proofs.Accepted.{elevation-long}
 use Rattle.filter.specs.Steps.{partStep, runStep}
-use Rattle.filter.proofs.PartLaws.{rest-is}
 use Rattle.filter.proofs.StepLaws.{walk, walk-start, walk-turn, walk-stop, walk-done, part-fits}
 use borrow.Author.Needs.{needs}
 use Rattle.filter.proofs.check_elevations.Statement.{statement}
@@ -22,7 +22,7 @@ abbrev μ-loop : tie.MeasureT-loop
 checked : (c : tie.After-check-elevation Inv-loop μ-loop) → c .check-elevation .result ≡ partStep elevationPart (drop (c .before .before .before .loop .at) (now (c .before .before .before .before .before .args .part)))
 checked c =
     let b = now (c .before .before .before .before .before .args .part) in
-    c .check-elevation .ensures ∙ ap (λ (l : List ℕ). partStep elevationPart l) (rest-is b (c .before .before .before .loop .at))
+    c .check-elevation .ensures ∙ ap (λ (l : List ℕ). partStep elevationPart l) (part-is b (c .before .before .before .loop .at))
 
 loop-holds : tie.Need-loop-holds Inv-loop μ-loop
 loop-holds c =

@@ -4,10 +4,10 @@ use mathlib.Core.Path.{_≡_, sym, ap, _∙_, subst}
 use mathlib.Core.List.{List}
 use native.Mathlib.Omega.{arith}
 use Rattle.wire.specs.Answers.{given}
+use Rattle.wire.proofs.ListLaws.{part-is}
 use Rattle.map.specs.Map.{azimuths}
 use Rattle.filter.specs.declared.Step.the-variants.{Next}
 use Rattle.filter.specs.Steps.{bodyStep, PassFits, codeThere}
-use Rattle.filter.proofs.PartLaws.{rest-is}
 use Rattle.filter.proofs.BodyLaws.{query-stop, query-long, query-most, asked-none, asked-high, asked-azimuth, asked-far, asked-fits, asked-given}
 use borrow.Author.Needs.{needs}
 use Rattle.filter.proofs.code_at.Statement.{statement}
@@ -81,7 +81,7 @@ azimuth-code-requires : tie.Need-azimuth-code-requires
 azimuth-code-requires c κs =
     let k = c .before .before .before .before .before .before in
     let a = k .before .before .before .before .args in
-    subst (λ (x : List ℕ). PassFits ((a .elevation - 1) * azimuths + a .azimuth) x) (sym (rest-is (now (a .body)) 6))
+    subst (λ (x : List ℕ). PassFits ((a .elevation - 1) * azimuths + a .azimuth) x) (sym (part-is (now (a .body)) 6))
     (asked-fits (now (a .body)) (k .count .given .0 .0) (accepted k) (a .elevation) (a .azimuth) (a .kilometre) (c .before .before .before .before .if1 .left) (c .before .before .before .if2 .left) (c .before .before .if3 .left))
 
 enum-known-number : tie.Need-enum-known-number
@@ -92,7 +92,7 @@ returns-5 c =
     let k = c .before .before .before .before .before .before .before in
     let a = k .before .before .before .before .args in
     ap given
-    (c .azimuth-code .ensures ∙ ap (λ (x : List ℕ). codeThere ((a .elevation - 1) * azimuths + a .azimuth) (a .kilometre) x) (rest-is (now (a .body)) 6))
+    (c .azimuth-code .ensures ∙ ap (λ (x : List ℕ). codeThere ((a .elevation - 1) * azimuths + a .azimuth) (a .kilometre) x) (part-is (now (a .body)) 6))
     ∙ asked-given (now (a .body)) (k .count .given .0 .0) (accepted k) (a .elevation) (a .azimuth) (a .kilometre) (c .before .before .before .before .before .if1 .left) (c .before .before .before .before .if2 .left) (c .before .before .before .if3 .left) (c .before .before .if4 .left)
 
 returns-6 : tie.Need-returns-6

@@ -5,8 +5,9 @@ use mathlib.Core.List.{List}
 use lib.ListN.{length, drop, length-drop}
 use native.Mathlib.Omega.{arith}
 use Rattle.wire.specs.Numbers.{fetched}
+use Rattle.wire.proofs.ListLaws.{part-is}
 use Rattle.map.specs.Reading.{runSize, azimuthPart}
-use Rattle.filter.proofs.PartLaws.{rest-is, fetched-value}
+use Rattle.filter.proofs.PartLaws.{fetched-value}
 use Rattle.filter.proofs.QueryLaws.{pass-turn, pass-done}
 use borrow.Author.Needs.{needs}
 use Rattle.filter.proofs.pass_azimuths.Statement.{statement}
@@ -33,7 +34,7 @@ sized c =
     let d = drop at b in
     let f = fits (c .before .before .before) in
     let l : 2 ≤ length d = rw length-drop (omega arith) in
-    let e = c .wide .ensures ∙ c .before .fetch16 .ensures ∙ ap (λ (x : List ℕ). fetched 2 x 0) (rest-is b at) ∙ fetched-value d 0 l in
+    let e = c .wide .ensures ∙ c .before .fetch16 .ensures ∙ ap (λ (x : List ℕ). fetched 2 x 0) (part-is b at) ∙ fetched-value d 0 l in
     ap (λ (n : ℕ). 2 + 4 * n) e
 
 loop-holds : tie.Need-loop-holds Inv-loop μ-loop

@@ -2,7 +2,7 @@ use mathlib.Core.Path.{_≡_}
 use denote.Ref.{now}
 use borrow.Author.Tests.{lt-ltb, le-ltb, eq-eqb, ne-eqb}
 use Rattle.wire.specs.Numbers.{num}
-use Rattle.radial.proofs.StepLaws.{number-is}
+use Rattle.wire.proofs.NumberLaws.{number-is}
 use borrow.Author.Needs.{needs}
 use Rattle.radial.proofs.begin.Statement.{statement}
 use Rattle.radial.proofs.begin.Tie as tie

@@ -5,7 +5,8 @@ use native.Mathlib.Omega.{arith}
 use borrow.Author.Tests.{lt-ltb, le-ltb, not-true, not-false}
 use Rattle.wire.specs.Numbers.{num, fetched}
 use Rattle.description.specs.Refusal.{nameIn, blockSays}
-use Rattle.radial.proofs.StepLaws.{number-is, named-as}
+use Rattle.wire.proofs.NumberLaws.{number-is}
+use Rattle.radial.proofs.StepLaws.{named-as}
 use borrow.Author.Needs.{needs}
 use Rattle.radial.proofs.constant.Statement.{statement}
 use Rattle.radial.proofs.constant.Tie as tie

@@ -3,7 +3,7 @@ use lib.ListN.{drop}
 use denote.Ref.{now}
 use Rattle.wire.specs.Numbers.{fetched}
 use Rattle.description.specs.Refusal.{pointer}
-use Rattle.radial.proofs.StepLaws.{number-is}
+use Rattle.wire.proofs.NumberLaws.{number-is}
 use Rattle.radial.proofs.PartLaws.{constant-early, constant-late, constant-there}
 use borrow.Author.Needs.{needs}
 use Rattle.radial.proofs.constant_at.Statement.{statement}

@@ -4,7 +4,7 @@ use Prim.Native.Nat.{ℕ}
 use denote.Ref.{now}
 use native.Mathlib.Omega.{arith}
 use Rattle.wire.specs.Numbers.{num}
-use Rattle.radial.proofs.StepLaws.{number-is}
+use Rattle.wire.proofs.NumberLaws.{number-is}
 use borrow.Author.Needs.{needs}
 use Rattle.radial.proofs.head_of.Statement.{statement}
 use Rattle.radial.proofs.head_of.Tie as tie

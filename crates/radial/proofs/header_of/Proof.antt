@@ -2,7 +2,7 @@ use mathlib.Core.Path.{_≡_, sym}
 use denote.Ref.{now}
 use native.Mathlib.Omega.{arith}
 use Rattle.wire.specs.Numbers.{num}
-use Rattle.radial.proofs.StepLaws.{number-is}
+use Rattle.wire.proofs.NumberLaws.{number-is}
 use borrow.Author.Needs.{needs}
 use Rattle.radial.proofs.header_of.Statement.{statement}
 use Rattle.radial.proofs.header_of.Tie as tie

@@ -2,7 +2,7 @@ use mathlib.Core.Path.{_≡_, _∙_}
 use lib.ListN.{drop}
 use denote.Ref.{now}
 use Rattle.description.specs.Refusal.{pointer}
-use Rattle.radial.proofs.StepLaws.{number-is}
+use Rattle.wire.proofs.NumberLaws.{number-is}
 use Rattle.radial.proofs.PartLaws.{moment-early, moment-late, moment-there}
 use borrow.Author.Needs.{needs}
 use Rattle.radial.proofs.moment_at.Statement.{statement}

@@ -3,7 +3,8 @@ use lib.Dec.{eqb}
 use denote.Ref.{now}
 use native.Mathlib.Omega.{arith}
 use Rattle.description.specs.Refusal.{nameIn}
-use Rattle.radial.proofs.StepLaws.{or-not, named-as, DREF-is, DVEL-is, DSW-is, DZDR-is, DPHI-is, DRHO-is}
+use Rattle.wire.proofs.CheckLaws.{either-false}
+use Rattle.radial.proofs.StepLaws.{named-as, DREF-is, DVEL-is, DSW-is, DZDR-is, DPHI-is, DRHO-is}
 use borrow.Author.Needs.{needs}
 use Rattle.radial.proofs.permitted.Statement.{statement}
 use Rattle.radial.proofs.permitted.Tie as tie
@@ -106,7 +107,7 @@ named-requires-6 c κs = search needs
 -- src/lib.rt:263:1
 returns-6 : tie.Need-returns-6
 returns-6 c =
-    simp (e1 (c .before .before .before .before .before .before .before .before .before .before .before .before .before .before .before), e2 (c .before .before .before .before .before .before .before .before .before .before .before .before), e3 (c .before .before .before .before .before .before .before .before .before), e4 (c .before .before .before .before .before .before), e5 (c .before .before .before), e6 c, c .before .before .before .before .before .before .before .before .before .before .before .before .before .before .if1 .left, c .before .before .before .before .before .before .before .before .before .before .before .if2 .left, c .before .before .before .before .before .before .before .before .if3 .left, c .before .before .before .before .before .if4 .left, c .before .before .if5 .left) (or-not _)
+    simp (e1 (c .before .before .before .before .before .before .before .before .before .before .before .before .before .before .before), e2 (c .before .before .before .before .before .before .before .before .before .before .before .before), e3 (c .before .before .before .before .before .before .before .before .before), e4 (c .before .before .before .before .before .before), e5 (c .before .before .before), e6 c, c .before .before .before .before .before .before .before .before .before .before .before .before .before .before .if1 .left, c .before .before .before .before .before .before .before .before .before .before .before .if2 .left, c .before .before .before .before .before .before .before .before .if3 .left, c .before .before .before .before .before .if4 .left, c .before .before .if5 .left) (sym (either-false _))
 
 pub permitted-spec : {M : Type 1} → statement M
 permitted-spec =

@@ -1,4 +1,5 @@
-use Rattle.radial.proofs.StepLaws.{or-not}
+use mathlib.Core.Path.{sym}
+use Rattle.wire.proofs.CheckLaws.{either-false}
 use borrow.Author.Tests.{eq-eqb, ne-eqb}
 use borrow.Author.Needs.{needs}
 use Rattle.radial.proofs.sized.Statement.{statement}
@@ -12,7 +13,7 @@ returns c = simp (eq-eqb _ _ (c .if1 .taken))
 
 -- src/lib.rt:357:1
 returns-2 : tie.Need-returns-2
-returns-2 c = simp (ne-eqb _ _ (c .if1 .left)) (or-not _)
+returns-2 c = simp (ne-eqb _ _ (c .if1 .left)) (sym (either-false _))
 
 pub sized-spec : {M : Type 1} → statement M
 sized-spec = tie.close (tie.spec returns returns-2)
