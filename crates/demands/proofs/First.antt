@@ -1,8 +1,10 @@
 -- Demand 1. Assumes nothing.
 use Prim.Native.Nat.{ℕ}
-use mathlib.Core.Path.{refl}
-use mathlib.Core.List.{List, _++_}
-use lib.ListN.{length}
+use mathlib.Core.Path.{_≡_, refl}
+use mathlib.Core.Bool.{true}
+use mathlib.Core.List.{List, [], _∷_, _++_}
+use lib.Dec.{eqb, ltb}
+use lib.ListN.{length, getD}
 use Rattle.wire.specs.Answers.{rule}
 use Rattle.frame.specs.Session.{frameAt}
 use Rattle.frame.specs.Promises.{tellFrame}
@@ -21,17 +23,31 @@ use Rattle.lookup.proofs.OneAnswer.{only-moment, only-block}
 use Rattle.gate.specs.Value.{valueChecks, valueOf, gateOf}
 use Rattle.gate.specs.Promises.{tellGate}
 use Rattle.gate.proofs.OneAnswer.{value-only, gate-only}
+use Rattle.wire.specs.Numbers.{num}
+use Rattle.wire.specs.Tables.{render}
+use Rattle.wire.specs.Checks.{check}
+use Rattle.wire.specs.Sizes.{bytes}
+use Rattle.wire.specs.Writing.{tellWrite, filled}
+use Rattle.writer.specs.declared.Given.{Given}
+use Rattle.writer.specs.Writing.{framesOf, writeChecks, writeOf}
+use Rattle.writer.proofs.OneAnswer.{write-only}
+use Rattle.request.specs.Request.{requestTable, requestChecks, requestOf, requestWritten}
+use Rattle.request.specs.Promises.{tellRequest}
+use Rattle.request.proofs.OneAnswer.{request-only, write-only as request-write-only}
+use Rattle.clutter.specs.Censor.{bodyOf, count, fields, bodyChecks, listOf, listChecks, censorOf, censorWritten, regionsChecks}
+use Rattle.clutter.specs.Promises.{shown as zonesShown}
+use Rattle.clutter.proofs.OneAnswer.{write-only as censor-write-only}
 use Rattle.map.specs.Map.{codeAt}
 use Rattle.map.specs.Reading.{segmentsIn, mapChecks, mapIn, summary, askedChecks, summaryOf, codeOf}
 use Rattle.filter.specs.Answers.{tellMap, tellCode}
 use Rattle.filter.proofs.OneAnswer.{one-map-answer, one-code-answer}
-use Rattle.demands.specs.Notions.{ByChecks}
-use Rattle.demands.specs.Orders.{streamChecks, setChecks, momentChecks, gateChecks}
+use Rattle.demands.specs.Notions.{ByChecks, KeptLent}
+use Rattle.demands.specs.Orders.{streamChecks, setChecks, momentChecks, gateChecks, requestListChecks, censorListChecks}
 use Rattle.demands.specs.Demand1.{Demand1}
-use Rattle.demands.proofs.ByChecksLaws.{by-rule, inside-join, kept, kept-lent}
-use Rattle.demands.proofs.Inside.{map-inside}
+use Rattle.demands.proofs.ByChecksLaws.{inside, inside-join, by-rule, by-outcome, outcome-untouched, kept, kept-lent}
+use Rattle.demands.proofs.Inside.{regions-inside, map-inside}
 use Rattle.demands.proofs.Shows.{showFrame, frame-back, showHeader, header-back, showSet, set-back, showMoment, moment-back, showBlock, block-back}
-use Rattle.demands.proofs.Shows.{showGate, gate-back, showMap, map-back, showCode, code-back}
+use Rattle.demands.proofs.Shows.{showWrite, write-back, showRequest, request-back, showGate, gate-back, showMap, map-back, showCode, code-back}
 use Rattle.demands.proofs.Readers.{by-stream, by-set, set-untouched, by-radial, by-moment, by-block, by-value, by-gate}
 
 by-header : (b : List ℕ) → ByChecks (headerChecks b) (headerOf b)
@@ -44,6 +60,41 @@ by-query b elevation azimuth kilometre =
     by-rule (mapChecks b ++ askedChecks (segmentsIn b) elevation azimuth kilometre) (codeAt (mapIn b) elevation azimuth kilometre)
     (inside-join (mapChecks b) (askedChecks (segmentsIn b) elevation azimuth kilometre) (map-inside b) refl)
 
+-- ---- the writers
+write-kept : (g : Given) (body out : List ℕ) → KeptLent tellWrite (writeChecks g body (length out)) (writeOf g body out) out
+unfolding writeOf
+write-kept g body out =
+    kept-lent tellWrite showWrite write-back (writeChecks g body (length out)) (writeOf g body out) out (write-only g body out)
+    (by-outcome (writeChecks g body (length out)) out (bytes (length (framesOf g body))) (filled (framesOf g body) out) refl)
+    (outcome-untouched (writeChecks g body (length out)) out (bytes (length (framesOf g body))) (filled (framesOf g body) out))
+
+by-request : (b : List ℕ) → ByChecks (requestChecks (eqb (length b) 2) (num 2 b 0)) (requestOf b)
+unfolding requestOf
+by-request b = by-rule (requestChecks (eqb (length b) 2) (num 2 b 0)) (num 2 b 0) refl
+
+request-kept : (list out : List ℕ) → KeptLent tellWrite (requestListChecks list (length out)) (requestWritten list out) out
+unfolding requestWritten
+request-kept list out =
+    let body = render (requestTable (getD list 0 0)) in
+    kept-lent tellWrite showWrite write-back (requestListChecks list (length out)) (requestWritten list out) out (request-write-only list out)
+    (by-outcome (requestListChecks list (length out)) out (bytes (length body)) (filled body out) refl)
+    (outcome-untouched (requestListChecks list (length out)) out (bytes (length body)) (filled body out))
+
+by-censor : (b : List ℕ) → ByChecks (bodyChecks b) (censorOf b)
+unfolding censorOf
+by-censor b = by-rule (bodyChecks b) (listOf b) (regions-inside (count (listOf b)) (fields (listOf b)))
+
+censor-inside : (list : List ℕ) (room : ℕ) → inside (censorListChecks list room) ≡ true
+censor-inside list room = inside-join (listChecks list) (check 13 (ltb room (length (bodyOf list))) ∷ []) (regions-inside (count list) (fields list)) refl
+
+censor-kept : (list out : List ℕ) → KeptLent tellWrite (censorListChecks list (length out)) (censorWritten list out) out
+unfolding censorWritten
+censor-kept list out =
+    let body = bodyOf list in
+    kept-lent tellWrite showWrite write-back (censorListChecks list (length out)) (censorWritten list out) out (censor-write-only list out)
+    (by-outcome (censorListChecks list (length out)) out (bytes (length body)) (filled body out) (censor-inside list (length out)))
+    (outcome-untouched (censorListChecks list (length out)) out (bytes (length body)) (filled body out))
+
 pub demand1 : Demand1
 demand1 = record {
   frame = λ stream place.
@@ -51,6 +102,7 @@ demand1 = record {
   header = λ message. kept tellHeader showHeader header-back (headerChecks message) (headerOf message) (header-only message) (by-header message);
   set = λ frames out.
       kept-lent tellSet showSet set-back (setChecks frames (length out)) (setOf frames out) out (set-only frames out) (by-set frames out) (set-untouched frames out);
+  write = write-kept;
   radial = λ body. (record { the = shown (radialOf body); meets = refl; only = λ r e. e }, by-radial body);
   moment = λ body name.
       kept tellMoment showMoment moment-back (momentChecks body name) (headShown (momentOf body name)) (only-moment body name) (by-moment body name);
@@ -58,6 +110,11 @@ demand1 = record {
   gate = λ body name gate. kept tellGate showGate gate-back (gateChecks body name gate) (gateOf body name gate) (gate-only body name gate) (by-gate body name gate);
   value = λ code scale offset.
       kept tellGate showGate gate-back (valueChecks scale offset) (valueOf code scale offset) (value-only code scale offset) (by-value code scale offset);
+  request = λ body.
+      kept tellRequest showRequest request-back (requestChecks (eqb (length body) 2) (num 2 body 0)) (requestOf body) (request-only body) (by-request body);
+  writeRequest = request-kept;
+  censor = λ body. (record { the = zonesShown (censorOf body); meets = refl; only = λ r e. e }, by-censor body);
+  writeCensor = censor-kept;
   map = λ body. kept tellMap showMap map-back (mapChecks body) (summaryOf body) (one-map-answer body) (by-rule (mapChecks body) (summary (mapIn body)) (map-inside body));
   code = λ body elevation azimuth kilometre.
       kept tellCode showCode code-back (mapChecks body ++ askedChecks (segmentsIn body) elevation azimuth kilometre) (codeOf body elevation azimuth kilometre)

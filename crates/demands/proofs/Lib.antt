@@ -7,3 +7,4 @@ pub mod Readers
 pub mod First
 pub mod Third
 pub mod Painted
+pub mod Second

@@ -26,6 +26,13 @@ use Rattle.gate.specs.Value.{Worth, belowThreshold, rangeFolded, worth}
 use Rattle.gate.specs.declared.GateAnswer.{GateAnswer}
 use Rattle.gate.specs.declared.GateAnswer.the-variants.{Value, BelowThreshold, RangeFolded, Refused as NoValue}
 use Rattle.gate.specs.Promises.{tellGate}
+use Rattle.wire.specs.declared.Bytes.{Bytes}
+use Rattle.wire.specs.declared.WriteAnswer.{WriteAnswer}
+use Rattle.wire.specs.declared.WriteAnswer.the-variants.{Written, Refused as NotWritten}
+use Rattle.wire.specs.Writing.{tellWrite}
+use Rattle.request.specs.declared.RequestAnswer.{RequestAnswer}
+use Rattle.request.specs.declared.RequestAnswer.the-variants.{Code as RequestCode, Refused as NoRequest}
+use Rattle.request.specs.Promises.{tellRequest}
 use Rattle.map.specs.Reading.{Summary}
 use Rattle.filter.specs.declared.MapAnswer.{MapAnswer}
 use Rattle.filter.specs.declared.MapAnswer.the-variants.{Map, Refused as NoMap}
@@ -114,3 +121,19 @@ showCode (given c) = Code c
 pub code-back : (a : Answer ℕ) → tellCode (showCode a) ≡ a
 code-back (refused n) = refl
 code-back (given c) = refl
+
+abbrev pub showWrite : Answer Bytes → WriteAnswer
+showWrite (refused n) = NotWritten n
+showWrite (given long) = Written long
+
+pub write-back : (a : Answer Bytes) → tellWrite (showWrite a) ≡ a
+write-back (refused n) = refl
+write-back (given long) = refl
+
+abbrev pub showRequest : Answer ℕ → RequestAnswer
+showRequest (refused n) = NoRequest n
+showRequest (given code) = RequestCode code
+
+pub request-back : (a : Answer ℕ) → tellRequest (showRequest a) ≡ a
+request-back (refused n) = refl
+request-back (given code) = refl

@@ -5,3 +5,4 @@ pub mod Demand1
 pub mod Cases
 pub mod Demand3
 pub mod Wall
+pub mod Demand2
