@@ -5,7 +5,7 @@ use mathlib.Core.Bool.{true}
 use mathlib.Core.List.{List, [], _∷_, _++_}
 use lib.Dec.{eqb, ltb}
 use lib.ListN.{length, getD}
-use Rattle.wire.specs.Answers.{rule}
+use Rattle.wire.specs.Answers.{Promise}
 use Rattle.frame.specs.Session.{frameAt}
 use Rattle.frame.specs.Promises.{tellFrame}
 use Rattle.frame.proofs.OneAnswer.{frame-only}
@@ -25,9 +25,10 @@ use Rattle.gate.specs.Promises.{tellGate}
 use Rattle.gate.proofs.OneAnswer.{value-only, gate-only}
 use Rattle.wire.specs.Numbers.{num}
 use Rattle.wire.specs.Tables.{render}
-use Rattle.wire.specs.Checks.{check}
+use Rattle.wire.specs.Checks.{Check, check}
 use Rattle.wire.specs.Sizes.{bytes}
-use Rattle.wire.specs.Writing.{tellWrite, filled}
+use Rattle.wire.specs.Writing.{tellWrite, filled, written}
+use Rattle.wire.specs.declared.WriteAnswer.{WriteAnswer}
 use Rattle.writer.specs.declared.Given.{Given}
 use Rattle.writer.specs.Writing.{framesOf, writeChecks, writeOf}
 use Rattle.writer.proofs.OneAnswer.{write-only}
@@ -42,7 +43,7 @@ use Rattle.map.specs.Reading.{segmentsIn, mapChecks, mapIn, summary, askedCheck
 use Rattle.filter.specs.Answers.{tellMap, tellCode}
 use Rattle.filter.proofs.OneAnswer.{one-map-answer, one-code-answer}
 use Rattle.demands.specs.Notions.{ByChecks, KeptLent}
-use Rattle.demands.specs.Orders.{streamChecks, setChecks, momentChecks, gateChecks, requestListChecks, censorListChecks}
+use Rattle.demands.specs.Orders.{streamChecks, setChecks, momentChecks, gateChecks, writerChecks}
 use Rattle.demands.specs.Demand1.{Demand1}
 use Rattle.demands.proofs.ByChecksLaws.{inside, inside-join, by-rule, by-outcome, outcome-untouched, kept, kept-lent}
 use Rattle.demands.proofs.Inside.{regions-inside, map-inside}
@@ -61,39 +62,37 @@ by-query b elevation azimuth kilometre =
     (inside-join (mapChecks b) (askedChecks (segmentsIn b) elevation azimuth kilometre) (map-inside b) refl)
 
 -- ---- the writers
-write-kept : (g : Given) (body out : List ℕ) → KeptLent tellWrite (writeChecks g body (length out)) (writeOf g body out) out
+-- one law for all three: the checks, then 13
+written-kept : (ks : List Check) (whole out : List ℕ) → inside ks ≡ true
+    → ((a b : WriteAnswer) (x y : List ℕ) → Promise tellWrite (written ks whole out) a x → Promise tellWrite (written ks whole out) b y → (a ≡ b) × (x ≡ y))
+    → KeptLent tellWrite (writerChecks ks whole (length out)) (written ks whole out) out
+written-kept ks whole out i only =
+    let all = writerChecks ks whole (length out) in
+    kept-lent tellWrite showWrite write-back all (written ks whole out) out only
+    (by-outcome all out (bytes (length whole)) (filled whole out) (inside-join ks (check 13 (ltb (length out) (length whole)) ∷ []) i refl))
+    (outcome-untouched all out (bytes (length whole)) (filled whole out))
+
+write-kept : (g : Given) (body out : List ℕ) → KeptLent tellWrite (writerChecks (writeChecks g body) (framesOf g body) (length out)) (writeOf g body out) out
 unfolding writeOf
-write-kept g body out =
-    kept-lent tellWrite showWrite write-back (writeChecks g body (length out)) (writeOf g body out) out (write-only g body out)
-    (by-outcome (writeChecks g body (length out)) out (bytes (length (framesOf g body))) (filled (framesOf g body) out) refl)
-    (outcome-untouched (writeChecks g body (length out)) out (bytes (length (framesOf g body))) (filled (framesOf g body) out))
+write-kept g body out = written-kept (writeChecks g body) (framesOf g body) out refl (write-only g body out)
 
 by-request : (b : List ℕ) → ByChecks (requestChecks (eqb (length b) 2) (num 2 b 0)) (requestOf b)
 unfolding requestOf
 by-request b = by-rule (requestChecks (eqb (length b) 2) (num 2 b 0)) (num 2 b 0) refl
 
-request-kept : (list out : List ℕ) → KeptLent tellWrite (requestListChecks list (length out)) (requestWritten list out) out
+request-kept : (list out : List ℕ)
+    → KeptLent tellWrite (writerChecks (requestChecks (eqb (length list) 1) (getD list 0 0)) (render (requestTable (getD list 0 0))) (length out)) (requestWritten list out) out
 unfolding requestWritten
 request-kept list out =
-    let body = render (requestTable (getD list 0 0)) in
-    kept-lent tellWrite showWrite write-back (requestListChecks list (length out)) (requestWritten list out) out (request-write-only list out)
-    (by-outcome (requestListChecks list (length out)) out (bytes (length body)) (filled body out) refl)
-    (outcome-untouched (requestListChecks list (length out)) out (bytes (length body)) (filled body out))
+    written-kept (requestChecks (eqb (length list) 1) (getD list 0 0)) (render (requestTable (getD list 0 0))) out refl (request-write-only list out)
 
 by-censor : (b : List ℕ) → ByChecks (bodyChecks b) (censorOf b)
 unfolding censorOf
 by-censor b = by-rule (bodyChecks b) (listOf b) (regions-inside (count (listOf b)) (fields (listOf b)))
 
-censor-inside : (list : List ℕ) (room : ℕ) → inside (censorListChecks list room) ≡ true
-censor-inside list room = inside-join (listChecks list) (check 13 (ltb room (length (bodyOf list))) ∷ []) (regions-inside (count list) (fields list)) refl
-
-censor-kept : (list out : List ℕ) → KeptLent tellWrite (censorListChecks list (length out)) (censorWritten list out) out
+censor-kept : (list out : List ℕ) → KeptLent tellWrite (writerChecks (listChecks list) (bodyOf list) (length out)) (censorWritten list out) out
 unfolding censorWritten
-censor-kept list out =
-    let body = bodyOf list in
-    kept-lent tellWrite showWrite write-back (censorListChecks list (length out)) (censorWritten list out) out (censor-write-only list out)
-    (by-outcome (censorListChecks list (length out)) out (bytes (length body)) (filled body out) (censor-inside list (length out)))
-    (outcome-untouched (censorListChecks list (length out)) out (bytes (length body)) (filled body out))
+censor-kept list out = written-kept (listChecks list) (bodyOf list) out (regions-inside (count list) (fields list)) (censor-write-only list out)
 
 pub demand1 : Demand1
 demand1 = record {

@@ -7,8 +7,9 @@ use Prim.Native.Nat.{ℕ}
 use mathlib.Core.Path.{_≡_}
 use mathlib.Core.List.{List, _++_}
 use lib.Dec.{eqb}
-use lib.ListN.{length}
+use lib.ListN.{length, getD}
 use Rattle.wire.specs.Numbers.{num}
+use Rattle.wire.specs.Tables.{render}
 use Rattle.wire.specs.Writing.{tellWrite}
 use Rattle.frame.specs.Session.{frameAt}
 use Rattle.frame.specs.Promises.{tellFrame}
@@ -17,7 +18,7 @@ use Rattle.message.specs.Promises.{tellHeader}
 use Rattle.segments.specs.Walk.{setOf}
 use Rattle.sets.specs.Promises.{tellSet}
 use Rattle.writer.specs.declared.Given.{Given}
-use Rattle.writer.specs.Writing.{writeChecks, writeOf}
+use Rattle.writer.specs.Writing.{framesOf, writeChecks, writeOf}
 use Rattle.description.specs.Refusal.{radialChecks, radialOf}
 use Rattle.description.specs.Lookups.{momentOf, blockOf}
 use Rattle.radial.specs.declared.Radial.{Radial}
@@ -25,15 +26,15 @@ use Rattle.radial.specs.Shown.{shown}
 use Rattle.lookup.specs.Told.{tellMoment, headShown, tellBlock, blockShown}
 use Rattle.gate.specs.Value.{valueChecks, valueOf, gateOf}
 use Rattle.gate.specs.Promises.{tellGate}
-use Rattle.request.specs.Request.{requestChecks, requestOf, requestWritten}
+use Rattle.request.specs.Request.{requestTable, requestChecks, requestOf, requestWritten}
 use Rattle.request.specs.Promises.{tellRequest}
 use Rattle.clutter.specs.declared.Censor.{Censor}
-use Rattle.clutter.specs.Censor.{bodyChecks, censorOf, censorWritten}
+use Rattle.clutter.specs.Censor.{bodyOf, listChecks, bodyChecks, censorOf, censorWritten}
 use Rattle.clutter.specs.Promises.{shown as zonesShown}
 use Rattle.map.specs.Reading.{segmentsIn, mapChecks, askedChecks, summaryOf, codeOf}
 use Rattle.filter.specs.Answers.{tellMap, tellCode}
 use Rattle.demands.specs.Notions.{One, ByChecks, Kept, KeptLent}
-use Rattle.demands.specs.Orders.{streamChecks, setChecks, momentChecks, gateChecks, requestListChecks, censorListChecks}
+use Rattle.demands.specs.Orders.{streamChecks, setChecks, momentChecks, gateChecks, writerChecks}
 
 pub record Demand1 : Type 0 where
   -- `frame_at`, `read_header`
@@ -41,7 +42,7 @@ pub record Demand1 : Type 0 where
   pub header : (message : List ℕ) → Kept tellHeader (headerChecks message) (headerOf message)
   -- `read_set`, `write_message`
   pub set : (frames out : List ℕ) → KeptLent tellSet (setChecks frames (length out)) (setOf frames out) out
-  pub write : (given : Given) (body out : List ℕ) → KeptLent tellWrite (writeChecks given body (length out)) (writeOf given body out) out
+  pub write : (given : Given) (body out : List ℕ) → KeptLent tellWrite (writerChecks (writeChecks given body) (framesOf given body) (length out)) (writeOf given body out) out
   -- `read_radial`, whose struct is `shown` of the rule's answer; `moment`, `block`; `gate_value`, `value`
   pub radial : (body : List ℕ) → One (λ (r : Radial). r ≡ shown (radialOf body)) × ByChecks (radialChecks body) (radialOf body)
   pub moment : (body : List ℕ) (name : ℕ) → Kept tellMoment (momentChecks body name) (headShown (momentOf body name))
@@ -50,9 +51,9 @@ pub record Demand1 : Type 0 where
   pub value : (code scale offset : ℕ) → Kept tellGate (valueChecks scale offset) (valueOf code scale offset)
   -- `read_request`, `write_request`; `read_censor`, whose struct is `shown` of the rule's answer, `write_censor`
   pub request : (body : List ℕ) → Kept tellRequest (requestChecks (eqb (length body) 2) (num 2 body 0)) (requestOf body)
-  pub writeRequest : (list out : List ℕ) → KeptLent tellWrite (requestListChecks list (length out)) (requestWritten list out) out
+  pub writeRequest : (list out : List ℕ) → KeptLent tellWrite (writerChecks (requestChecks (eqb (length list) 1) (getD list 0 0)) (render (requestTable (getD list 0 0))) (length out)) (requestWritten list out) out
   pub censor : (body : List ℕ) → One (λ (r : Censor). r ≡ zonesShown (censorOf body)) × ByChecks (bodyChecks body) (censorOf body)
-  pub writeCensor : (list out : List ℕ) → KeptLent tellWrite (censorListChecks list (length out)) (censorWritten list out) out
+  pub writeCensor : (list out : List ℕ) → KeptLent tellWrite (writerChecks (listChecks list) (bodyOf list) (length out)) (censorWritten list out) out
   -- `check_map`, `code_at`
   pub map : (body : List ℕ) → Kept tellMap (mapChecks body) (summaryOf body)
   pub code : (body : List ℕ) (elevation azimuth kilometre : ℕ)

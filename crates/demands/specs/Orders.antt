@@ -3,8 +3,7 @@ use Prim.Native.Nat.{ℕ, zero, suc}
 use mathlib.Core.Bool.{Bool, true, false}
 use mathlib.Core.List.{List, [], _∷_, _++_}
 use lib.Dec.{eqb, leb, ltb}
-use lib.ListN.{length, getD, drop}
-use Rattle.wire.specs.Tables.{render}
+use lib.ListN.{length, drop}
 use Rattle.wire.specs.Checks.{pick, Check, check}
 use Rattle.wire.specs.Answers.{Answer, refused, given}
 use Rattle.frame.specs.Session.{after, frameChecks}
@@ -14,8 +13,6 @@ use Rattle.description.specs.Description.{Moment, gates}
 use Rattle.description.specs.Refusal.{description, radialChecks}
 use Rattle.description.specs.Lookups.{momentNamed}
 use Rattle.gate.specs.Value.{valueChecks}
-use Rattle.request.specs.Request.{requestTable, requestChecks}
-use Rattle.clutter.specs.Censor.{bodyOf, listChecks}
 
 -- a stream at a place: nothing is checked at its end
 abbrev pub streamChecks : List ℕ → ℕ → List Check
@@ -47,10 +44,6 @@ abbrev pub gateChecks : List ℕ → ℕ → ℕ → List Check
 gateChecks b name gate =
     radialChecks b ++ (check 21 (missing name (description b .moments)) ∷ codeChecks (momentNamed name (description b .moments)) gate)
 
--- "Body writers: the reader's checks, then 13."
-abbrev pub requestListChecks : List ℕ → ℕ → List Check
-requestListChecks list room =
-    requestChecks (eqb (length list) 1) (getD list 0 0) ++ (check 13 (ltb room (length (render (requestTable (getD list 0 0))))) ∷ [])
-
-abbrev pub censorListChecks : List ℕ → ℕ → List Check
-censorListChecks list room = listChecks list ++ (check 13 (ltb room (length (bodyOf list))) ∷ [])
+-- "Frame writer: 6, 8, 25, 26, 13." "Body writers: the reader's checks, then 13.": the checks of a writer whose whole answer is `whole`
+abbrev pub writerChecks : List Check → List ℕ → ℕ → List Check
+writerChecks ks whole room = ks ++ (check 13 (ltb room (length whole)) ∷ [])
