@@ -1,9 +1,8 @@
 -- Demand 2. "A message that we write and then reassemble, given room, comes back with body, channel, type, sequence number, date and milliseconds."
-use Prim.Native.Nat.{_≤_}
+use Prim.Native.Nat.{ℕ, _≤_}
 use mathlib.Core.Path.{_≡_}
 use mathlib.Core.List.{List}
-use Prim.Native.Nat.{ℕ}
-use lib.ListN.{length, take}
+use lib.ListN.{length, take, drop}
 use Rattle.wire.specs.Answers.{Promise}
 use Rattle.wire.specs.Sizes.{bytes}
 use Rattle.wire.specs.Writing.{tellWrite, filled}
