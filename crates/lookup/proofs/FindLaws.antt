@@ -1,12 +1,12 @@
 -- A list searched from the front: what is left answers as the whole. Assumes nothing.
 use Prim.Native.Nat.{ℕ, _+_, _≤_, _<_}
 use native.Mathlib.Numerals.{add-one}
-use mathlib.Core.Path.{_≡_, refl, sym, ap, _∙_}
-use mathlib.Core.List.{List, [], _∷_, map}
+use mathlib.Core.Path.{_≡_, refl}
+use mathlib.Core.List.{List}
 use lib.ListN.{length, getD, take, drop, drop-of-length-le}
 use lib.Seq.{drop-cons, getD-take, length-take-le}
 use borrow.Author.Tests.{eq-eqb, ne-eqb}
-use Rattle.wire.specs.Answers.{Answer, refused, given}
+use Rattle.wire.specs.Answers.{refused, given}
 use Rattle.radial.specs.declared.MomentHead.{MomentHead}
 use Rattle.lookup.specs.Steps.{headNamed}
 

@@ -1,21 +1,19 @@
 -- What the lookups find in the reader's struct is what the rule answers. Assumes nothing.
 use Prim.Native.Nat.{ℕ, zero, suc, _+_, _-_, _*_, _/_, _≤_, _<_}
 use native.Mathlib.Omega.{arith}
-use mathlib.Core.Path.{_≡_, refl, sym, ap, subst, _∙_}
+use mathlib.Core.Path.{_≡_, refl, sym, ap, _∙_}
 use mathlib.Core.Bool.{Bool, true, false}
 use mathlib.Core.Option.{Option, none, some}
 use mathlib.Core.List.{List, [], _∷_, _++_, map}
 use lib.Dec.{eqb}
-use lib.ListN.{length, getD, take, drop, replicate, length-append, length-replicate, List·getD-eq-default}
-use lib.Seq.{length-take-le}
-use denote.Ref.{RefT, now}
-use Rattle.wire.specs.Numbers.{num, fetched, Octets}
+use lib.ListN.{length, getD, take, replicate, length-append, length-replicate, List·getD-eq-default}
+use Rattle.wire.specs.Numbers.{Octets}
 use Rattle.wire.specs.Checks.{pick}
 use Rattle.wire.specs.Answers.{Answer, refused, given}
 use Rattle.wire.proofs.CheckLaws.{never}
 use Rattle.description.specs.Description.{RVOL, RELV, RRAD, constants, mostBlocks, momentHead, Moment, Description, blockCount}
 use Rattle.description.specs.Refusal.{radialOf}
-use Rattle.description.specs.Lookups.{onward, momentNamed, momentOf, Lying, momentLying, blocks, Asked, noSuch, lies, blockOf, Part, gatesIn, gatesOf, bytesIn}
+use Rattle.description.specs.Lookups.{momentNamed, momentOf, momentLying, blocks, Asked, noSuch, lies, blockOf, gatesOf}
 use Rattle.description.proofs.Accepted.{agreed}
 use Rattle.description.proofs.Naming.{gate-words}
 use Rattle.radial.specs.declared.MomentHead.{MomentHead}
@@ -24,7 +22,7 @@ use Rattle.radial.specs.Shown.{headOf, noHead, room, shown}
 use Rattle.radial.proofs.LoopLaws.{map-length}
 use Rattle.radial.proofs.HandedLaws.{Shows, shows-given, shows-refused, heads-taken}
 use Rattle.lookup.specs.declared.Located.{Located}
-use Rattle.lookup.specs.Told.{Told, headShown, toldOf, blockShown, partOf, LiesAt}
+use Rattle.lookup.specs.Told.{Told, headShown, toldOf, blockShown, partOf}
 use Rattle.lookup.specs.Steps.{headNamed, constantTold, momentTold, located}
 
 -- ---- a moment by its name

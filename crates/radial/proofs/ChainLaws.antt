@@ -1,14 +1,13 @@
 -- The steps of the reader one after the other: a refusal of one is the radial's, and what one hands on the next begins with. Assumes nothing.
-use Prim.Native.Nat.{ℕ, _+_, _-_, _≤_}
-use mathlib.Core.Path.{_≡_, refl, sym, ap, _∙_}
-use mathlib.Core.Option.{none, some}
-use mathlib.Core.List.{List, [], _∷_}
-use Rattle.wire.specs.Checks.{Check, decide, first}
+use Prim.Native.Nat.{ℕ, _-_}
+use mathlib.Core.Path.{_≡_, sym, ap, _∙_}
+use mathlib.Core.List.{List, []}
+use Rattle.wire.specs.Checks.{Check, decide}
 use Rattle.wire.specs.Answers.{Answer, refused, given, rule}
 use Rattle.wire.proofs.CheckLaws.{decide-none, decide-some}
 use Rattle.wire.proofs.AnswerLaws.{rule-given, rule-refused}
 use Rattle.description.specs.Description.{RVOL, RELV, RRAD, volumeLeast, elevationLeast, radialLeast}
-use Rattle.description.specs.Refusal.{sizeIn, pointer, part, blockSays, blockChecks, endAt, constantsChecks}
+use Rattle.description.specs.Refusal.{sizeIn, pointer, part, blockChecks, endAt}
 use Rattle.radial.specs.declared.Span.{Span}
 use Rattle.radial.specs.Steps.{spanIn, constantAt, constantsOf}
 

@@ -8,7 +8,7 @@ use mathlib.Core.List.{List, [], _∷_, _++_, map, append-assoc}
 use lib.ListN.{length, take, set, replicate, length-set}
 use lib.Seq.{set-at, take-suc-set}
 use Rattle.wire.specs.Checks.{Check, decide}
-use Rattle.wire.specs.Answers.{Answer, refused, given, rule}
+use Rattle.wire.specs.Answers.{refused, given, rule}
 use Rattle.description.specs.Description.{Moment}
 use Rattle.description.specs.Refusal.{pointer, part, nameIn, momentAt, momentsAt, momentSays, momentChecks, momentsChecks}
 use Rattle.description.proofs.Accepted.{moments-length}

@@ -10,7 +10,7 @@ use lib.Ieee.{binary32, ofBits}
 use lib.ListN.{length, take, drop, length-drop}
 use lib.Seq.{length-take-le}
 use borrow.Author.Tests.{lt-ltb, le-ltb, ltb-true, ltb-false}
-use Rattle.wire.specs.Numbers.{num, nums}
+use Rattle.wire.specs.Numbers.{num}
 use Rattle.wire.specs.Answers.{refused}
 use Rattle.wire.proofs.NumberLaws.{num-take, nums-length}
 use Rattle.description.specs.Refusal.{momentSays, momentAt}

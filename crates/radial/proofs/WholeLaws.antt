@@ -1,8 +1,8 @@
 -- The reader's steps together are the rule. Assumes nothing.
 use Prim.Native.Nat.{ℕ, _+_, _-_, _≤_}
-use mathlib.Core.Path.{_≡_, refl, sym, ap, _∙_}
+use mathlib.Core.Path.{_≡_, sym, ap, _∙_}
 use mathlib.Core.Bool.{Bool, true, false}
-use mathlib.Core.List.{List, [], _∷_}
+use mathlib.Core.List.{List, []}
 use native.Mathlib.Omega.{arith}
 use lib.ListN.{length}
 use borrow.Author.Tests.{ltb-false}
@@ -18,7 +18,6 @@ use Rattle.description.proofs.Accepted.{moments-length}
 use Rattle.radial.specs.declared.Header.{Header}
 use Rattle.radial.specs.declared.Span.{Span}
 use Rattle.radial.specs.declared.MomentHead.{MomentHead}
-use Rattle.radial.specs.declared.Radial.{Radial}
 use Rattle.radial.specs.declared.Heads.{Heads}
 use Rattle.radial.specs.Shown.{headerOf, spanOf, headsOf, shown}
 use Rattle.radial.specs.Steps.{tellHeads, spanIn, startOf, constantsOf, momentsOf}

@@ -1,7 +1,7 @@
 -- What the reader hands back by value: of a description its values, the blocks' places and lengths and the moments' heads; of a refusal its
 -- number. "Each returns its number and count 0": all else is then 0.
 use Prim.Native.Nat.{ℕ, _-_}
-use mathlib.Core.List.{List, [], map, _++_}
+use mathlib.Core.List.{List, map, _++_}
 use lib.ListN.{length, replicate}
 use lib.Ieee.{binary32, ofBits}
 use Rattle.wire.specs.Answers.{Answer, refused, given}

@@ -9,27 +9,10 @@ use Rattle.wire.specs.Numbers.{num}
 use Rattle.wire.specs.Checks.{Check, check, among, pick}
 use Rattle.wire.specs.Answers.{Answer, refused, given, rule}
 use Rattle.description.specs.Description.{permitted, mostGates, wordSizes, constantHead, momentHead}
-use Rattle.description.specs.Refusal.{
-  sizeIn,
-  countIn,
-  pointer,
-  part,
-  nameIn,
-  momentAt,
-  momentsAt,
-  blockSays,
-  momentSays,
-  headerChecks,
-  blockChecks,
-  momentChecks,
-  momentsChecks,
-  endAt,
-  constantsChecks,
-}
+use Rattle.description.specs.Refusal.{sizeIn, countIn, pointer, part, nameIn, momentAt, momentsAt, blockSays, momentSays, headerChecks, blockChecks, momentChecks, momentsChecks, endAt, constantsChecks}
 use Rattle.radial.specs.Shown.{headOf, headsOf}
 use Rattle.radial.specs.declared.Span.{Span}
 use Rattle.radial.specs.declared.MomentHead.{MomentHead}
-use Rattle.radial.specs.declared.Header.{Header}
 use Rattle.radial.specs.declared.Start.{Start}
 use Rattle.radial.specs.declared.Start.the-variants.{Checked, Refused as NotStarted}
 use Rattle.radial.specs.declared.Found.{Found}

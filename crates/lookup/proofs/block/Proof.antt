@@ -1,5 +1,5 @@
 use Prim.Native.Nat.{ℕ, _≤_}
-use mathlib.Core.Path.{_≡_, ap, _∙_}
+use mathlib.Core.Path.{ap, _∙_}
 use mathlib.Core.Option.{some}
 use native.Mathlib.Omega.{arith}
 use denote.Ref.{now}
@@ -10,99 +10,74 @@ use Rattle.lookup.proofs.LookupLaws.{counted, block-refused, block-none
 use borrow.Author.Needs.{needs}
 use Rattle.lookup.proofs.block.Statement.{statement}
 use Rattle.lookup.proofs.block.Tie as tie
-use Rattle.lookup.proofs.block.Reads as reads
-use Rattle.lookup.proofs.block.Lts as lts
-use Rattle.lookup.proofs.constant.Reads as constant-reads
-use Rattle.lookup.proofs.moment_block.Reads as moment-block-reads
-use Rattle.radial.proofs.read_radial.Reads as read-radial-reads
 
--- src/lib.rt:79:16
 read-radial-requires : tie.Need-read-radial-requires
 read-radial-requires c κs = search needs
 
--- src/lib.rt:81:9
 returns : tie.Need-returns
 returns c = block-refused (now (c .before .before .before .args .body)) (c .before .read-radial .result) (c .before .read-radial .ensures) (c .before .before .before .args .k) (c .if1 .taken)
 
--- src/lib.rt:83:9
 cast-if2 : tie.Need-cast-if2
 cast-if2 c = search needs
 
--- src/lib.rt:84:9
 returns-2 : tie.Need-returns-2
 returns-2 c = block-none (now (c .before .before .before .before .args .body)) (c .before .before .read-radial .result) (c .before .before .read-radial .ensures) (c .before .if1 .left) (c .before .before .before .before .args .k) (c .if2 .taken)
 
--- src/lib.rt:87:9
 returns-3 : tie.Need-returns-3
 returns-3 c = block-zero (now (c .before .before .before .before .before .args .body)) (c .before .before .before .read-radial .result) (c .before .before .before .read-radial .ensures) (c .before .before .if1 .left) (c .before .before .before .before .before .args .k) (c .if3 .taken)
 
--- src/lib.rt:91:25
 slice-aggregate-constant : tie.Need-slice-aggregate-constant
 slice-aggregate-constant c = search needs
 
--- src/lib.rt:91:9
 constant-requires : tie.Need-constant-requires
 constant-requires c κs = search needs
 
--- src/lib.rt:91:9
 returns-4 : tie.Need-returns-4
 returns-4 c =
     c .constant .ensures
     ∙ ap (λ (n : ℕ). given (some (constantTold n (c .before .before .before .before .before .before .before .read-radial .result .volume)))) RVOL-is
     ∙ block-volume (now (c .before .before .before .before .before .before .before .before .before .args .body)) (c .before .before .before .before .before .before .before .read-radial .result) (c .before .before .before .before .before .before .before .read-radial .ensures) (c .before .before .before .before .before .before .if1 .left) (c .before .before .before .before .before .before .before .before .before .args .k) (c .before .before .before .if4 .taken)
 
--- src/lib.rt:95:25
 slice-aggregate-constant-2 : tie.Need-slice-aggregate-constant-2
 slice-aggregate-constant-2 c = search needs
 
--- src/lib.rt:95:9
 constant-requires-2 : tie.Need-constant-requires-2
 constant-requires-2 c κs = search needs
 
--- src/lib.rt:95:9
 returns-5 : tie.Need-returns-5
 returns-5 c =
     c .constant2 .ensures
     ∙ ap (λ (n : ℕ). given (some (constantTold n (c .before .before .before .before .before .before .before .before .read-radial .result .elevation)))) RELV-is
     ∙ block-elevation (now (c .before .before .before .before .before .before .before .before .before .before .args .body)) (c .before .before .before .before .before .before .before .before .read-radial .result) (c .before .before .before .before .before .before .before .before .read-radial .ensures) (c .before .before .before .before .before .before .before .if1 .left) (c .before .before .before .before .before .before .before .before .before .before .args .k) (c .before .before .before .if5 .taken)
 
--- src/lib.rt:99:25
 slice-aggregate-constant-3 : tie.Need-slice-aggregate-constant-3
 slice-aggregate-constant-3 c = search needs
 
--- src/lib.rt:99:9
 constant-requires-3 : tie.Need-constant-requires-3
 constant-requires-3 c κs = search needs
 
--- src/lib.rt:99:9
 returns-6 : tie.Need-returns-6
 returns-6 c =
     c .constant3 .ensures
     ∙ ap (λ (n : ℕ). given (some (constantTold n (c .before .before .before .before .before .before .before .before .before .read-radial .result .radial)))) RRAD-is
     ∙ block-radial (now (c .before .before .before .before .before .before .before .before .before .before .before .args .body)) (c .before .before .before .before .before .before .before .before .before .read-radial .result) (c .before .before .before .before .before .before .before .before .before .read-radial .ensures) (c .before .before .before .before .before .before .before .before .if1 .left) (c .before .before .before .before .before .before .before .before .before .before .before .args .k) (c .before .before .before .if6 .taken)
 
--- src/lib.rt:101:14
 sub-i : tie.Need-sub-i
 sub-i c = search needs
 
--- src/lib.rt:101:13
 cast-i : tie.Need-cast-i
 cast-i c = search needs
 
--- src/lib.rt:102:16
 mul-head : tie.Need-mul-head
 mul-head c = search needs
 
--- src/lib.rt:102:16
 element-copy-out-head : tie.Need-element-copy-out-head
 element-copy-out-head c =
     let few = counted (now (c .before .before .before .before .before .before .before .before .args .body)) (c .before .before .before .before .before .before .read-radial .result) (c .before .before .before .before .before .before .read-radial .ensures) (c .before .before .before .before .before .if1 .left) (λ i. (c .before .before .before .before .before .before .before .shared-slice-known .given i) .fits) .1 in omega (arith, few, c .before .before .before .before .if2 .left)
 
--- src/lib.rt:103:5
 moment-block-requires : tie.Need-moment-block-requires
 moment-block-requires c κs = search needs
 
--- src/lib.rt:76:1
 returns-7 : tie.Need-returns-7
 returns-7 c =
     let four : 4 ≤ c .before .before .before .before .before .before .before .before .before .before .args .k = omega arith in

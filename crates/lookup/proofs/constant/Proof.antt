@@ -6,19 +6,13 @@ use Rattle.lookup.specs.Steps.{constantTold}
 use borrow.Author.Needs.{needs}
 use Rattle.lookup.proofs.constant.Statement.{statement}
 use Rattle.lookup.proofs.constant.Tie as tie
-use Rattle.lookup.proofs.constant.Reads as reads
-use Rattle.lookup.proofs.constant.Lts as lts
-use Rattle.wire.proofs.fetch32.Reads as fetch32-reads
 
--- src/lib.rt:79:15
 fetch32-requires : tie.Need-fetch32-requires
 fetch32-requires c κs = search needs
 
--- src/lib.rt:81:15
 cast-t4 : tie.Need-cast-t4
 cast-t4 c = search needs
 
--- src/lib.rt:75:1
 returns : tie.Need-returns
 returns c = ap (λ (n : ℕ). given (some (constantTold n (c .before .before .before .args .span)))) (c .before .fetch32 .ensures)
 

@@ -2,7 +2,7 @@
 -- the struct is made of their results. All that the proof knows of the two is that each meets its contract.
 -- A `&[u8]` is Copy, so what the body owns is had again for each call and for the exit. What the numbers and the name own is made anew.
 -- Assumes nothing.
-use mathlib.Core.Path.{_≡_, refl, ap, subst}
+use mathlib.Core.Path.{refl, ap, subst}
 use Prim.Native.Nat.{ℕ, _+_, _≤_, _<_, _^_}
 use mathlib.Core.List.{List, [], _∷_, map}
 use lib.ListN.{length}
@@ -42,8 +42,8 @@ use denote.Triple.Walked.{says, Stays, stay-none, stay-none-slice, walkOf, goes-
 use denote.Exit.{yes}
 use denote.Triple.Clauses.{ensured, lasts}
 use Rattle.wire.specs.Numbers.{num}
-use Rattle.description.specs.Lookups.{Part, momentOf, gatesOf}
-use Rattle.lookup.specs.Told.{LiesAt, partOf, Lent}
+use Rattle.description.specs.Lookups.{Part}
+use Rattle.lookup.specs.Told.{LiesAt, Lent}
 use Rattle.lookup.specs.Steps.{Locates}
 use Rattle.lookup.specs.declared.Located.{Located}
 use Rattle.lookup.specs.declared.LentGates.{LentGates}

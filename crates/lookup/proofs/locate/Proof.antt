@@ -1,4 +1,4 @@
-use mathlib.Core.Path.{_≡_, sym, ap, _∙_}
+use mathlib.Core.Path.{sym, ap, _∙_}
 use denote.Ref.{now}
 use Rattle.wire.specs.Numbers.{num}
 use Rattle.description.specs.Lookups.{momentOf}
@@ -7,44 +7,31 @@ use Rattle.lookup.proofs.LookupLaws.{located-refused, located-given, lo
 use borrow.Author.Needs.{needs}
 use Rattle.lookup.proofs.locate.Statement.{statement}
 use Rattle.lookup.proofs.locate.Tie as tie
-use Rattle.lookup.proofs.locate.Reads as reads
-use Rattle.lookup.proofs.locate.Lts as lts
-use Rattle.lookup.proofs.moment.Reads as moment-reads
-use Rattle.radial.proofs.moment_size.Reads as moment-size-reads
 
--- src/lib.rt:129:11
 moment-requires : tie.Need-moment-requires
 moment-requires c κs = search needs
 
--- src/lib.rt:130:31
 enum-known-number : tie.Need-enum-known-number
 enum-known-number c = search needs
 
--- src/lib.rt:136:30
 enum-known-head : tie.Need-enum-known-head
 enum-known-head c = search needs
 
--- src/lib.rt:139:20
 cast-t7 : tie.Need-cast-t7
 cast-t7 c = search needs
 
--- src/lib.rt:139:20
 add-t8 : tie.Need-add-t8
 add-t8 c = search needs
 
--- src/lib.rt:140:19
 moment-size-requires : tie.Need-moment-size-requires
 moment-size-requires c κs = search needs
 
--- src/lib.rt:140:19
 cast-t10 : tie.Need-cast-t10
 cast-t10 c = search needs
 
--- src/lib.rt:140:19
 sub-t11 : tie.Need-sub-t11
 sub-t11 c = search needs
 
--- src/lib.rt:126:1
 returns : tie.Need-returns
 returns c =
     let a = c .before .before .before .before .before .args in

@@ -14,10 +14,6 @@ use Rattle.lookup.proofs.LookupLaws.{counted, all-there, moment-refused
 use borrow.Author.Needs.{needs}
 use Rattle.lookup.proofs.moment.Statement.{statement}
 use Rattle.lookup.proofs.moment.Tie as tie
-use Rattle.lookup.proofs.moment.Reads as reads
-use Rattle.lookup.proofs.moment.Lts as lts
-use Rattle.radial.proofs.read_radial.Reads as read-radial-reads
-use Rattle.wire.proofs.fetch32.Reads as fetch32-reads
 
 abbrev Inv-loop : tie.InvT-loop
 Inv-loop body wanted read count i₀ i = (i ≤ count) × (headNamed wanted (drop i (take count (read .moments))) ≡ headNamed wanted (take count (read .moments)))
@@ -43,61 +39,47 @@ found c =
     let read = c .before .read-radial .result in
     ap (λ (n : ℕ). headNamed n (take (read .count - 3) (read .moments))) wanted ∙ moment-found (now (c .before .before .before .before .before .args .body)) (c .before .read-radial .result) (c .before .read-radial .ensures) (c .if1 .left) _
 
--- src/lib.rt:49:32
 slice-aggregate-fetch32 : tie.Need-slice-aggregate-fetch32 Inv-loop μ-loop
 slice-aggregate-fetch32 c = search needs
 
--- src/lib.rt:49:9
 fetch32-requires : tie.Need-fetch32-requires Inv-loop μ-loop
 fetch32-requires c κs = search needs
 
--- src/lib.rt:50:16
 read-radial-requires : tie.Need-read-radial-requires Inv-loop μ-loop
 read-radial-requires c κs = search needs
 
--- src/lib.rt:52:9
 returns : tie.Need-returns Inv-loop μ-loop
 returns c = moment-refused (now (c .before .before .before .before .before .args .body)) (c .before .read-radial .result) (c .before .read-radial .ensures) _ (c .if1 .taken)
 
--- src/lib.rt:54:18
 sub-count : tie.Need-sub-count Inv-loop μ-loop
 sub-count c = let n = ready c in omega (arith, n .0)
 
--- src/lib.rt:54:17
 cast-count : tie.Need-cast-count Inv-loop μ-loop
 cast-count c = search needs
 
--- src/lib.rt:56:5
 loop-holds : tie.Need-loop-holds Inv-loop μ-loop
 loop-holds c = (search needs, refl)
 
--- src/lib.rt:57:20
 mul-head : tie.Need-mul-head Inv-loop μ-loop
 mul-head c = let n = ready (c .before .before) in omega (arith, n .1)
 
--- src/lib.rt:57:20
 element-copy-out-head : tie.Need-element-copy-out-head Inv-loop μ-loop
 element-copy-out-head c = let n = ready (c .before .before) in omega (arith, n .1)
 
--- src/lib.rt:59:13
 returns-2 : tie.Need-returns-2 Inv-loop μ-loop
 returns-2 c =
     sym (head-here (c .before .before .before .before .before .before .before .fetch32 .result) (c .before .before .before .before .before .before .read-radial .result .moments) (c .before .before .before .before .before .before .read-radial .result .count - 3) (c .before .before .before .before .loop .i) _ (long (c .before .before .before .before .before)) (c .before .before .before .loop-test .taken) (c .if2 .taken)) ∙ c .before .before .before .before .loop .inv .1 ∙ found (c .before .before .before .before .before)
 
--- src/lib.rt:61:9
 add-i : tie.Need-add-i Inv-loop μ-loop
 add-i c = search needs
 
--- src/lib.rt:56:5
 loop-less : tie.Need-loop-less Inv-loop μ-loop
 loop-less c = search needs
 
--- src/lib.rt:56:5
 loop-again : tie.Need-loop-again Inv-loop μ-loop
 loop-again c =
     (search needs, sym (head-next (c .before .before .before .before .before .before .before .fetch32 .result) (c .before .before .before .before .before .before .read-radial .result .moments) (c .before .before .before .before .before .before .read-radial .result .count - 3) (c .before .before .before .before .loop .i) _ (long (c .before .before .before .before .before)) (c .before .before .before .loop-test .taken) (c .if2 .left)) ∙ c .before .before .before .before .loop .inv .1)
 
--- src/lib.rt:46:1
 returns-3 : tie.Need-returns-3 Inv-loop μ-loop
 returns-3 c =
     sym (head-end (c .before .before .before .before .fetch32 .result) (c .before .before .before .read-radial .result .moments) (c .before .before .before .read-radial .result .count - 3) (c .before .loop .i) noHead (long (c .before .before)) (c .loop-test .left)) ∙ c .before .loop .inv .1 ∙ found (c .before .before)

@@ -7,26 +7,19 @@ use denote.Ref.{now}
 use borrow.Author.Needs.{needs}
 use Rattle.lookup.proofs.part.Statement.{statement}
 use Rattle.lookup.proofs.part.Tie as tie
-use Rattle.lookup.proofs.part.Reads as reads
-use Rattle.lookup.proofs.part.Lts as lts
 
--- src/lib.rt:150:15
 add-end : tie.Need-add-end
 add-end c = search needs
 
--- src/lib.rt:151:5
 sub-result : tie.Need-sub-result
 sub-result c = search needs
 
--- src/lib.rt:151:5
 part-result-start : tie.Need-part-result-start
 part-result-start c = search needs
 
--- src/lib.rt:151:5
 part-result-end : tie.Need-part-result-end
 part-result-end c = search needs
 
--- src/lib.rt:145:1
 returns : tie.Need-returns
 returns c =
     let a = c .before .before .args in

@@ -6,10 +6,6 @@ use Rattle.wire.proofs.NumberLaws.{number-is}
 use borrow.Author.Needs.{needs}
 use Rattle.radial.proofs.begin.Statement.{statement}
 use Rattle.radial.proofs.begin.Tie as tie
-use Rattle.radial.proofs.begin.Reads as reads
-use Rattle.radial.proofs.begin.Lts as lts
-use Rattle.wire.proofs.fetch16.Reads as fetch16-reads
-use Rattle.wire.proofs.fetch8.Reads as fetch8-reads
 
 -- the numbers that the fetches gave
 n16 : (c : tie.After-fetch8) → num 1 (now (c .before .before .before .args .body)) 16 ≡ c .fetch8 .result
@@ -21,61 +17,48 @@ n18 c = number-is 2 _ 18 _ (c .fetch16 .ensures) (search needs)
 n30 : (c : tie.After-fetch162) → num 2 (now (c .before .before .before .before .before .before .before .before .args .body)) 30 ≡ c .fetch162 .result
 n30 c = number-is 2 _ 30 _ (c .fetch162 .ensures) (search needs)
 
--- src/lib.rt:234:9
 returns : tie.Need-returns
 returns c =
     simp (lt-ltb _ _ (c .if1 .taken))
 
--- src/lib.rt:236:8
 fetch8-requires : tie.Need-fetch8-requires
 fetch8-requires c κs = search needs
 
--- src/lib.rt:237:9
 returns-2 : tie.Need-returns-2
 returns-2 c =
     simp (n16 (c .before), le-ltb _ _ (c .before .before .if1 .left), ne-eqb _ _ (c .if2 .taken))
 
--- src/lib.rt:239:9
 fetch16-requires : tie.Need-fetch16-requires
 fetch16-requires c κs = search needs
 
--- src/lib.rt:260:8
 cast-if3 : tie.Need-cast-if3
 cast-if3 c = search needs
 
--- src/lib.rt:241:9
 returns-3 : tie.Need-returns-3
 returns-3 c =
     simp (n16 (c .before .before .before), n18 (c .before), le-ltb _ _ (c .before .before .before .before .if1 .left), eq-eqb _ _ (c .before .before .if2 .left), lt-ltb _ _ (c .if3 .taken))
 
--- src/lib.rt:243:21
 cast-if4 : tie.Need-cast-if4
 cast-if4 c = search needs
 
--- src/lib.rt:244:9
 returns-4 : tie.Need-returns-4
 returns-4 c =
     simp (n16 (c .before .before .before .before), n18 (c .before .before), le-ltb _ _ (c .before .before .before .before .before .if1 .left), eq-eqb _ _ (c .before .before .before .if2 .left), le-ltb _ _ (c .before .if3 .left), lt-ltb _ _ (c .if4 .taken))
 
--- src/lib.rt:246:9
 fetch16-requires-2 : tie.Need-fetch16-requires-2
 fetch16-requires-2 c κs = search needs
 
--- src/lib.rt:248:9
 returns-5 : tie.Need-returns-5
 returns-5 c =
     simp (n16 (c .before .before .before .before .before .before), n18 (c .before .before .before .before), n30 (c .before), le-ltb _ _ (c .before .before .before .before .before .before .before .if1 .left), eq-eqb _ _ (c .before .before .before .before .before .if2 .left), le-ltb _ _ (c .before .before .before .if3 .left), le-ltb _ _ (c .before .before .if4 .left), lt-ltb _ _ (c .if5 .taken))
 
--- src/lib.rt:251:9
 returns-6 : tie.Need-returns-6
 returns-6 c =
     simp (n16 (c .before .before .before .before .before .before .before), n18 (c .before .before .before .before .before), n30 (c .before .before), le-ltb _ _ (c .before .before .before .before .before .before .before .before .if1 .left), eq-eqb _ _ (c .before .before .before .before .before .before .if2 .left), le-ltb _ _ (c .before .before .before .before .if3 .left), le-ltb _ _ (c .before .before .before .if4 .left), le-ltb _ _ (c .before .if5 .left), lt-ltb _ _ (c .if6 .taken))
 
--- src/lib.rt:253:20
 cast-t8 : tie.Need-cast-t8
 cast-t8 c = search needs
 
--- src/lib.rt:230:1
 returns-7 : tie.Need-returns-7
 returns-7 c =
     simp (n16 (c .before .before .before .before .before .before .before), n18 (c .before .before .before .before .before), n30 (c .before .before), le-ltb _ _ (c .before .before .before .before .before .before .before .before .if1 .left), eq-eqb _ _ (c .before .before .before .before .before .before .if2 .left), le-ltb _ _ (c .before .before .before .before .if3 .left), le-ltb _ _ (c .before .before .before .if4 .left), le-ltb _ _ (c .before .if5 .left), le-ltb _ _ (c .if6 .left))

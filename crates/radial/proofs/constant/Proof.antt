@@ -1,19 +1,14 @@
-use mathlib.Core.Path.{_≡_, refl, sym, _∙_}
+use mathlib.Core.Path.{_≡_, refl}
 use lib.Dec.{eqb}
 use denote.Ref.{now}
-use native.Mathlib.Omega.{arith}
 use borrow.Author.Tests.{lt-ltb, le-ltb, not-true, not-false}
-use Rattle.wire.specs.Numbers.{num, fetched}
+use Rattle.wire.specs.Numbers.{fetched}
 use Rattle.description.specs.Refusal.{nameIn, blockSays}
 use Rattle.wire.proofs.NumberLaws.{number-is}
 use Rattle.radial.proofs.StepLaws.{named-as}
 use borrow.Author.Needs.{needs}
 use Rattle.radial.proofs.constant.Statement.{statement}
 use Rattle.radial.proofs.constant.Tie as tie
-use Rattle.radial.proofs.constant.Reads as reads
-use Rattle.radial.proofs.constant.Lts as lts
-use Rattle.radial.proofs.named.Reads as named-reads
-use Rattle.wire.proofs.fetch16.Reads as fetch16-reads
 
 -- the comparison of the names, and the block's length
 same : (c : tie.After-named) → eqb (nameIn (now (c .before .before .before .before .args .part))) (fetched 4 (now (c .before .before .before .before .args .name)) 0) ≡ c .named .result
@@ -22,47 +17,37 @@ same c = named-as (now (c .before .before .before .before .args .part)) (now (c 
 says : (c : tie.After-fetch16) → blockSays (now (c .before .before .before .before .before .before .args .part)) ≡ c .fetch16 .result
 says c = number-is 2 _ 4 _ (c .fetch16 .ensures) (search needs)
 
--- src/lib.rt:305:9
 returns : tie.Need-returns
 returns c =
     simp (lt-ltb _ _ (c .if1 .taken))
 
--- src/lib.rt:307:9
 named-requires : tie.Need-named-requires
 named-requires c κs = search needs
 
--- src/lib.rt:308:9
 returns-2 : tie.Need-returns-2
 returns-2 c =
     simp (same (c .before), le-ltb _ _ (c .before .before .if1 .left), not-true (c .before .named .result) (c .if2 .taken))
 
--- src/lib.rt:310:9
 fetch16-requires : tie.Need-fetch16-requires
 fetch16-requires c κs = search needs
 
--- src/lib.rt:306:16
 cast-size : tie.Need-cast-size
 cast-size c = search needs
 
--- src/lib.rt:312:9
 returns-3 : tie.Need-returns-3
 returns-3 c =
     simp (same (c .before .before .before), says (c .before), le-ltb _ _ (c .before .before .before .before .if1 .left), not-false (c .before .before .before .named .result) (c .before .before .if2 .left), lt-ltb _ _ (c .if3 .taken))
 
--- src/lib.rt:315:9
 returns-4 : tie.Need-returns-4
 returns-4 c =
     simp (same (c .before .before .before .before), says (c .before .before), le-ltb _ _ (c .before .before .before .before .before .if1 .left), not-false (c .before .before .before .before .named .result) (c .before .before .before .if2 .left), le-ltb _ _ (c .before .if3 .left), lt-ltb _ _ (c .if4 .taken))
 
--- src/lib.rt:321:35
 cast-t11 : tie.Need-cast-t11
 cast-t11 c = search needs
 
--- src/lib.rt:321:27
 add-t12 : tie.Need-add-t12
 add-t12 c = search needs
 
--- src/lib.rt:300:1
 returns-5 : tie.Need-returns-5
 returns-5 c =
     simp (same (c .before .before .before .before), says (c .before .before), le-ltb _ _ (c .before .before .before .before .before .if1 .left), not-false (c .before .before .before .before .named .result) (c .before .before .before .if2 .left), le-ltb _ _ (c .before .if3 .left), le-ltb _ _ (c .if4 .left))

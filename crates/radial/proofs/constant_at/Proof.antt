@@ -8,20 +8,14 @@ use Rattle.radial.proofs.PartLaws.{constant-early, constant-late, const
 use borrow.Author.Needs.{needs}
 use Rattle.radial.proofs.constant_at.Statement.{statement}
 use Rattle.radial.proofs.constant_at.Tie as tie
-use Rattle.radial.proofs.constant_at.Reads as reads
-use Rattle.radial.proofs.constant_at.Lts as lts
-use Rattle.radial.proofs.constant.Reads as constant-reads
-use Rattle.wire.proofs.fetch32.Reads as fetch32-reads
 
 -- the pointer that was fetched
 place-is : (c : tie.After-fetch32) → pointer (now (c .before .before .before .args .body)) (c .before .before .before .args .pointer) ≡ c .fetch32 .result
 place-is c = number-is 4 _ _ _ (c .fetch32 .ensures) (c .before .before .before .pre .1)
 
--- src/lib.rt:328:9
 fetch32-requires : tie.Need-fetch32-requires
 fetch32-requires c κs = search needs
 
--- src/lib.rt:330:9
 returns : tie.Need-returns
 returns c =
     let a = c .before .before .before .before .args in
@@ -29,7 +23,6 @@ returns c =
     let p = c .before .fetch32 .result in
     rw (place-is (c .before)) (constant-early (a .pointer) (a .size) (a .from) p (drop p b) (fetched 4 (now (a .name)) 0) (a .least) (c .if1 .taken))
 
--- src/lib.rt:333:9
 returns-2 : tie.Need-returns-2
 returns-2 c =
     let a = c .before .before .before .before .before .args in
@@ -37,27 +30,21 @@ returns-2 c =
     let p = c .before .before .fetch32 .result in
     rw (place-is (c .before .before)) (constant-late (a .pointer) (a .size) (a .from) p (drop p b) (fetched 4 (now (a .name)) 0) (a .least) (c .before .if1 .left) (c .if2 .taken))
 
--- src/lib.rt:335:17
 cast-begin : tie.Need-cast-begin
 cast-begin c = search needs
 
--- src/lib.rt:337:14
 sub-constant : tie.Need-sub-constant
 sub-constant c = search needs
 
--- src/lib.rt:337:14
 part-constant-start : tie.Need-part-constant-start
 part-constant-start c = search needs
 
--- src/lib.rt:337:14
 part-constant-end : tie.Need-part-constant-end
 part-constant-end c = search needs
 
--- src/lib.rt:337:5
 constant-requires : tie.Need-constant-requires
 constant-requires c κs = search needs
 
--- src/lib.rt:324:1
 returns-3 : tie.Need-returns-3
 returns-3 c =
     let a = c .before .before .before .before .before .before .before .args in

@@ -1,15 +1,12 @@
 use denote.Ref.{now}
 use Rattle.radial.proofs.StepLaws.{among-here, among-next, among-end}
 use Rattle.wire.specs.Checks.{among}
-use native.Mathlib.Omega.{arith}
 use lib.ListN.{length, drop}
 use mathlib.Core.Path.{_≡_, refl, sym, _∙_}
 use Prim.Native.Nat.{_≤_, _-_}
 use borrow.Author.Needs.{needs}
 use Rattle.radial.proofs.listed.Statement.{statement}
 use Rattle.radial.proofs.listed.Tie as tie
-use Rattle.radial.proofs.listed.Reads as reads
-use Rattle.radial.proofs.listed.Lts as lts
 
 abbrev Inv-loop : tie.InvT-loop
 Inv-loop seen name i₀ i = (i ≤ length seen) × (among name (drop i seen) ≡ among name seen)
@@ -17,35 +14,27 @@ Inv-loop seen name i₀ i = (i ≤ length seen) × (among name (drop i seen) ≡
 abbrev μ-loop : tie.MeasureT-loop
 μ-loop seen name i₀ i = length seen - i
 
--- src/lib.rt:290:5
 loop-holds : tie.Need-loop-holds Inv-loop μ-loop
 loop-holds c = (search needs, refl)
 
--- src/lib.rt:291:20
 mul-if1 : tie.Need-mul-if1 Inv-loop μ-loop
 mul-if1 c = search needs
 
--- src/lib.rt:291:20
 shared-slice-read-if1 : tie.Need-shared-slice-read-if1 Inv-loop μ-loop
 shared-slice-read-if1 c = search needs
 
--- src/lib.rt:292:13
 returns : tie.Need-returns Inv-loop μ-loop
 returns c = sym (among-here (c .before .before .before .before .args .name) (now (c .before .before .before .before .args .seen)) (c .before .before .before .loop .i) (search needs) (c .if1 .taken)) ∙ c .before .before .before .loop .inv .1
 
--- src/lib.rt:294:9
 add-i : tie.Need-add-i Inv-loop μ-loop
 add-i c = search needs
 
--- src/lib.rt:290:5
 loop-less : tie.Need-loop-less Inv-loop μ-loop
 loop-less c = search needs
 
--- src/lib.rt:290:5
 loop-again : tie.Need-loop-again Inv-loop μ-loop
 loop-again c = (search needs, sym (among-next (c .before .before .before .before .args .name) (now (c .before .before .before .before .args .seen)) (c .before .before .before .loop .i) (search needs) (c .if1 .left)) ∙ c .before .before .before .loop .inv .1)
 
--- src/lib.rt:286:1
 returns-2 : tie.Need-returns-2 Inv-loop μ-loop
 returns-2 c = sym (among-end (c .before .before .args .name) (now (c .before .before .args .seen)) (c .before .loop .i) (search needs)) ∙ c .before .loop .inv .1
 

@@ -7,20 +7,14 @@ use Rattle.radial.proofs.PartLaws.{moment-early, moment-late, moment-th
 use borrow.Author.Needs.{needs}
 use Rattle.radial.proofs.moment_at.Statement.{statement}
 use Rattle.radial.proofs.moment_at.Tie as tie
-use Rattle.radial.proofs.moment_at.Reads as reads
-use Rattle.radial.proofs.moment_at.Lts as lts
-use Rattle.radial.proofs.moment_in.Reads as moment-in-reads
-use Rattle.wire.proofs.fetch32.Reads as fetch32-reads
 
 -- the pointer that was fetched
 place-is : (c : tie.After-fetch32) → pointer (now (c .before .before .before .args .body)) (c .before .before .before .args .pointer) ≡ c .fetch32 .result
 place-is c = number-is 4 _ _ _ (c .fetch32 .ensures) (c .before .before .before .pre .1)
 
--- src/lib.rt:404:9
 fetch32-requires : tie.Need-fetch32-requires
 fetch32-requires c κs = search needs
 
--- src/lib.rt:406:9
 returns : tie.Need-returns
 returns c =
     let a = c .before .before .before .before .args in
@@ -28,7 +22,6 @@ returns c =
     let p = c .before .fetch32 .result in
     rw (place-is (c .before)) (moment-early (a .pointer) (a .size) (a .from) p (drop p b) (now (a .seen)) (c .if1 .taken))
 
--- src/lib.rt:409:9
 returns-2 : tie.Need-returns-2
 returns-2 c =
     let a = c .before .before .before .before .before .args in
@@ -36,27 +29,21 @@ returns-2 c =
     let p = c .before .before .fetch32 .result in
     rw (place-is (c .before .before)) (moment-late (a .pointer) (a .size) (a .from) p (drop p b) (now (a .seen)) (c .before .if1 .left) (c .if2 .taken))
 
--- src/lib.rt:411:17
 cast-begin : tie.Need-cast-begin
 cast-begin c = search needs
 
--- src/lib.rt:413:15
 sub-moment-in : tie.Need-sub-moment-in
 sub-moment-in c = search needs
 
--- src/lib.rt:413:15
 part-moment-in-start : tie.Need-part-moment-in-start
 part-moment-in-start c = search needs
 
--- src/lib.rt:413:15
 part-moment-in-end : tie.Need-part-moment-in-end
 part-moment-in-end c = search needs
 
--- src/lib.rt:413:5
 moment-in-requires : tie.Need-moment-in-requires
 moment-in-requires c κs = search needs
 
--- src/lib.rt:400:1
 returns-3 : tie.Need-returns-3
 returns-3 c =
     let a = c .before .before .before .before .before .before .before .args in

@@ -1,7 +1,6 @@
-use Prim.Native.Nat.{ℕ, _+_, _*_, _/_, _<_, _≤_}
-use mathlib.Core.Path.{_≡_, refl, sym, ap, _∙_}
-use mathlib.Core.Bool.{Bool, true, false, not}
-use mathlib.Core.List.{List}
+use Prim.Native.Nat.{_+_, _*_, _/_, _<_, _≤_}
+use mathlib.Core.Path.{_≡_, sym, ap, _∙_}
+use mathlib.Core.Bool.{true, false}
 use lib.Dec.{ltb}
 use lib.ListN.{length}
 use denote.Ref.{now}
@@ -15,13 +14,6 @@ use Rattle.radial.specs.declared.MomentHead.{MomentHead}
 use borrow.Author.Needs.{needs}
 use Rattle.radial.proofs.moment_in.Statement.{statement}
 use Rattle.radial.proofs.moment_in.Tie as tie
-use Rattle.radial.proofs.moment_in.Reads as reads
-use Rattle.radial.proofs.moment_in.Lts as lts
-use Rattle.radial.proofs.head_of.Reads as head-of-reads
-use Rattle.radial.proofs.listed.Reads as listed-reads
-use Rattle.radial.proofs.moment_size.Reads as moment-size-reads
-use Rattle.radial.proofs.permitted.Reads as permitted-reads
-use Rattle.radial.proofs.sized.Reads as sized-reads
 
 -- what the callees found, and what each test said of the part's bytes
 permits : (c : tie.After-permitted) → among (nameIn (now (c .before .before .before .before .args .part))) permittedNames ≡ c .permitted .result
@@ -54,67 +46,53 @@ few c = le-ltb mostGates (num 2 (now (c .before .before .before .before .before 
 fitting : (c : tie.Else5) → among (num 1 (now (c .before .before .before .before .before .before .before .before .before .before .before .before .args .part)) 19) wordSizes ≡ true
 fitting c = sizes (c .before) ∙ not-false (c .before .sized .result) (c .if5 .left)
 
--- src/lib.rt:378:9
 returns : tie.Need-returns
 returns c =
     simp (lt-ltb _ _ (c .if1 .taken))
 
--- src/lib.rt:380:9
 permitted-requires : tie.Need-permitted-requires
 permitted-requires c κs = search needs
 
--- src/lib.rt:381:9
 returns-2 : tie.Need-returns-2
 returns-2 c =
     simp (long (c .before .before), permits (c .before) ∙ not-true (c .before .permitted .result) (c .if2 .taken))
 
--- src/lib.rt:383:9
 head-of-requires : tie.Need-head-of-requires
 head-of-requires c κs = search needs
 
--- src/lib.rt:384:8
 listed-requires : tie.Need-listed-requires
 listed-requires c κs = search needs
 
--- src/lib.rt:385:9
 returns-3 : tie.Need-returns-3
 returns-3 c =
     simp (long (c .before .before .before .before .before), known (c .before .before .before), repeats (c .before) ∙ c .if3 .taken)
 
--- src/lib.rt:388:9
 returns-4 : tie.Need-returns-4
 returns-4 c =
     let many : mostGates < num 2 (now (c .before .before .before .before .before .before .before .before .before .before .args .part)) 8 = rw (gates-are (c .before .before .before .before)) (c .if4 .taken) in
     simp (long (c .before .before .before .before .before .before .before), known (c .before .before .before .before .before), once (c .before .before), lt-ltb _ _ many)
 
--- src/lib.rt:390:9
 sized-requires : tie.Need-sized-requires
 sized-requires c κs = search needs
 
--- src/lib.rt:391:9
 returns-5 : tie.Need-returns-5
 returns-5 c =
     simp (long (c .before .before .before .before .before .before .before .before .before), known (c .before .before .before .before .before .before .before), once (c .before .before .before .before), few (c .before .before), sizes (c .before) ∙ not-true (c .before .sized .result) (c .if5 .taken))
 
--- src/lib.rt:393:9
 moment-size-requires : tie.Need-moment-size-requires
 moment-size-requires c κs = search needs
 
--- src/lib.rt:394:21
 cast-if6 : tie.Need-cast-if6
 cast-if6 c = search needs
 
--- src/lib.rt:395:9
 returns-6 : tie.Need-returns-6
 returns-6 c =
     let over : length (now (c .before .before .before .before .before .before .before .before .before .before .before .before .before .before .args .part)) < momentSays (now (c .before .before .before .before .before .before .before .before .before .before .before .before .before .before .args .part)) = rw (size-is (c .before)) (c .if6 .taken) in
     simp (long (c .before .before .before .before .before .before .before .before .before .before .before), known (c .before .before .before .before .before .before .before .before .before), once (c .before .before .before .before .before .before), few (c .before .before .before .before), fitting (c .before .before), lt-ltb _ _ over)
 
--- src/lib.rt:397:23
 add-t11 : tie.Need-add-t11
 add-t11 c = search needs
 
--- src/lib.rt:373:1
 returns-7 : tie.Need-returns-7
 returns-7 c =
     let inside : momentSays (now (c .before .before .before .before .before .before .before .before .before .before .before .before .before .before .args .part)) ≤ length (now (c .before .before .before .before .before .before .before .before .before .before .before .before .before .before .args .part)) = rw (size-is (c .before)) (c .if6 .left) in

@@ -1,16 +1,12 @@
-use mathlib.Core.Path.{_≡_, sym, _∙_}
+use mathlib.Core.Path.{_≡_}
 use lib.Dec.{eqb}
 use denote.Ref.{now}
-use native.Mathlib.Omega.{arith}
 use Rattle.description.specs.Refusal.{nameIn}
 use Rattle.wire.proofs.CheckLaws.{either-false}
 use Rattle.radial.proofs.StepLaws.{named-as, DREF-is, DVEL-is, DSW-is, DZDR-is, DPHI-is, DRHO-is}
 use borrow.Author.Needs.{needs}
 use Rattle.radial.proofs.permitted.Statement.{statement}
 use Rattle.radial.proofs.permitted.Tie as tie
-use Rattle.radial.proofs.permitted.Reads as reads
-use Rattle.radial.proofs.permitted.Lts as lts
-use Rattle.radial.proofs.named.Reads as named-reads
 
 -- what each comparison says
 e1 : (c : tie.After-named) → eqb (nameIn (now (c .before .before .before .args .part))) 0x44524546 ≡ c .named .result
@@ -31,80 +27,62 @@ e5 c = named-as (now (c .before .before .before .before .before .before .before 
 e6 : (c : tie.After-named6) → eqb (nameIn (now (c .before .before .before .before .before .before .before .before .before .before .before .before .before .before .before .before .before .before .args .part))) 0x4452484F ≡ c .named6 .result
 e6 c = named-as (now (c .before .before .before .before .before .before .before .before .before .before .before .before .before .before .before .before .before .before .args .part)) _ 0x4452484F _ (c .before .before .before .before .before .before .before .before .before .before .before .before .before .before .before .before .before .before .pre) DRHO-is (c .named6 .ensures)
 
--- src/lib.rt:267:20
 slice-aggregate-named : tie.Need-slice-aggregate-named
 slice-aggregate-named c = search needs
 
--- src/lib.rt:267:8
 named-requires : tie.Need-named-requires
 named-requires c κs = search needs
 
--- src/lib.rt:268:9
 returns : tie.Need-returns
 returns c =
     simp (e1 (c .before), c .if1 .taken)
 
--- src/lib.rt:270:20
 slice-aggregate-named-2 : tie.Need-slice-aggregate-named-2
 slice-aggregate-named-2 c = search needs
 
--- src/lib.rt:270:8
 named-requires-2 : tie.Need-named-requires-2
 named-requires-2 c κs = search needs
 
--- src/lib.rt:271:9
 returns-2 : tie.Need-returns-2
 returns-2 c =
     simp (e1 (c .before .before .before .before), e2 (c .before), c .before .before .before .if1 .left, c .if2 .taken)
 
--- src/lib.rt:273:20
 slice-aggregate-named-3 : tie.Need-slice-aggregate-named-3
 slice-aggregate-named-3 c = search needs
 
--- src/lib.rt:273:8
 named-requires-3 : tie.Need-named-requires-3
 named-requires-3 c κs = search needs
 
--- src/lib.rt:274:9
 returns-3 : tie.Need-returns-3
 returns-3 c =
     simp (e1 (c .before .before .before .before .before .before .before), e2 (c .before .before .before .before), e3 (c .before), c .before .before .before .before .before .before .if1 .left, c .before .before .before .if2 .left, c .if3 .taken)
 
--- src/lib.rt:276:20
 slice-aggregate-named-4 : tie.Need-slice-aggregate-named-4
 slice-aggregate-named-4 c = search needs
 
--- src/lib.rt:276:8
 named-requires-4 : tie.Need-named-requires-4
 named-requires-4 c κs = search needs
 
--- src/lib.rt:277:9
 returns-4 : tie.Need-returns-4
 returns-4 c =
     simp (e1 (c .before .before .before .before .before .before .before .before .before .before), e2 (c .before .before .before .before .before .before .before), e3 (c .before .before .before .before), e4 (c .before), c .before .before .before .before .before .before .before .before .before .if1 .left, c .before .before .before .before .before .before .if2 .left, c .before .before .before .if3 .left, c .if4 .taken)
 
--- src/lib.rt:279:20
 slice-aggregate-named-5 : tie.Need-slice-aggregate-named-5
 slice-aggregate-named-5 c = search needs
 
--- src/lib.rt:279:8
 named-requires-5 : tie.Need-named-requires-5
 named-requires-5 c κs = search needs
 
--- src/lib.rt:280:9
 returns-5 : tie.Need-returns-5
 returns-5 c =
     simp (e1 (c .before .before .before .before .before .before .before .before .before .before .before .before .before), e2 (c .before .before .before .before .before .before .before .before .before .before), e3 (c .before .before .before .before .before .before .before), e4 (c .before .before .before .before), e5 (c .before), c .before .before .before .before .before .before .before .before .before .before .before .before .if1 .left, c .before .before .before .before .before .before .before .before .before .if2 .left, c .before .before .before .before .before .before .if3 .left, c .before .before .before .if4 .left, c .if5 .taken)
 
--- src/lib.rt:282:17
 slice-aggregate-named-6 : tie.Need-slice-aggregate-named-6
 slice-aggregate-named-6 c = search needs
 
--- src/lib.rt:282:5
 named-requires-6 : tie.Need-named-requires-6
 named-requires-6 c κs = search needs
 
--- src/lib.rt:263:1
 returns-6 : tie.Need-returns-6
 returns-6 c =
     simp (e1 (c .before .before .before .before .before .before .before .before .before .before .before .before .before .before .before), e2 (c .before .before .before .before .before .before .before .before .before .before .before .before), e3 (c .before .before .before .before .before .before .before .before .before), e4 (c .before .before .before .before .before .before), e5 (c .before .before .before), e6 c, c .before .before .before .before .before .before .before .before .before .before .before .before .before .before .if1 .left, c .before .before .before .before .before .before .before .before .before .before .before .if2 .left, c .before .before .before .before .before .before .before .before .if3 .left, c .before .before .before .before .before .if4 .left, c .before .before .if5 .left) (sym (either-false _))

@@ -9,13 +9,6 @@ use Rattle.radial.proofs.WholeLaws.{Started, started, heads-refused, he
 use borrow.Author.Needs.{needs}
 use Rattle.radial.proofs.read_radial.Statement.{statement}
 use Rattle.radial.proofs.read_radial.Tie as tie
-use Rattle.radial.proofs.read_radial.Reads as reads
-use Rattle.radial.proofs.read_radial.Lts as lts
-use Rattle.radial.proofs.all_constants.Reads as all-constants-reads
-use Rattle.radial.proofs.all_moments.Reads as all-moments-reads
-use Rattle.radial.proofs.begin.Reads as begin-reads
-use Rattle.radial.proofs.header_of.Reads as header-of-reads
-use Rattle.radial.proofs.refuse.Reads as refuse-reads
 
 -- what the steps handed on
 start-is : (c : tie.After-known-told2) → given (c .before .size .given .0 .0, c .before .size .given .0 .1 .0) ≡ startOf (now (c .before .before .before .before .before .args .body))
@@ -27,55 +20,42 @@ begun c = started (now (c .before .before .before .before .before .args .body)) 
 three : (c : tie.After-known-told4) → given (c .before .volume .given .0 .0, c .before .volume .given .0 .1 .0, c .before .volume .given .0 .1 .1 .0, c .before .volume .given .0 .1 .1 .1 .0) ≡ constantsOf (now (c .before .before .before .before .before .before .before .before .before .args .body)) 68
 three c = ap tellConstants (sym (c .before .volume .given .1)) ∙ c .before .before .before .all-constants .ensures
 
--- src/lib.rt:454:11
 begin-requires : tie.Need-begin-requires
 begin-requires c κs = search needs
 
--- src/lib.rt:455:24
 enum-known-number : tie.Need-enum-known-number
 enum-known-number c = search needs
 
--- src/lib.rt:455:35
 refuse-requires : tie.Need-refuse-requires
 refuse-requires c κs = search needs
 
--- src/lib.rt:456:24
 enum-known-size : tie.Need-enum-known-size
 enum-known-size c = search needs
 
--- src/lib.rt:456:46
 all-constants-requires : tie.Need-all-constants-requires
 all-constants-requires c κs = (begun c .long, begun c .inside, begun c .size)
 
--- src/lib.rt:457:32
 enum-known-number-2 : tie.Need-enum-known-number-2
 enum-known-number-2 c = search needs
 
--- src/lib.rt:457:43
 refuse-requires-2 : tie.Need-refuse-requires-2
 refuse-requires-2 c κs = search needs
 
--- src/lib.rt:458:31
 enum-known-volume : tie.Need-enum-known-volume
 enum-known-volume c = search needs
 
--- src/lib.rt:459:59
 sub-all-moments : tie.Need-sub-all-moments
 sub-all-moments c = let s = begun (c .before .before .before .before) in omega (arith, s .some)
 
--- src/lib.rt:459:58
 cast-all-moments : tie.Need-cast-all-moments
 cast-all-moments c = search needs
 
--- src/lib.rt:459:21
 all-moments-requires : tie.Need-all-moments-requires
 all-moments-requires c κs = let s = begun (c .before .before .before .before) in (s .long, s .inside, omega (arith, s .few))
 
--- src/lib.rt:461:21
 refuse-requires-3 : tie.Need-refuse-requires-3
 refuse-requires-3 c κs = search needs
 
--- src/lib.rt:461:21
 returns : tie.Need-returns
 returns c =
     c .refuse3 .ensures
@@ -83,21 +63,17 @@ returns c =
     (no-moments (now (c .before .before .before .before .before .before .before .before .before .before .before .before .before .args .body)) _ _ (start-is (c .before .before .before .before .before .before .before .before)) (c .before .before .before .before .before .volume .given .0 .0) (c .before .before .before .before .before .volume .given .0 .1 .0) (c .before .before .before .before .before .volume .given .0 .1 .1 .0) (c .before .before .before .before .before .volume .given .0 .1 .1 .1 .0) (three (c .before .before .before .before)) _
     (heads-refused (c .before .before .before .all-moments .result) _ (not-true (c .before .before .before .all-moments .result .ok) (c .before .if1 .taken)) (c .before .before .before .all-moments .ensures)))
 
--- src/lib.rt:463:21
 header-of-requires : tie.Need-header-of-requires
 header-of-requires c κs = begun (c .before .before .before .before .before .before .before) .long
 
--- src/lib.rt:451:1
 returns-2 : tie.Need-returns-2
 returns-2 c = c .refuse .ensures ∙ ap shown (no-start (now (c .before .before .before .before .before .before .args .body)) _ (ap tellStart (sym (c .before .before .number .given .1)) ∙ c .before .before .before .before .begin .ensures))
 
--- src/lib.rt:451:1
 returns-3 : tie.Need-returns-3
 returns-3 c =
     c .refuse2 .ensures
     ∙ ap shown (no-constants (now (c .before .before .before .before .before .before .before .before .before .before .args .body)) _ _ (start-is (c .before .before .before .before .before)) _ (ap tellConstants (sym (c .before .before .number2 .given .1)) ∙ c .before .before .before .before .all-constants .ensures))
 
--- src/lib.rt:451:1
 returns-4 : tie.Need-returns-4
 returns-4 c =
     read (now (c .before .before .before .before .before .before .before .before .before .before .before .before .before .before .args .body)) _ _ (start-is (c .before .before .before .before .before .before .before .before .before)) (c .before .before .before .before .before .before .volume .given .0 .0) (c .before .before .before .before .before .before .volume .given .0 .1 .0) (c .before .before .before .before .before .before .volume .given .0 .1 .1 .0) (c .before .before .before .before .before .before .volume .given .0 .1 .1 .1 .0) (three (c .before .before .before .before .before)) _ _ (c .before .header-of .ensures)

@@ -1,17 +1,12 @@
 use mathlib.Core.Path.{sym}
 use Rattle.wire.proofs.CheckLaws.{either-false}
 use borrow.Author.Tests.{eq-eqb, ne-eqb}
-use borrow.Author.Needs.{needs}
 use Rattle.radial.proofs.sized.Statement.{statement}
 use Rattle.radial.proofs.sized.Tie as tie
-use Rattle.radial.proofs.sized.Reads as reads
-use Rattle.radial.proofs.sized.Lts as lts
 
--- src/lib.rt:361:9
 returns : tie.Need-returns
 returns c = simp (eq-eqb _ _ (c .if1 .taken))
 
--- src/lib.rt:357:1
 returns-2 : tie.Need-returns-2
 returns-2 c = simp (ne-eqb _ _ (c .if1 .left)) (sym (either-false _))
 
