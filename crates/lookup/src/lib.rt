@@ -15,9 +15,6 @@ use wire::refusal;
 // The four bytes that a moment is asked for by.
 pub type Name = [u8; 4];
 
-// The blocks that are no moments.
-const CONSTANTS: u16 = 3;
-
 pub enum MomentAnswer {
     Moment(MomentHead),
     Refused(u8),
@@ -46,6 +43,7 @@ struct Located {
     size: usize,
 }
 
+// The head of the moment with a name; "21 moment asked for doesn't exist".
 pub fn moment(body: &[u8], name: Name) -> MomentAnswer
     ensures { λ r. ⌜ tellMoment r ≡ headShown (momentOf (now (body .entry)) (num 4 name 0)) ⌝ }
 {
@@ -54,7 +52,7 @@ pub fn moment(body: &[u8], name: Name) -> MomentAnswer
     if read.refusal != 0 {
         return MomentAnswer::Refused(read.refusal);
     }
-    let count = (read.count - CONSTANTS) as usize;
+    let count = (read.count - radial::CONSTANTS) as usize;
     let mut i = 0;
     while i < count {
         let head = read.moments[i];
@@ -66,6 +64,7 @@ pub fn moment(body: &[u8], name: Name) -> MomentAnswer
     MomentAnswer::Refused(refusal::ASKED_FOR)
 }
 
+// One of the three constant blocks.
 fn constant(name: &[u8], span: Span) -> BlockAnswer
     ensures { λ r. ⌜ tellBlock r ≡ given (some (constantTold (fetched 4 (now (name .entry)) 0) span)) ⌝ }
 {
@@ -76,6 +75,7 @@ fn constant(name: &[u8], span: Span) -> BlockAnswer
     })
 }
 
+// Block k in pointer order, from 1.
 pub fn block(body: &[u8], k: u32) -> BlockAnswer
     ensures { λ r. ⌜ tellBlock r ≡ blockShown (blockOf (now (body .entry)) k) ⌝ }
 {
@@ -117,6 +117,7 @@ fn moment_block(head: MomentHead) -> BlockAnswer
     BlockAnswer::Moment(lying, head)
 }
 
+// The gates lie after the moment's head, one word each.
 fn locate(body: &[u8], name: Name) -> Located
     ensures { λ r. ⌜ Locates (now (body .entry)) (num 4 name 0) r ⌝ }
 {
@@ -130,12 +131,13 @@ fn locate(body: &[u8], name: Name) -> Located
         MomentAnswer::Moment(head) => Located {
             number: 0,
             gates: head.gates,
-            start: head.place as usize + 28,
-            size: radial::moment_size(head.gates, head.word) as usize - 28,
+            start: head.place as usize + radial::MOMENT_HEAD,
+            size: radial::moment_size(head.gates, head.word) as usize - radial::MOMENT_HEAD,
         },
     }
 }
 
+// The part of the lent body itself: nothing is copied.
 fn part(body: &[u8], found: Located) -> &[u8]
     requires { ⌜ found .start + found .size ≤ length (now body) ⌝ }
     ensures { λ r. ⌜ LiesAt (body .entry) r (record { place = found .start; size = found .size }) ⌝ }
@@ -145,6 +147,7 @@ fn part(body: &[u8], found: Located) -> &[u8]
     &body[start..end]
 }
 
+// Exactly the gate words of the moment with a name; an empty part on a refusal.
 pub fn gates(body: &[u8], name: Name) -> &[u8]
     ensures { λ r. ⌜ LiesAt (body .entry) r (partOf (gatesOf (now (body .entry)) (num 4 name 0))) ⌝ }
 {

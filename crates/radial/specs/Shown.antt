@@ -1,11 +1,11 @@
 -- What the reader hands back by value: of a description its values, the blocks' places and lengths and the moments' heads; of a refusal its
 -- number. "Each returns its number and count 0": all else is then 0.
-use Prim.Native.Nat.{ℕ, _-_}
+use Prim.Native.Nat.{ℕ, _+_, _-_, _*_, _/_}
 use mathlib.Core.List.{List, map, _++_}
 use lib.ListN.{length, replicate}
 use lib.Ieee.{binary32, ofBits}
 use Rattle.wire.specs.Answers.{Answer, refused, given}
-use Rattle.description.specs.Description.{constants, mostBlocks, Block, Moment, Description, gates, blockSize, blockCount}
+use Rattle.description.specs.Description.{constants, mostBlocks, momentHead, Block, Moment, Description, gates, blockSize, blockCount}
 use Rattle.radial.specs.declared.Header.{Header}
 use Rattle.radial.specs.declared.Span.{Span}
 use Rattle.radial.specs.declared.MomentHead.{MomentHead}
@@ -54,6 +54,10 @@ headOf m = record {
   «scale_bits» = m .scale;
   «offset_bits» = m .offset;
 }
+
+-- how many bytes a moment with so many gates of this word size has
+abbrev pub momentBytes : ℕ → ℕ → ℕ
+momentBytes gates word = momentHead + gates * (word / 8)
 
 abbrev pub noHeader : Header
 noHeader = record {

@@ -1,14 +1,14 @@
 // The reader of a radial: a body of message 31 is checked block by block, and what it says is handed back by value.
 ghost use mathlib.Core.Path.{_≡_};
-ghost use Prim.Native.Nat.{_+_, _*_, _/_, _^_, _<_, _≤_};
+ghost use Prim.Native.Nat.{_+_, _^_, _<_, _≤_};
 ghost use lib.Dec.{eqb};
 ghost use lib.ListN.{length};
 ghost use Rattle.wire.specs.Numbers.{fetched};
 ghost use Rattle.wire.specs.Checks.{among};
 ghost use Rattle.wire.specs.Answers.{refused};
-ghost use Rattle.description.specs.Description.{permitted as permittedNames, wordSizes, momentHead};
+ghost use Rattle.description.specs.Description.{permitted as permittedNames, wordSizes};
 ghost use Rattle.description.specs.Refusal.{nameIn, sizeIn, description, radialOf};
-ghost use Rattle.radial.specs.Shown.{room, headerOf, noHeader, noHead, shown};
+ghost use Rattle.radial.specs.Shown.{room, headerOf, momentBytes, noHeader, noHead, shown};
 ghost use Rattle.radial.specs.Steps.{tellStart, tellFound, tellConstants, tellGot, tellHeads, headIn, startOf, constantIn, constantAt, constantsOf, momentIn, momentNext, momentsOf};
 use wire::refusal;
 
@@ -22,7 +22,7 @@ const FEWEST_BLOCKS: u16 = 4;
 
 const MOST_BLOCKS: u16 = 9;
 
-const CONSTANTS: u16 = 3;
+pub const CONSTANTS: u16 = 3;
 
 // Room for as many moments as the count allows.
 pub const ROOM: usize = 6;
@@ -32,7 +32,7 @@ const MOST_GATES: u16 = 1840;
 // Bytes before the rest of a constant block, and before a moment's gates.
 const CONSTANT_HEAD: usize = 6;
 
-const MOMENT_HEAD: usize = 28;
+pub const MOMENT_HEAD: usize = 28;
 
 // The header's values, as stored. Angles by their 32 bits.
 pub struct Header {
@@ -86,6 +86,7 @@ pub struct Radial {
     pub moments: [MomentHead; ROOM],
 }
 
+// The radial length and the block count.
 enum Start {
     Checked(u32, u16),
     Refused(u8),
@@ -97,6 +98,7 @@ enum Found {
     Refused(u8),
 }
 
+// The three constant blocks, and where the last of them ends.
 enum Constants {
     Blocks(Span, Span, Span, u32),
     Refused(u8),
@@ -108,6 +110,7 @@ enum Got {
     Refused(u8),
 }
 
+// The moments' heads, where none of them was refused.
 struct Heads {
     ok: bool,
     refusal: u8,
@@ -155,6 +158,7 @@ fn no_header() -> Header
     }
 }
 
+// A refusal: its number, and all else 0.
 fn refuse(number: u8) -> Radial
     ensures { λ r. ⌜ r ≡ shown (refused number) ⌝ }
 {
@@ -197,6 +201,7 @@ fn header_of(body: &[u8]) -> Header
     }
 }
 
+// A moment's first 28 bytes.
 fn head_of(part: &[u8], place: u32) -> MomentHead
     requires { ⌜ 28 ≤ length (now part) ⌝ }
     ensures { λ r. ⌜ r ≡ headIn place (now (part .entry)) ⌝ }
@@ -221,7 +226,7 @@ fn head_of(part: &[u8], place: u32) -> MomentHead
     }
 }
 
-// Checks 14 to 17. What is handed on is the radial length and the block count.
+// Checks 14 to 17.
 fn begin(body: &[u8]) -> Start
     ensures { λ r. ⌜ tellStart r ≡ startOf (now (body .entry)) ⌝ }
 {
@@ -248,6 +253,7 @@ fn begin(body: &[u8]) -> Start
     Start::Checked(length as u32, count)
 }
 
+// The first four bytes of a block against a fixed four-byte string.
 fn named(part: &[u8], name: &[u8]) -> bool
     ensures { λ r. ⌜ r ≡ eqb (fetched 4 (now (part .entry)) 0) (fetched 4 (now (name .entry)) 0) ⌝ }
 {
@@ -291,7 +297,7 @@ fn listed(seen: &[u32], name: u32) -> bool
     false
 }
 
-// The part of the body from the block's pointer to the end of the radial.
+// A constant block, by the part of the body from its pointer to the end of the radial.
 fn constant(part: &[u8], place: u32, name: &[u8], least: usize) -> Found
     requires { ⌜ place + length (now part) < 2 ^ 32 ⌝ }
     ensures { λ r. ⌜ tellFound r ≡ constantIn place (now (part .entry)) (fetched 4 (now (name .entry)) 0) least ⌝ }
@@ -317,6 +323,7 @@ fn constant(part: &[u8], place: u32, name: &[u8], least: usize) -> Found
     Found::Constant(span, place + length as u32)
 }
 
+// A pointer too early or past the radial is 18. Any other lies inside, so that the block's part can be cut.
 fn constant_at(body: &[u8], size: u32, from: u32, pointer: u32, name: &[u8], least: usize) -> Found
     requires { ⌜ (size ≤ length (now body)) × (pointer + 4 ≤ length (now body)) ⌝ }
     ensures { λ r. ⌜ tellFound r ≡ constantAt (now (body .entry)) size from pointer (fetched 4 (now (name .entry)) 0) least ⌝ }
@@ -366,13 +373,14 @@ fn sized(word: u8) -> bool
     word == 16
 }
 
-// How many bytes a moment has with its gates, one word each.
+// How many bytes a moment has: "Then the gates, one word each."
 pub fn moment_size(gates: u16, word: u8) -> u32
-    ensures { λ r. ⌜ r ≡ momentHead + gates * (word / 8) ⌝ }
+    ensures { λ r. ⌜ r ≡ momentBytes gates word ⌝ }
 {
     28 + gates as u32 * (word as u32 / 8)
 }
 
+// A moment, by the part of the body from its pointer to the end of the radial, after moments with the names `seen`.
 fn moment_in(part: &[u8], place: u32, seen: &[u32]) -> Got
     requires { ⌜ place + length (now part) < 2 ^ 32 ⌝ }
     ensures { λ r. ⌜ tellGot r ≡ momentIn place (now (part .entry)) (now (seen .entry)) ⌝ }
@@ -416,6 +424,7 @@ fn moment_at(body: &[u8], size: u32, from: u32, pointer: u32, seen: &[u32]) -> G
     moment_in(&body[begin..end], place, seen)
 }
 
+// The moments in pointer order, each at or after the end of the block before.
 fn all_moments(body: &[u8], size: u32, first: u32, count: usize) -> Heads
     requires { ⌜ (68 ≤ length (now body)) × (size ≤ length (now body)) × (count ≤ room) ⌝ }
     ensures { λ r. ⌜ tellHeads r ≡ momentsOf (now (body .entry)) size first count ⌝ }
@@ -451,6 +460,7 @@ fn all_moments(body: &[u8], size: u32, first: u32, count: usize) -> Heads
     }
 }
 
+// What a body says, or the number that refuses it. No byte of a gate is read.
 pub fn read_radial(body: &[u8]) -> Radial
     ensures { λ r. ⌜ r ≡ shown (radialOf (now (body .entry))) ⌝ }
 {
