@@ -1,41 +1,23 @@
 -- The reader's struct tells an acceptance from a refusal, and with the lent body is the description. Assumes nothing.
-use Prim.Native.Nat.{ℕ, zero, suc, _+_, _-_, _/_, _≤_, _<_}
+use Prim.Native.Nat.{ℕ, zero, suc, _+_, _-_, _/_, _≤_}
 use native.Mathlib.Omega.{arith}
 use mathlib.Core.Path.{_≡_, refl, sym, ap, _∙_}
 use mathlib.Core.Bool.{Bool, true, false}
-use mathlib.Core.Logic.{_↔_}
-use mathlib.Core.Option.{Option, none, some}
+use mathlib.Core.Option.{some}
 use mathlib.Core.List.{List, [], _∷_, _++_, map}
-use lib.Dec.{eqb, lit≤}
+use lib.Dec.{lit≤}
 use lib.ListN.{length, take, drop, replicate}
 use lib.Seq.{take-at}
-use borrow.Author.Tests.{eq-eqb, ne-eqb}
-use Rattle.wire.specs.Numbers.{num, nums, Octets}
+use borrow.Author.Tests.{ne-eqb}
+use Rattle.wire.specs.Numbers.{num, nums}
 use Rattle.wire.specs.Checks.{Check, first, pick}
 use Rattle.wire.specs.Answers.{Answer, refused, given}
-use Rattle.wire.proofs.CheckLaws.{blame, all-hold, never}
+use Rattle.wire.proofs.CheckLaws.{never}
 use Rattle.wire.proofs.AnswerLaws.{rule-given, rule-refused}
 use Rattle.wire.proofs.NumberLaws.{nums-length}
-use Rattle.description.specs.Description.{constants, constantHead, Block, Moment, Description, blockSize, blockCount}
-use Rattle.description.specs.Refusal.{
-  sizeIn,
-  countIn,
-  pointer,
-  part,
-  blockSays,
-  blockAt,
-  momentAt,
-  momentsAt,
-  momentSays,
-  nameIn,
-  description,
-  momentsChecks,
-  radialChecks,
-  endAt,
-  radialOf,
-}
-use Rattle.description.proofs.Accepted.{exactly, moments-length}
-use Rattle.radial.specs.declared.Span.{Span}
+use Rattle.description.specs.Description.{constants, constantHead, Description, blockCount}
+use Rattle.description.specs.Refusal.{sizeIn, countIn, pointer, part, blockSays, blockAt, momentAt, momentsAt, momentSays, nameIn, description, momentsChecks, radialChecks, endAt, radialOf}
+use Rattle.description.proofs.Accepted.{exactly}
 use Rattle.radial.specs.declared.MomentHead.{MomentHead}
 use Rattle.radial.specs.declared.Radial.{Radial}
 use Rattle.radial.specs.Shown.{headOf, spanOf, noHead, room, shown}

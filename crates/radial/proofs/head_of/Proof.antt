@@ -1,73 +1,51 @@
-use mathlib.Core.Path.{_≡_, refl, sym, ap, _∙_}
+use mathlib.Core.Path.{sym, ap, _∙_}
 use lib.Ieee.{binary32, ofBits}
 use Prim.Native.Nat.{ℕ}
-use denote.Ref.{now}
 use native.Mathlib.Omega.{arith}
-use Rattle.wire.specs.Numbers.{num}
 use Rattle.wire.proofs.NumberLaws.{number-is}
 use borrow.Author.Needs.{needs}
 use Rattle.radial.proofs.head_of.Statement.{statement}
 use Rattle.radial.proofs.head_of.Tie as tie
-use Rattle.radial.proofs.head_of.Reads as reads
-use Rattle.radial.proofs.head_of.Lts as lts
-use Rattle.wire.proofs.float_of.Reads as float-of-reads
-use Rattle.wire.proofs.fetch16.Reads as fetch16-reads
-use Rattle.wire.proofs.fetch32.Reads as fetch32-reads
-use Rattle.wire.proofs.fetch8.Reads as fetch8-reads
 
--- src/lib.rt:209:9
 fetch32-requires : tie.Need-fetch32-requires
 fetch32-requires c κs = search needs
 
--- src/lib.rt:210:9
 fetch32-requires-2 : tie.Need-fetch32-requires-2
 fetch32-requires-2 c κs = search needs
 
--- src/lib.rt:212:15
 fetch32-requires-3 : tie.Need-fetch32-requires-3
 fetch32-requires-3 c κs = search needs
 
--- src/lib.rt:214:19
 fetch32-requires-4 : tie.Need-fetch32-requires-4
 fetch32-requires-4 c κs = search needs
 
--- src/lib.rt:215:16
 fetch16-requires : tie.Need-fetch16-requires
 fetch16-requires c κs = search needs
 
--- src/lib.rt:216:16
 fetch16-requires-2 : tie.Need-fetch16-requires-2
 fetch16-requires-2 c κs = search needs
 
--- src/lib.rt:217:19
 fetch16-requires-3 : tie.Need-fetch16-requires-3
 fetch16-requires-3 c κs = search needs
 
--- src/lib.rt:218:18
 fetch16-requires-4 : tie.Need-fetch16-requires-4
 fetch16-requires-4 c κs = search needs
 
--- src/lib.rt:219:16
 fetch16-requires-5 : tie.Need-fetch16-requires-5
 fetch16-requires-5 c κs = search needs
 
--- src/lib.rt:220:16
 fetch8-requires : tie.Need-fetch8-requires
 fetch8-requires c κs = search needs
 
--- src/lib.rt:221:15
 fetch8-requires-2 : tie.Need-fetch8-requires-2
 fetch8-requires-2 c κs = search needs
 
--- src/lib.rt:222:16
 float-of-requires : tie.Need-float-of-requires
 float-of-requires c κs = search needs
 
--- src/lib.rt:223:17
 float-of-requires-2 : tie.Need-float-of-requires-2
 float-of-requires-2 c κs = search needs
 
--- src/lib.rt:205:1
 returns : tie.Need-returns
 returns c =
     let long = c .before .before .before .before .before .before .before .before .before .before .before .before .before .before .pre in

@@ -1,70 +1,49 @@
-use mathlib.Core.Path.{_≡_, sym}
-use denote.Ref.{now}
+use mathlib.Core.Path.{sym}
 use native.Mathlib.Omega.{arith}
-use Rattle.wire.specs.Numbers.{num}
 use Rattle.wire.proofs.NumberLaws.{number-is}
 use borrow.Author.Needs.{needs}
 use Rattle.radial.proofs.header_of.Statement.{statement}
 use Rattle.radial.proofs.header_of.Tie as tie
-use Rattle.radial.proofs.header_of.Reads as reads
-use Rattle.radial.proofs.header_of.Lts as lts
-use Rattle.wire.proofs.fetch16.Reads as fetch16-reads
-use Rattle.wire.proofs.fetch32.Reads as fetch32-reads
-use Rattle.wire.proofs.fetch8.Reads as fetch8-reads
 
--- src/lib.rt:189:18
 fetch32-requires : tie.Need-fetch32-requires
 fetch32-requires c κs = search needs
 
--- src/lib.rt:190:15
 fetch32-requires-2 : tie.Need-fetch32-requires-2
 fetch32-requires-2 c κs = search needs
 
--- src/lib.rt:191:15
 fetch16-requires : tie.Need-fetch16-requires
 fetch16-requires c κs = search needs
 
--- src/lib.rt:192:25
 fetch16-requires-2 : tie.Need-fetch16-requires-2
 fetch16-requires-2 c κs = search needs
 
--- src/lib.rt:193:18
 fetch32-requires-3 : tie.Need-fetch32-requires-3
 fetch32-requires-3 c κs = search needs
 
--- src/lib.rt:194:15
 fetch16-requires-3 : tie.Need-fetch16-requires-3
 fetch16-requires-3 c κs = search needs
 
--- src/lib.rt:195:18
 fetch8-requires : tie.Need-fetch8-requires
 fetch8-requires c κs = search needs
 
--- src/lib.rt:196:17
 fetch8-requires-2 : tie.Need-fetch8-requires-2
 fetch8-requires-2 c κs = search needs
 
--- src/lib.rt:197:27
 fetch8-requires-3 : tie.Need-fetch8-requires-3
 fetch8-requires-3 c κs = search needs
 
--- src/lib.rt:198:17
 fetch8-requires-4 : tie.Need-fetch8-requires-4
 fetch8-requires-4 c κs = search needs
 
--- src/lib.rt:199:20
 fetch32-requires-4 : tie.Need-fetch32-requires-4
 fetch32-requires-4 c κs = search needs
 
--- src/lib.rt:200:15
 fetch8-requires-5 : tie.Need-fetch8-requires-5
 fetch8-requires-5 c κs = search needs
 
--- src/lib.rt:201:19
 fetch8-requires-6 : tie.Need-fetch8-requires-6
 fetch8-requires-6 c κs = search needs
 
--- src/lib.rt:184:1
 returns : tie.Need-returns
 returns c =
     let long = c .before .before .before .before .before .before .before .before .before .before .before .before .before .before .pre in

@@ -1,4 +1,4 @@
-use mathlib.Core.Path.{_≡_}
+use mathlib.Core.Path.{_≡_, sym}
 use lib.Dec.{eqb}
 use denote.Ref.{now}
 use Rattle.description.specs.Refusal.{nameIn}
