@@ -15,7 +15,7 @@ use Rattle.wire.specs.Writing.{filled, written, tellWrite}
 use Rattle.wire.proofs.CheckLaws.{never, all-hold, all-hold-append}
 use Rattle.wire.proofs.AnswerLaws.{outcome-given}
 
--- a call that wrote: its checks hold, the output has room, and what stands in the length that it reports is the body
+-- a call that wrote: its checks hold, and what stands in the length that it reports is the body
 pub accepted : (ks : List Check) (body out : List ℕ) (size : Bytes) → written ks body out .answer ≡ given size
     → AllHold ks × (take (size .0) (written ks body out .output) ≡ body)
 accepted ks body out size e =

@@ -1,4 +1,4 @@
--- Bytes and numbers, tables of fields, ordered checks, answers and promises: what every rule of document 01 is written with.
+-- Bytes and numbers, tables of fields, ordered checks, answers and promises, outputs written: what every rule of document 01 is written with.
 pub mod Numbers
 pub mod Tables
 pub mod Checks

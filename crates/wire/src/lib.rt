@@ -1,4 +1,4 @@
-// Bytes and numbers: the counts of bytes and of halfwords, the fetch of a number, and the refusals by name.
+// Bytes and numbers: the counts of bytes and of halfwords, the fetch of a number, a copy, what writers answer, and the refusals by name.
 ghost use mathlib.Core.Path.{_≡_};
 ghost use Prim.Native.Nat.{_+_, _<_, _≤_};
 ghost use lib.ListN.{length};
