@@ -41,14 +41,17 @@ pub fn request(body: &[u8]) -> UlmRequest
     ensures { λ r. ⌜ r ≡ requestFace (requestOf (now (body .entry))) ⌝ }
 {
     match request::read_request(body) {
-        RequestAnswer::Code(code) => UlmRequest {
-            refusal: 0,
-            code: code as u32,
-        },
-        RequestAnswer::Refused(number) => UlmRequest {
-            refusal: number as u32,
-            code: 0,
-        },
+        RequestAnswer::Code(code) => request_with(0, code),
+        RequestAnswer::Refused(number) => request_with(number, 0),
+    }
+}
+
+fn request_with(refusal: u8, code: u16) -> UlmRequest
+    ensures { λ r. ⌜ r ≡ record { refusal = refusal; code = code } ⌝ }
+{
+    UlmRequest {
+        refusal: refusal as u32,
+        code: code as u32,
     }
 }
 
@@ -80,18 +83,19 @@ pub fn map(body: &[u8]) -> UlmMap
     ensures { λ r. ⌜ r ≡ mapFace (summaryOf (now (body .entry))) ⌝ }
 {
     match filter::check_map(body) {
-        MapAnswer::Map(date, minutes, elevations) => UlmMap {
-            refusal: 0,
-            date: date as u32,
-            minutes: minutes as u32,
-            elevations: elevations as u32,
-        },
-        MapAnswer::Refused(number) => UlmMap {
-            refusal: number as u32,
-            date: 0,
-            minutes: 0,
-            elevations: 0,
-        },
+        MapAnswer::Map(date, minutes, elevations) => map_with(0, date, minutes, elevations),
+        MapAnswer::Refused(number) => map_with(number, 0, 0, 0),
+    }
+}
+
+fn map_with(refusal: u8, date: u16, minutes: u16, elevations: u16) -> UlmMap
+    ensures { λ r. ⌜ r ≡ record { refusal = refusal; date = date; minutes = minutes; elevations = elevations } ⌝ }
+{
+    UlmMap {
+        refusal: refusal as u32,
+        date: date as u32,
+        minutes: minutes as u32,
+        elevations: elevations as u32,
     }
 }
 
@@ -104,13 +108,16 @@ pub fn map_code(body: &[u8], elevation: u64, azimuth: u64, kilometre: u64) -> Ul
         azimuth as usize,
         kilometre as usize,
     ) {
-        CodeAnswer::Code(code) => UlmMapCode {
-            refusal: 0,
-            code: code as u32,
-        },
-        CodeAnswer::Refused(number) => UlmMapCode {
-            refusal: number as u32,
-            code: 0,
-        },
+        CodeAnswer::Code(code) => map_code_with(0, code),
+        CodeAnswer::Refused(number) => map_code_with(number, 0),
+    }
+}
+
+fn map_code_with(refusal: u8, code: u16) -> UlmMapCode
+    ensures { λ r. ⌜ r ≡ record { refusal = refusal; code = code } ⌝ }
+{
+    UlmMapCode {
+        refusal: refusal as u32,
+        code: code as u32,
     }
 }

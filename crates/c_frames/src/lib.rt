@@ -1,5 +1,6 @@
 // Frames, message headers and sets as C receives them, and the writer of frames.
 ghost use mathlib.Core.Path.{_≡_};
+ghost use Rattle.wire.specs.Answers.{refused};
 ghost use Rattle.frame.specs.Session.{frameAt};
 ghost use Rattle.message.specs.Header.{headerOf};
 ghost use Rattle.segments.specs.Walk.{setOf};
@@ -97,17 +98,23 @@ pub fn header(msg: &[u8]) -> UlmHeader
             segments: h.segments as u32,
             number: h.number as u32,
         },
-        HeaderAnswer::Refused(number) => UlmHeader {
-            refusal: number as u32,
-            size: 0,
-            channel: 0,
-            kind: 0,
-            sequence: 0,
-            date: 0,
-            ms: 0,
-            segments: 0,
-            number: 0,
-        },
+        HeaderAnswer::Refused(number) => no_header(number),
+    }
+}
+
+fn no_header(number: u8) -> UlmHeader
+    ensures { λ r. ⌜ r ≡ headerFace (refused number) ⌝ }
+{
+    UlmHeader {
+        refusal: number as u32,
+        size: 0,
+        channel: 0,
+        kind: 0,
+        sequence: 0,
+        date: 0,
+        ms: 0,
+        segments: 0,
+        number: 0,
     }
 }
 
@@ -115,30 +122,36 @@ pub fn set(buf: &[u8], out: &mut [u8]) -> UlmSet
     ensures { λ r. ⌜ Leaves setFace (setOf (now (buf .entry)) (now (out .entry))) r (now (out .exit)) ⌝ }
 {
     match sets::read_set(buf, out) {
-        SetAnswer::Set(h, long) => UlmSet {
+        SetAnswer::Set(first, long) => UlmSet {
             refusal: 0,
-            size: h.size.0,
-            channel: h.channel as u32,
-            kind: h.kind as u32,
-            sequence: h.sequence as u32,
-            date: h.date as u32,
-            ms: h.milliseconds,
-            segments: h.segments as u32,
-            number: h.number as u32,
+            size: first.size.0,
+            channel: first.channel as u32,
+            kind: first.kind as u32,
+            sequence: first.sequence as u32,
+            date: first.date as u32,
+            ms: first.milliseconds,
+            segments: first.segments as u32,
+            number: first.number as u32,
             length: long.0 as u64,
         },
-        SetAnswer::Refused(number) => UlmSet {
-            refusal: number as u32,
-            size: 0,
-            channel: 0,
-            kind: 0,
-            sequence: 0,
-            date: 0,
-            ms: 0,
-            segments: 0,
-            number: 0,
-            length: 0,
-        },
+        SetAnswer::Refused(number) => no_set(number),
+    }
+}
+
+fn no_set(number: u8) -> UlmSet
+    ensures { λ r. ⌜ r ≡ setFace (refused number) ⌝ }
+{
+    UlmSet {
+        refusal: number as u32,
+        size: 0,
+        channel: 0,
+        kind: 0,
+        sequence: 0,
+        date: 0,
+        ms: 0,
+        segments: 0,
+        number: 0,
+        length: 0,
     }
 }
 
