@@ -1,0 +1,25 @@
+use borrow.Author.Needs.{needs}
+use Rattle.c_bodies.proofs.censor.Statement.{statement}
+use Rattle.c_bodies.proofs.censor.Tie as tie
+use Rattle.c_bodies.proofs.censor.Reads as reads
+use Rattle.c_bodies.proofs.censor.Lts as lts
+use Rattle.clutter.proofs.read_censor.Reads as read-censor-reads
+
+-- src/lib.rt:409:9
+read-censor-requires : tie.Need-read-censor-requires
+read-censor-requires c κs = search needs
+
+-- src/lib.rt:412:18
+cast-t4 : tie.Need-cast-t4
+cast-t4 c = search needs
+
+-- src/lib.rt:413:16
+cast-t5 : tie.Need-cast-t5
+cast-t5 c = search needs
+
+-- src/lib.rt:405:1
+returns : tie.Need-returns
+returns c = simp (c .before .before .before .read-censor .ensures)
+
+pub censor-spec : {M : Type 1} → statement M
+censor-spec = tie.close (tie.spec read-censor-requires cast-t4 cast-t5 returns)

@@ -1,0 +1,2 @@
+-- What the library answers of frames and sets, as the structs that C receives.
+pub mod Frames

@@ -1,0 +1,2 @@
+-- What the crates above cite of lent memory.
+pub mod LentLaws

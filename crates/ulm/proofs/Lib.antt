@@ -1,2 +1,0 @@
--- The laws between the library's answers and the structs that C receives.
-pub mod FaceLaws
