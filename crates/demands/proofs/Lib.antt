@@ -8,3 +8,4 @@ pub mod First
 pub mod Third
 pub mod Painted
 pub mod Second
+pub mod FaceHolds

@@ -6,3 +6,4 @@ pub mod Cases
 pub mod Demand3
 pub mod Wall
 pub mod Demand2
+pub mod Face
