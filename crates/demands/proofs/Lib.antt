@@ -9,3 +9,4 @@ pub mod Third
 pub mod Painted
 pub mod Second
 pub mod FaceHolds
+pub mod HandedToC

@@ -7,3 +7,4 @@ pub mod Demand3
 pub mod Wall
 pub mod Demand2
 pub mod Face
+pub mod FaceOfRadial

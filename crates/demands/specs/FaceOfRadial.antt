@@ -1,0 +1,64 @@
+-- What a C caller has of an accepted radial: `ulm_radial`, `ulm_block` for each of its blocks, and the body that it lent. Together they are the
+-- description.
+use Prim.Native.Nat.{ℕ, zero, suc, _-_, _/_}
+use mathlib.Core.Path.{_≡_}
+use mathlib.Core.List.{List, [], _∷_}
+use lib.ListN.{drop}
+use Rattle.wire.specs.Numbers.{nums}
+use Rattle.wire.specs.Answers.{given}
+use Rattle.description.specs.Description.{constants, constantHead, momentHead, Block, Moment, Description}
+use Rattle.description.specs.Refusal.{radialOf}
+use Rattle.description.specs.Lookups.{blockOf}
+use Rattle.c_radials.specs.declared.UlmRadial.{UlmRadial}
+use Rattle.c_radials.specs.declared.UlmBlock.{UlmBlock}
+use Rattle.c_radials.specs.Radials.{radialFace, blockFace}
+
+-- a constant block: its bytes after name and length are the body's
+abbrev pub blockFromC : List ℕ → UlmBlock → Block
+blockFromC b u = record { place = u .start; rest = nums 1 (drop (u .start) b) constantHead (u .size - constantHead) }
+
+-- a moment: its codes are the body's words after its head
+abbrev pub momentFromC : List ℕ → UlmBlock → Moment
+momentFromC b u = record {
+  place = u .start;
+  name = u .name;
+  reserved = u .reserved;
+  first = u .first;
+  interval = u .interval;
+  overlay = u .overlay;
+  noise = u .noise;
+  flags = u .flags;
+  word = u .word;
+  scale = u .scale;
+  offset = u .offset;
+  codes = nums (u .word / 8) (drop (u .start) b) momentHead (u .gates);
+}
+
+-- n of them, from block k on
+abbrev pub momentsFromC : List ℕ → (ℕ → UlmBlock) → ℕ → ℕ → List Moment
+momentsFromC b block k zero = []
+momentsFromC b block k (suc n) = momentFromC b (block k) ∷ momentsFromC b block (suc k) n
+
+abbrev pub fromC : UlmRadial → (ℕ → UlmBlock) → List ℕ → Description
+fromC r block b = record {
+  station = r .station;
+  time = r .time;
+  date = r .date;
+  azimuthNumber = r .«azimuth_number»;
+  azimuth = r .azimuth;
+  size = r .«radial_length»;
+  spacing = r .spacing;
+  status = r .status;
+  elevationNumber = r .«elevation_number»;
+  sector = r .sector;
+  elevation = r .elevation;
+  spot = r .blanking;
+  indexing = r .indexing;
+  volumeBlock = blockFromC b (block 1);
+  elevationBlock = blockFromC b (block 2);
+  radialBlock = blockFromC b (block 3);
+  moments = momentsFromC b block 4 (r .blocks - constants);
+}
+
+abbrev pub HandedToC : Type 0
+HandedToC = (b : List ℕ) (d : Description) → radialOf b ≡ given d → fromC (radialFace (radialOf b)) (λ k. blockFace (blockOf b k)) b ≡ d
