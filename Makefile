@@ -1,5 +1,7 @@
-# The library as C and Rust programs link it, and its tests. Everything that is built goes to build/.
+# The program, the library as C and Rust programs link it, and its tests. Everything that is built goes to build/.
 #
+#   make show                   proves and builds the program, and shows the sample recording by it
+#   make program                proves and builds the program: build/ulmarzhe
 #   make lib                    proves crate ulm and writes build/libulm.a and build/ulm.h
 #   make install PREFIX=DIR     puts archive, header and a pkg-config file under DIR
 #   make check                  the tests in C and Rust, against ARCHIVE
@@ -21,7 +23,17 @@ FLAGS = -std=c11 -Wall -Wextra -Werror -pedantic -Iinclude -Itests
 # No other library than C's own is linked.
 LINK = -nodefaultlibs -lc
 
-.PHONY: test lib install check fuzz memcheck bench cases clean
+.PHONY: show program test lib install check fuzz memcheck bench cases clean
+
+show: program
+	build/ulmarzhe radials examples/sample.rec
+	build/ulmarzhe picture examples/sample.rec REF > build/sample.pgm
+	@echo 'build/sample.pgm is the picture of REF'
+
+program:
+	rt check ulmarzhe
+	mkdir -p build
+	cp target/bin/ulmarzhe build/ulmarzhe
 
 test:
 	bash .ci/run

@@ -1,0 +1,60 @@
+use borrow.Author.Needs.{needs}
+use Rattle.ulmarzhe.proofs.lines.sought.Statement.{statement}
+use Rattle.ulmarzhe.proofs.lines.sought.Tie as tie
+
+abbrev Inv-loop : tie.InvT-loop
+Inv-loop window₀ r₀ turns₀ window r turns = Unit {0}
+
+abbrev μ-loop : tie.MeasureT-loop
+μ-loop window₀ r₀ turns₀ window r turns = turns
+
+loop-holds : tie.Need-loop-holds Inv-loop μ-loop
+loop-holds c = search needs
+
+end-of-requires : tie.Need-end-of-requires Inv-loop μ-loop
+end-of-requires c κs = search needs
+
+looked-requires : tie.Need-looked-requires Inv-loop μ-loop
+looked-requires c κs = search needs
+
+returns : tie.Need-returns Inv-loop μ-loop
+returns c = search needs
+
+returns-2 : tie.Need-returns-2 Inv-loop μ-loop
+returns-2 c = search needs
+
+more-requires : tie.Need-more-requires Inv-loop μ-loop
+more-requires c κs = search needs
+
+sub-turns : tie.Need-sub-turns Inv-loop μ-loop
+sub-turns c = search needs
+
+loop-less : tie.Need-loop-less Inv-loop μ-loop
+loop-less c = search needs
+
+loop-again : tie.Need-loop-again Inv-loop μ-loop
+loop-again c = search needs
+
+finished-requires : tie.Need-finished-requires Inv-loop μ-loop
+finished-requires c κs = search needs
+
+returns-3 : tie.Need-returns-3 Inv-loop μ-loop
+returns-3 c = search needs
+
+pub sought-spec : {M : Type 1} → statement M
+sought-spec =
+    tie.close
+    (tie.spec
+    Inv-loop
+    μ-loop
+    loop-holds
+    end-of-requires
+    looked-requires
+    returns
+    returns-2
+    more-requires
+    sub-turns
+    loop-less
+    loop-again
+    finished-requires
+    returns-3)

@@ -1,0 +1,199 @@
+// The case runner: each line of a file asks the library a question, and its answer is compared or written.
+use crate::args;
+use crate::args::Args;
+use crate::lines;
+use crate::page;
+use crate::page::PAGE;
+use crate::page::SHEET;
+use crate::part::less;
+use crate::part::part;
+use crate::part::sum;
+use crate::readers;
+use crate::sink;
+use crate::sink::Sink;
+use crate::told;
+use crate::told::Told;
+use crate::window;
+use crate::window::Reading;
+use crate::window::WINDOW;
+use crate::words;
+use crate::writers;
+
+// What is said of a line, in the order of the list in `verdict`.
+const SAME: usize = 0;
+
+const DIFFERS: usize = 1;
+
+const MALFORMED: usize = 2;
+
+// The lines of a file that is open. It answers whether all of it could be read.
+pub fn all(fd: i32) -> bool {
+    let mut window = [0u8; 1703936];
+    let mut sheet = [0u8; 1114112];
+    all_lines(fd, &mut window, &mut sheet)
+}
+
+fn all_lines(fd: i32, window: &mut [u8; WINDOW], sheet: &mut [u8; SHEET]) -> bool {
+    let mut r = window::begun(fd, 0);
+    let mut turns = u64::MAX;
+    while 0 < turns {
+        r = lines::sought(r, window);
+        if r.done {
+            return !r.failed;
+        }
+        one_line(r, window, sheet);
+        r = window::at(r, sum(r.end, 1));
+        turns -= 1;
+    }
+    true
+}
+
+fn one_line(r: Reading, window: &mut [u8; WINDOW], sheet: &mut [u8; SHEET]) {
+    let a = question(part(window, r.from, r.end), r.skips);
+    let to = if a.good {
+        words::decoded(window, sum(r.from, a.from), sum(r.from, a.at))
+    } else {
+        0
+    };
+    case(part(window, r.from, r.end), a, less(to, r.from), sheet);
+}
+
+// A line's question. One that is too long for the window is none.
+fn question(line: &[u8], long: bool) -> Args {
+    let title = words::until(line, 0, b' ');
+    let first = sum(title, 1);
+    let next = words::until(line, first, b' ');
+    let entry = entry_of(part(line, first, next));
+    let equals = equals_sign(line);
+    let asks = equals == line.len();
+    let end = if asks { equals } else { less(equals, 1) };
+    let mut a = asked(entry, part(line, 0, end), next);
+    a.entry = entry;
+    a.title = title;
+    a.answer = sum(equals, 2);
+    a.asks = asks;
+    if long {
+        a.good = false;
+    }
+    a
+}
+
+// The place of the word `=`, or the line's length where it has none.
+fn equals_sign(line: &[u8]) -> usize {
+    let mut i = 1;
+    while i < line.len() {
+        if line[i] == b'=' {
+            if words::same(part(line, i - 1, sum(i, 2)), b" = ") {
+                return i;
+            }
+        }
+        i += 1;
+    }
+    line.len()
+}
+
+fn entry_of(word: &[u8]) -> usize {
+    let entries =
+        b"frame;header;set;write;radial;gates;gate;request;write-request;censor;write-censor;map;map-code";
+    words::which(word, entries)
+}
+
+// The words after the entry, by its shape.
+fn asked(entry: usize, question: &[u8], at: usize) -> Args {
+    let shapes = b"nx;x;nx;bbhhwnx;x;mx;mnx;x;nl;x;nl;x;nnnx";
+    args::parsed(question, at, words::pick(shapes, entry))
+}
+
+// A case whose bytes stand in the line up to `to`; where that is 0, a line that is no case.
+fn case(line: &[u8], a: Args, to: usize, sheet: &mut [u8; SHEET]) {
+    let name = part(line, 0, a.title);
+    if to == 0 {
+        verdict(name, MALFORMED, sheet);
+        return;
+    }
+    let expected = part(line, a.answer, line.len());
+    let s = opened(a.asks, name, sheet);
+    let s = answered(a, part(line, a.from, to), s, expected, sheet);
+    closed(name, s, expected, sheet);
+}
+
+fn answered(a: Args, body: &[u8], s: Sink, expected: &[u8], sheet: &mut [u8; SHEET]) -> Sink {
+    let t = told_of(a, body, sheet);
+    let s = sink::say(s, sheet, t);
+    if t.which == told::RADIAL {
+        return blocks(s, sheet, body, t.count);
+    }
+    sink::bytes(s, sheet, expected, t.length)
+}
+
+// The library is asked.
+fn told_of(a: Args, body: &[u8], sheet: &mut [u8; SHEET]) -> Told {
+    let n = a.numbers;
+    let name = a.name;
+    let entry = a.entry;
+    match entry {
+        0 => readers::of_frame(body, n[0] as usize),
+        1 => readers::of_header(body),
+        4 => readers::of_radial(body),
+        5 => writers::of_gates(body, name, sheet),
+        6 => readers::of_gate(body, name, n[0] as usize),
+        7 => readers::of_request(body),
+        9 => writers::of_censor(body, sheet),
+        11 => readers::of_map(body),
+        12 => readers::of_map_code(body, n[0] as usize, n[1] as usize, n[2] as usize),
+        _ => writers::written(entry, n, body, sheet),
+    }
+}
+
+fn blocks(s: Sink, sheet: &mut [u8; SHEET], body: &[u8], count: u16) -> Sink {
+    let mut s = s;
+    let mut k = 0;
+    while k < count {
+        k += 1;
+        s = sink::say(s, sheet, readers::of_block(body, k as u32));
+    }
+    s
+}
+
+// What stands before an answer: nothing where it is compared, the name where it is written.
+fn opened(asks: bool, name: &[u8], sheet: &mut [u8; SHEET]) -> Sink {
+    if !asks {
+        return sink::opened(asks, 0);
+    }
+    if name.len() < PAGE / 2 {
+        let at = page::text(sheet, 0, name);
+        return sink::opened(asks, page::byte(sheet, at, b' '));
+    }
+    io::write_all(libc::STDOUT_FILENO, name);
+    sink::opened(asks, page::byte(sheet, 0, b' '))
+}
+
+fn closed(name: &[u8], s: Sink, expected: &[u8], sheet: &mut [u8; SHEET]) {
+    let mut s = s;
+    if s.asks {
+        s.at = page::byte(sheet, s.at, b'\n');
+    }
+    let s = sink::settled(s, sheet, expected);
+    if s.asks {
+        return;
+    }
+    let which = if sink::met(s, expected) {
+        SAME
+    } else {
+        DIFFERS
+    };
+    verdict(name, which, sheet);
+}
+
+// A line of output: a name and what is said of it.
+fn verdict(name: &[u8], which: usize, sheet: &mut [u8; SHEET]) {
+    let says = b" same\n; differs\n; malformed\n";
+    let mut at = 0;
+    if PAGE / 2 < name.len() {
+        io::write_all(libc::STDOUT_FILENO, name);
+    } else {
+        at = page::text(sheet, 0, name);
+    }
+    at = page::text(sheet, at, words::pick(says, which));
+    page::send(libc::STDOUT_FILENO, sheet, at);
+}

@@ -1,0 +1,376 @@
+// The program: cases run against the library, and recordings shown to people.
+mod args;
+mod cases;
+mod date;
+mod gates;
+mod lines;
+mod listing;
+mod page;
+mod part;
+mod picture;
+mod readers;
+mod real;
+mod recording;
+mod sink;
+mod told;
+mod why;
+mod window;
+mod words;
+mod writers;
+
+use filter::CodeAnswer;
+use page::SHEET;
+use recording::ROWS;
+use recording::SURVEY;
+use window::Reading;
+use window::WINDOW;
+use words::Number;
+
+// The commands, in the order of the lists in `main` and in `wrong_line`.
+const CASES: usize = 0;
+
+const FRAMES: usize = 1;
+
+const RADIALS: usize = 2;
+
+const GATES: usize = 3;
+
+const PICTURE: usize = 4;
+
+const MAP: usize = 5;
+
+const WHY: usize = 6;
+
+const HELP: usize = 7;
+
+fn main() {
+    let mut word = io::buffer();
+    let length = os::arg(1, &mut word);
+    let command = words::which(
+        &word[..length],
+        b"cases;frames;radials;gates;picture;map;why;help",
+    );
+    if !is_right(command, os::arg_count()) {
+        wrong(command);
+        return;
+    }
+    match command {
+        CASES => run_cases(),
+        FRAMES => run_listing(recording::FRAMES),
+        RADIALS => run_listing(recording::RADIALS),
+        GATES => run_gates(),
+        PICTURE => run_picture(),
+        MAP => run_map(),
+        WHY => run_why(),
+        _ => help(),
+    }
+}
+
+// Whether a command has as many words as it takes, the program's name and its own among them.
+fn is_right(command: usize, count: usize) -> bool {
+    match command {
+        CASES => 3 <= count,
+        FRAMES | RADIALS | WHY => count == 3,
+        GATES => count == 5,
+        PICTURE => count == 4,
+        MAP => count == 6,
+        HELP => count == 2,
+        _ => false,
+    }
+}
+
+// One line on standard error: the form of the command, or where to find all of them.
+fn wrong(command: usize) {
+    let mut sheet = [0u8; 1114112];
+    wrong_line(command, &mut sheet);
+}
+
+fn wrong_line(command: usize, sheet: &mut [u8; SHEET]) {
+    let list =
+        b"cases FILE...;frames RECORDING;radials RECORDING;gates RECORDING PLACE MOMENT;picture RECORDING MOMENT;map FILE ELEVATION AZIMUTH KILOMETRE;why NUMBER;help";
+    let mut at = page::text(sheet, 0, b"ulmarzhe: the command line should be: ulmarzhe ");
+    let form = words::pick(list, command);
+    if command <= HELP {
+        at = page::text(sheet, at, form);
+    } else {
+        at = page::text(
+            sheet,
+            at,
+            b"COMMAND ..., and ulmarzhe help lists the commands",
+        );
+    }
+    at = page::byte(sheet, at, b'\n');
+    page::send(libc::STDERR_FILENO, sheet, at);
+}
+
+// The file that an argument names, open for reading, or -1 once it is said why it is not.
+fn open_arg(i: usize) -> i32 {
+    let mut path = io::buffer();
+    let length = os::arg(i, &mut path);
+    if os::errno() != 0 {
+        os::fail(b"file name");
+        return -1;
+    }
+    opened(&path[..length])
+}
+
+fn opened(path: &[u8]) -> i32 {
+    let fd = os::open_read(path);
+    if fd < 0 {
+        os::fail(path);
+        return -1;
+    }
+    let mut none = [0u8; 1];
+    if !can_read(fd, &mut none) {
+        os::fail(path);
+        return -1;
+    }
+    fd
+}
+
+// A directory can be opened. That it cannot be read is said where nothing is asked of it.
+fn can_read(fd: i32, none: &mut [u8]) -> bool {
+    0 <= libc::read(fd, &mut none[0..0])
+}
+
+fn number_arg(i: usize) -> Number {
+    let mut word = [0u8; 32];
+    let length = os::arg(i, &mut word);
+    words::decimal(&word[..length])
+}
+
+// Which moment an argument names, in the order of the list in `name_of`, or `MANY`.
+fn moment_arg(i: usize) -> usize {
+    let mut word = [0u8; 32];
+    let length = os::arg(i, &mut word);
+    words::which(&word[..length], b"REF;VEL;SW;ZDR;PHI;RHO")
+}
+
+fn name_of(moment: usize) -> [u8; 4] {
+    match moment {
+        0 => [b'D', b'R', b'E', b'F'],
+        1 => [b'D', b'V', b'E', b'L'],
+        2 => [b'D', b'S', b'W', b' '],
+        3 => [b'D', b'Z', b'D', b'R'],
+        4 => [b'D', b'P', b'H', b'I'],
+        _ => [b'D', b'R', b'H', b'O'],
+    }
+}
+
+// Nothing is run unless every file can be read.
+fn run_cases() {
+    let count = os::arg_count();
+    if !all_open(count) {
+        return;
+    }
+    let mut i = 2;
+    while i < count {
+        run_file(i);
+        i += 1;
+    }
+}
+
+fn all_open(count: usize) -> bool {
+    let mut i = 2;
+    while i < count {
+        let fd = open_arg(i);
+        if fd < 0 {
+            return false;
+        }
+        libc::close(fd);
+        i += 1;
+    }
+    true
+}
+
+fn run_file(i: usize) {
+    let fd = open_arg(i);
+    if fd < 0 {
+        return;
+    }
+    if !cases::all(fd) {
+        os::fail(b"cases");
+    }
+    libc::close(fd);
+}
+
+fn run_listing(mode: u8) {
+    let fd = open_arg(2);
+    if fd < 0 {
+        return;
+    }
+    let mut window = [0u8; 1703936];
+    let mut sheet = [0u8; 1114112];
+    let r = recording::walked(window::begun(fd, 0), mode, [0; 4], &mut window, &mut sheet);
+    ended(r, &sheet);
+}
+
+// What is left of the page is written, and a recording that could not be read to its end is told.
+fn ended(r: Reading, sheet: &[u8; SHEET]) {
+    let r = recording::emptied(r, 0, sheet);
+    if r.failed {
+        os::fail(b"recording");
+    }
+    libc::close(r.fd);
+}
+
+fn run_gates() {
+    let place = number_arg(3);
+    let moment = moment_arg(4);
+    if moment == words::MANY {
+        wrong(GATES);
+        return;
+    }
+    if !place.good {
+        wrong(GATES);
+        return;
+    }
+    let fd = open_arg(2);
+    if fd < 0 {
+        return;
+    }
+    gates_at(fd, place.value, name_of(moment));
+}
+
+fn gates_at(fd: i32, place: u64, name: [u8; 4]) {
+    let mut window = [0u8; 1703936];
+    let mut sheet = [0u8; 1114112];
+    if libc::lseek(fd, (place % 9223372036854775808) as i64, libc::SEEK_SET) < 0 {
+        os::fail(b"recording");
+        return;
+    }
+    let r = gates::listed(fd, place, name, &mut window, &mut sheet);
+    ended(r, &sheet);
+}
+
+fn run_picture() {
+    let moment = moment_arg(3);
+    if moment == words::MANY {
+        wrong(PICTURE);
+        return;
+    }
+    let fd = open_arg(2);
+    if fd < 0 {
+        return;
+    }
+    let mut window = [0u8; 1703936];
+    let mut sheet = [0u8; 1114112];
+    let r = pictured(fd, name_of(moment), &mut window, &mut sheet);
+    ended(r, &sheet);
+}
+
+fn pictured(fd: i32, name: [u8; 4], window: &mut [u8; WINDOW], sheet: &mut [u8; SHEET]) -> Reading {
+    let begun = window::begun(fd, 0);
+    let r = recording::walked(begun, SURVEY, name, window, sheet);
+    if r.failed {
+        return r;
+    }
+    if r.most == 0 {
+        io::write_all(
+            libc::STDERR_FILENO,
+            b"ulmarzhe: no radial has a gate of that moment\n",
+        );
+        return r;
+    }
+    if libc::lseek(fd, 0, libc::SEEK_SET) < 0 {
+        return window::failed(r);
+    }
+    let mut again = begun;
+    again.most = r.most;
+    again.wide = r.wide;
+    again.page = picture::head(r, sheet);
+    recording::walked(again, ROWS, name, window, sheet)
+}
+
+fn run_map() {
+    let elevation = number_arg(3);
+    let azimuth = number_arg(4);
+    let kilometre = number_arg(5);
+    if !elevation.good || !azimuth.good || !kilometre.good {
+        wrong(MAP);
+        return;
+    }
+    let fd = open_arg(2);
+    if fd < 0 {
+        return;
+    }
+    let mut window = [0u8; 1703936];
+    let mut sheet = [0u8; 1114112];
+    let r = window::whole(window::begun(fd, 0), &mut window);
+    let answer = mapped(
+        &window,
+        r.fill,
+        elevation.value as usize,
+        azimuth.value as usize,
+        kilometre.value as usize,
+    );
+    ended(code_line(r, answer, &mut sheet), &sheet);
+}
+
+// A file longer than the window is longer than any map, and refused alike.
+fn mapped(
+    window: &[u8; WINDOW],
+    fill: usize,
+    elevation: usize,
+    azimuth: usize,
+    kilometre: usize,
+) -> CodeAnswer {
+    filter::code_at(part::part(window, 0, fill), elevation, azimuth, kilometre)
+}
+
+fn code_line(r: Reading, answer: CodeAnswer, sheet: &mut [u8; SHEET]) -> Reading {
+    let list = b"code #, bypass filter\n;code #, bypass map in control\n;code #, force filter\n";
+    let mut r = r;
+    if r.failed {
+        return r;
+    }
+    r.page = match answer {
+        CodeAnswer::Refused(n) => why::refusal(sheet, 0, n),
+        CodeAnswer::Code(code) => {
+            page::filled(sheet, 0, words::pick(list, code as usize), &[code as u64])
+        }
+    };
+    r
+}
+
+fn run_why() {
+    let n = number_arg(2);
+    if !n.good || n.value < 1 || why::NUMBERS < n.value {
+        wrong(WHY);
+        return;
+    }
+    let mut sheet = [0u8; 1114112];
+    why_line(n.value, &mut sheet);
+}
+
+fn why_line(n: u64, sheet: &mut [u8; SHEET]) {
+    let mut at = page::filled(sheet, 0, b"#: ", &[n]);
+    at = why::reason(sheet, at, n as usize);
+    at = page::byte(sheet, at, b'\n');
+    page::send(libc::STDOUT_FILENO, sheet, at);
+}
+
+fn help() {
+    io::write_all(
+        libc::STDOUT_FILENO,
+        b"ulmarzhe shows recordings of RDA/RPG messages, and runs cases against the library.
+
+ulmarzhe frames RECORDING
+    a line a frame: place, kind, bytes; of data type, sequence number, date, time and segment
+ulmarzhe radials RECORDING
+    a line a radial: place, station, date, time, azimuth, elevation, status, and each moment as gates x bits
+ulmarzhe gates RECORDING PLACE MOMENT
+    a line a gate of the radial in the frame at PLACE: gate, range, code, value
+ulmarzhe picture RECORDING MOMENT
+    a PGM picture on standard output: a row a radial, a column a gate, the codes as they lie
+ulmarzhe map FILE ELEVATION AZIMUTH KILOMETRE
+    the code there of a clutter filter map; FILE is the body of message 15
+ulmarzhe why NUMBER
+    a refusal in words
+ulmarzhe cases FILE...
+    each line of FILE asked of the library, its answer compared or written
+
+MOMENT is REF, VEL, SW, ZDR, PHI or RHO.
+",
+    );
+}

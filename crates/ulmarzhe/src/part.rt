@@ -1,0 +1,36 @@
+// Parts of a slice, and counts that stay in range: what cannot be had is empty, or the nearest count.
+pub fn part(s: &[u8], from: usize, to: usize) -> &[u8] {
+    if to <= s.len() {
+        if from <= to {
+            return &s[from..to];
+        }
+    }
+    &s[..0]
+}
+
+pub fn sum(a: usize, b: usize) -> usize {
+    if usize::MAX - b < a {
+        return usize::MAX;
+    }
+    a + b
+}
+
+pub fn less(a: usize, b: usize) -> usize {
+    if a < b {
+        return 0;
+    }
+    a - b
+}
+
+// A number by itself, so that whoever widens many has nothing to show of each.
+pub fn wide8(x: u8) -> u64 {
+    x as u64
+}
+
+pub fn wide16(x: u16) -> u64 {
+    x as u64
+}
+
+pub fn wide32(x: u32) -> u64 {
+    x as u64
+}

@@ -1,0 +1,229 @@
+// The entries whose answer has bytes: they lie in the room behind the page, which is lent full of a pattern. Where a refusal changed a
+// byte of what was lent, or an acceptance one past its length, the answer is `touched`.
+use crate::page::PAGE;
+use crate::page::ROOM;
+use crate::page::SHEET;
+use crate::part::sum;
+use crate::part::wide16;
+use crate::readers;
+use crate::told;
+use crate::told::Told;
+use lookup::MomentAnswer;
+use sets::SetAnswer;
+use writer::Given;
+
+const LIST: usize = 425984;
+
+// Sets and writers: the room that is lent is as large as the question says, and never larger than an answer needs.
+pub fn written(entry: usize, n: [u64; 6], body: &[u8], sheet: &mut [u8; SHEET]) -> Told {
+    let room = if entry == 3 {
+        room_of(n[5])
+    } else {
+        room_of(n[0])
+    };
+    let end = sum(PAGE, room);
+    lay(sheet, end);
+    let t = match entry {
+        2 => of_set(body, sheet, end),
+        3 => of_write(given(n), body, sheet, end),
+        _ => of_list(entry, body, sheet, end),
+    };
+    if kept(sheet, t.length, end) {
+        return t;
+    }
+    touched()
+}
+
+fn room_of(room: u64) -> usize {
+    if room < 1048576 {
+        return room as usize;
+    }
+    ROOM
+}
+
+fn touched() -> Told {
+    told::one(told::TOUCHED, 0)
+}
+
+fn pattern(i: usize) -> u8 {
+    (i % 251) as u8
+}
+
+fn lay(sheet: &mut [u8; SHEET], end: usize) {
+    let mut i = PAGE;
+    while i < end {
+        if SHEET <= i {
+            return;
+        }
+        sheet[i] = pattern(i);
+        i += 1;
+    }
+}
+
+// Whether the pattern stands after a length to the end of what was lent.
+fn kept(sheet: &[u8; SHEET], length: usize, end: usize) -> bool {
+    let mut i = length;
+    while i < ROOM {
+        if end <= PAGE + i {
+            return true;
+        }
+        if sheet[PAGE + i] != pattern(PAGE + i) {
+            return false;
+        }
+        i += 1;
+    }
+    true
+}
+
+fn of_set(frames: &[u8], sheet: &mut [u8], end: usize) -> Told {
+    if sheet.len() < end {
+        return touched();
+    }
+    if end < PAGE {
+        return touched();
+    }
+    match sets::read_set(frames, &mut sheet[PAGE..end]) {
+        SetAnswer::Refused(n) => told::refused(n),
+        SetAnswer::Set(h, size) => readers::header_told(told::SET, h, size.0 as usize),
+    }
+}
+
+fn of_write(given: Given, body: &[u8], sheet: &mut [u8], end: usize) -> Told {
+    if sheet.len() < end {
+        return touched();
+    }
+    if end < PAGE {
+        return touched();
+    }
+    match writer::write_message(given, body, &mut sheet[PAGE..end]) {
+        wire::WriteAnswer::Refused(n) => told::refused(n),
+        wire::WriteAnswer::Written(size) => told::followed(told::WROTE, 0, size.0 as usize),
+    }
+}
+
+fn given(n: [u64; 6]) -> Given {
+    Given {
+        channel: (n[0] % 256) as u8,
+        kind: (n[1] % 256) as u8,
+        sequence: (n[2] % 65536) as u16,
+        date: (n[3] % 65536) as u16,
+        milliseconds: (n[4] % 4294967296) as u32,
+    }
+}
+
+// The writers of messages 9 and 8.
+fn of_list(entry: usize, body: &[u8], sheet: &mut [u8; SHEET], end: usize) -> Told {
+    let mut list = [0u16; 425984];
+    let count = listed(body, &mut list);
+    by_list(entry, &list, count, sheet, end)
+}
+
+fn by_list(
+    entry: usize,
+    list: &[u16; LIST],
+    count: usize,
+    sheet: &mut [u8; SHEET],
+    end: usize,
+) -> Told {
+    let numbers = first(list, count);
+    if entry == 8 {
+        return of_request(numbers, sheet, end);
+    }
+    of_censor_list(numbers, sheet, end)
+}
+
+fn first(list: &[u16], count: usize) -> &[u16] {
+    if count <= list.len() {
+        return &list[0..count];
+    }
+    list
+}
+
+// The halfwords that stand in bytes, and how many they are.
+fn listed(bytes: &[u8], list: &mut [u16; LIST]) -> usize {
+    let count = bytes.len() / 2;
+    let mut n = 0;
+    while n < count {
+        if LIST <= n {
+            return n;
+        }
+        list[n] = wire::fetch16(bytes, n as u32 * 2);
+        n += 1;
+    }
+    n
+}
+
+fn of_request(list: &[u16], sheet: &mut [u8], end: usize) -> Told {
+    if sheet.len() < end {
+        return touched();
+    }
+    if end < PAGE {
+        return touched();
+    }
+    match request::write_request(list, &mut sheet[PAGE..end]) {
+        wire::WriteAnswer::Refused(n) => told::refused(n),
+        wire::WriteAnswer::Written(size) => told::followed(told::WROTE, 0, size.0 as usize),
+    }
+}
+
+fn of_censor_list(list: &[u16], sheet: &mut [u8], end: usize) -> Told {
+    if sheet.len() < end {
+        return touched();
+    }
+    if end < PAGE {
+        return touched();
+    }
+    match clutter::write_censor(list, &mut sheet[PAGE..end]) {
+        wire::WriteAnswer::Refused(n) => told::refused(n),
+        wire::WriteAnswer::Written(size) => told::followed(told::WROTE, 0, size.0 as usize),
+    }
+}
+
+// The regions of message 8, all places, put into the room.
+pub fn of_censor(body: &[u8], sheet: &mut [u8; SHEET]) -> Told {
+    let c = clutter::read_censor(body);
+    if c.number != 0 {
+        return told::refused(c.number);
+    }
+    let regions = c.regions;
+    spread(&regions, sheet);
+    told::followed(told::CENSOR, wide16(c.count), 300)
+}
+
+fn spread(regions: &[u16; 150], sheet: &mut [u8; SHEET]) {
+    let mut i = 0;
+    while i < 150 {
+        sheet[PAGE + i * 2] = high(regions[i]);
+        sheet[PAGE + i * 2 + 1] = low(regions[i]);
+        i += 1;
+    }
+}
+
+fn high(x: u16) -> u8 {
+    (x / 256) as u8
+}
+
+fn low(x: u16) -> u8 {
+    (x % 256) as u8
+}
+
+// A moment's gates, put into the room.
+pub fn of_gates(body: &[u8], name: [u8; 4], sheet: &mut [u8; SHEET]) -> Told {
+    let length = copied(lookup::gates(body, name), sheet);
+    match lookup::moment(body, name) {
+        MomentAnswer::Refused(n) => told::refused(n),
+        MomentAnswer::Moment(_) => told::followed(told::GATES, 0, length),
+    }
+}
+
+fn copied(bytes: &[u8], sheet: &mut [u8; SHEET]) -> usize {
+    let mut i = 0;
+    while i < bytes.len() {
+        if ROOM <= i {
+            return i;
+        }
+        sheet[PAGE + i] = bytes[i];
+        i += 1;
+    }
+    i
+}
