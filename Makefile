@@ -4,15 +4,16 @@
 #   make program                proves and builds the program: build/ulmarzhe
 #   make lib                    proves crate ulm and writes build/libulm.a and build/ulm.h
 #   make install PREFIX=DIR     puts archive, header and a pkg-config file under DIR
-#   make check                  the tests in C and Rust, against ARCHIVE
+#   make check                  the tests in C and Rust, against ARCHIVE, and those of the program
 #   make fuzz SECONDS=60 SEED=7 the differential test for as long as asked
 #   make memcheck               the differential test under valgrind
-#   make bench                  libulm beside plain C, as the table of docs/SPEED.md
+#   make bench                  libulm beside plain C and the listing beside cat, as the tables of docs/SPEED.md
 #   make cases CASES=FILE       a file of cases against both sides
 #   make test                   the whole gate
 
 CC = gcc
 ARCHIVE = build/libulm.a
+PROGRAM = build/ulmarzhe
 PREFIX = /usr/local
 VERSION = 0.1.0
 SECONDS = 60
@@ -26,14 +27,14 @@ LINK = -nodefaultlibs -lc
 .PHONY: show program test lib install check fuzz memcheck bench cases clean
 
 show: program
-	build/ulmarzhe radials examples/sample.rec
-	build/ulmarzhe picture examples/sample.rec REF > build/sample.pgm
+	$(PROGRAM) radials examples/sample.rec
+	$(PROGRAM) picture examples/sample.rec REF > build/sample.pgm
 	@echo 'build/sample.pgm is the picture of REF'
 
 program:
 	rt check ulmarzhe
 	mkdir -p build
-	cp target/bin/ulmarzhe build/ulmarzhe
+	cp target/bin/ulmarzhe $(PROGRAM)
 
 test:
 	bash .ci/run
@@ -51,8 +52,9 @@ install: $(ARCHIVE)
 	sed -e 's|@PREFIX@|$(PREFIX)|' -e 's|@VERSION@|$(VERSION)|' include/ulm.pc.in \
 	    > '$(DESTDIR)$(PREFIX)/lib/pkgconfig/ulm.pc'
 
-check:
+check: $(PROGRAM)
 	ARCHIVE=$(ARCHIVE) tests/run
+	tests/program $(PROGRAM)
 
 fuzz: build/differential
 	build/differential seconds $(SECONDS) seed $(SEED) answers
@@ -62,8 +64,9 @@ memcheck: build/differential
 	valgrind -q --error-exitcode=1 --leak-check=full build/differential inputs 50000 heap
 	valgrind -q --error-exitcode=1 --leak-check=full build/differential inputs 50000
 
-bench: build/bench
+bench: build/bench $(PROGRAM)
 	ROUNDS=$(ROUNDS) bench/run
+	bench/listing $(PROGRAM)
 
 cases: build/cases-plain build/cases-ulm
 	build/cases-plain '$(CASES)' same
@@ -74,6 +77,9 @@ clean:
 
 $(ARCHIVE):
 	@echo 'make: $@ is not there: run make lib first' >&2; exit 1
+
+$(PROGRAM):
+	@echo 'make: $@ is not there: run make program first' >&2; exit 1
 
 # ---- What is built
 
