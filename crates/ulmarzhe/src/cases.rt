@@ -2,6 +2,7 @@
 use crate::args;
 use crate::args::Args;
 use crate::lines;
+use crate::lines::Line;
 use crate::page;
 use crate::page::PAGE;
 use crate::page::SHEET;
@@ -13,8 +14,6 @@ use crate::sink;
 use crate::sink::Sink;
 use crate::told;
 use crate::told::Told;
-use crate::window;
-use crate::window::Reading;
 use crate::window::WINDOW;
 use crate::words;
 use crate::writers;
@@ -34,28 +33,33 @@ pub fn all(fd: i32) -> bool {
 }
 
 fn all_lines(fd: i32, window: &mut [u8; WINDOW], sheet: &mut [u8; SHEET]) -> bool {
-    let mut r = window::begun(fd, 0);
+    let mut l = lines::first(fd, window);
     let mut turns = u64::MAX;
     while 0 < turns {
-        r = lines::sought(r, window);
-        if r.done {
-            return !r.failed;
+        if l.done {
+            return !has_failed(l);
         }
-        one_line(r, window, sheet);
-        r = window::at(r, sum(r.end, 1));
+        one_line(l, window, sheet);
+        l = lines::next(l, window);
         turns -= 1;
     }
     true
 }
 
-fn one_line(r: Reading, window: &mut [u8; WINDOW], sheet: &mut [u8; SHEET]) {
-    let a = question(part(window, r.from, r.end), r.skips);
+fn has_failed(l: Line) -> bool {
+    let r = l.reading;
+    r.failed
+}
+
+fn one_line(l: Line, window: &mut [u8; WINDOW], sheet: &mut [u8; SHEET]) {
+    let r = l.reading;
+    let a = question(part(window, r.from, l.end), l.skips);
     let to = if a.good {
         words::decoded(window, sum(r.from, a.from), sum(r.from, a.at))
     } else {
         0
     };
-    case(part(window, r.from, r.end), a, less(to, r.from), sheet);
+    case(part(window, r.from, l.end), a, less(to, r.from), sheet);
 }
 
 // A line's question. One that is too long for the window is none.

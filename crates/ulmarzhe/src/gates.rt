@@ -9,8 +9,7 @@ use crate::picture;
 use crate::real;
 use crate::recording;
 use crate::recording::Carried;
-use crate::window;
-use crate::window::Reading;
+use crate::recording::Walk;
 use crate::window::WINDOW;
 use frame::FrameAnswer;
 use gate::GateAnswer;
@@ -24,47 +23,62 @@ pub fn listed(
     name: [u8; 4],
     window: &mut [u8; WINDOW],
     sheet: &mut [u8; SHEET],
-) -> Reading {
-    let r = recording::ready(window::begun(fd, place), window);
-    if r.failed {
-        return r;
+) -> Walk {
+    let w = recording::begun(fd, place, 0, picture::empty());
+    let w = recording::ready(w, window);
+    if w.done {
+        return w;
     }
-    let r = in_frame(r, name, part(window, 0, r.fill), sheet);
-    recording::emptied(r, 0, sheet)
+    let r = w.reading;
+    in_frame(w, place, name, part(window, 0, r.fill), sheet)
 }
 
-fn in_frame(r: Reading, name: [u8; 4], stream: &[u8], sheet: &mut [u8; SHEET]) -> Reading {
+fn in_frame(w: Walk, place: u64, name: [u8; 4], stream: &[u8], sheet: &mut [u8; SHEET]) -> Walk {
     match frame::frame_at(stream, 0) {
-        FrameAnswer::End => listing::no_radial(r, sheet),
-        FrameAnswer::Refused(n) => listing::stop(r, n, sheet),
-        FrameAnswer::Read(f) => in_message(r, name, f.kind, part(stream, f.start, f.next), sheet),
+        FrameAnswer::End => paged(w, listing::no_radial(sheet, 0, place)),
+        FrameAnswer::Refused(n) => paged(w, listing::stop(sheet, 0, place, n)),
+        FrameAnswer::Read(f) => in_message(
+            w,
+            place,
+            name,
+            f.kind,
+            part(stream, f.start, f.next),
+            sheet,
+        ),
     }
+}
+
+fn paged(w: Walk, page: usize) -> Walk {
+    let mut w = w;
+    w.page = page;
+    w
 }
 
 fn in_message(
-    r: Reading,
+    w: Walk,
+    place: u64,
     name: [u8; 4],
     kind: u32,
     whole: &[u8],
     sheet: &mut [u8; SHEET],
-) -> Reading {
+) -> Walk {
     match recording::carried_by(kind, whole) {
-        Carried::Other => listing::no_radial(r, sheet),
-        Carried::Refused(n) => listing::refused(r, whole, n, sheet),
-        Carried::Radial => in_radial(r, name, whole, sheet),
+        Carried::Other => paged(w, listing::no_radial(sheet, 0, place)),
+        Carried::Refused(n) => paged(w, listing::refused(sheet, 0, place, whole, n)),
+        Carried::Radial => in_radial(w, place, name, whole, sheet),
     }
 }
 
-fn in_radial(r: Reading, name: [u8; 4], whole: &[u8], sheet: &mut [u8; SHEET]) -> Reading {
+fn in_radial(w: Walk, place: u64, name: [u8; 4], whole: &[u8], sheet: &mut [u8; SHEET]) -> Walk {
     let body = recording::body_of(whole);
     match lookup::moment(body, name) {
-        MomentAnswer::Refused(n) => listing::refused(r, whole, n, sheet),
+        MomentAnswer::Refused(n) => paged(w, listing::refused(sheet, 0, place, whole, n)),
         MomentAnswer::Moment(m) => {
             let n = refusal_of(gate::value(0, m.scale_bits, m.offset_bits));
             if n != 0 {
-                return listing::refused(r, whole, n, sheet);
+                return paged(w, listing::refused(sheet, 0, place, whole, n));
             }
-            lines(r, m, lookup::gates(body, name), sheet)
+            lines(w, m, lookup::gates(body, name), sheet)
         }
     }
 }
@@ -77,42 +91,25 @@ fn refusal_of(answer: GateAnswer) -> u8 {
     }
 }
 
-fn lines(r: Reading, m: MomentHead, gates: &[u8], sheet: &mut [u8; SHEET]) -> Reading {
-    let mut r = r;
+fn lines(w: Walk, m: MomentHead, gates: &[u8], sheet: &mut [u8; SHEET]) -> Walk {
+    let mut w = w;
     let mut metres = wide16(m.first);
     let mut i = 0;
     while i < m.gates {
-        r = one(
-            r,
-            m,
-            i,
-            metres,
-            picture::code_at(gates, m.word, i as u32),
-            sheet,
-        );
+        let code = picture::code_at(gates, m.word, i as u32);
+        w = one(w, m, i, metres, code, sheet);
         metres = std::num::wrapping_add_u64(metres, wide16(m.interval));
         i += 1;
     }
-    r
+    w
 }
 
-fn one(
-    r: Reading,
-    m: MomentHead,
-    i: u16,
-    metres: u64,
-    code: u16,
-    sheet: &mut [u8; SHEET],
-) -> Reading {
+fn one(w: Walk, m: MomentHead, i: u16, metres: u64, code: u16, sheet: &mut [u8; SHEET]) -> Walk {
     let values = [wide16(i), metres / 1000, metres % 1000, wide16(code)];
-    let mut r = recording::emptied(r, PAGE / 2, sheet);
-    r.page = page::filled(sheet, r.page, b"<  <.& km  <  ", &values);
-    r.page = value(
-        sheet,
-        r.page,
-        gate::value(code, m.scale_bits, m.offset_bits),
-    );
-    r
+    let w = recording::emptied(w, PAGE / 2, sheet);
+    let next = page::filled(sheet, w.page, b"<  <.& km  <  ", &values);
+    let worth = gate::value(code, m.scale_bits, m.offset_bits);
+    paged(w, value(sheet, next, worth))
 }
 
 fn value(sheet: &mut [u8; SHEET], at: usize, answer: GateAnswer) -> usize {

@@ -6,62 +6,90 @@ use crate::window::Reading;
 use crate::window::WINDOW;
 use crate::words;
 
-// A line was found, or the file is done with. Of a line that is too long for the window its beginning is found, and the rest goes by.
-pub fn sought(r: Reading, window: &mut [u8; WINDOW]) -> Reading {
-    let mut r = r;
-    let mut turns = u64::MAX;
-    while 0 < turns {
-        r = looked(r, end_of(window, r));
-        if r.found {
-            return r;
-        }
-        if r.done {
-            return r;
-        }
-        r = window::more(r, window);
-        turns -= 1;
-    }
-    window::finished(r)
+// A line that was `found` begins where the reading looks and ends at `end`. `skips`: it is too long for the window, and its rest goes
+// by. `done`: no line is left.
+pub struct Line {
+    pub reading: Reading,
+    pub end: usize,
+    pub found: bool,
+    pub skips: bool,
+    pub done: bool,
 }
 
-fn end_of(window: &[u8; WINDOW], r: Reading) -> usize {
-    words::until(part(window, 0, r.fill), r.from, b'\n')
+fn line_at(r: Reading, end: usize, found: bool, skips: bool, done: bool) -> Line {
+    Line {
+        reading: r,
+        end,
+        found,
+        skips,
+        done,
+    }
+}
+
+// The first line of a file that is open.
+pub fn first(fd: i32, window: &mut [u8; WINDOW]) -> Line {
+    let none = line_at(window::begun(fd, 0), 0, false, false, false);
+    sought(none, window)
+}
+
+// The line after one that was found.
+pub fn next(l: Line, window: &mut [u8; WINDOW]) -> Line {
+    let r = l.reading;
+    let from = if l.skips { l.end } else { sum(l.end, 1) };
+    let none = line_at(window::at(r, from), from, false, l.skips, false);
+    sought(none, window)
+}
+
+// A line was found, or the file is done with. Of a line that is too long for the window its beginning is found.
+fn sought(l: Line, window: &mut [u8; WINDOW]) -> Line {
+    let mut l = looked(l, window);
+    let mut turns = u64::MAX;
+    while 0 < turns {
+        if l.found {
+            return l;
+        }
+        if l.done {
+            return l;
+        }
+        l = looked(more(l, window), window);
+        turns -= 1;
+    }
+    l
+}
+
+fn more(l: Line, window: &mut [u8; WINDOW]) -> Line {
+    let r = l.reading;
+    line_at(window::more(r, window), l.end, l.found, l.skips, l.done)
+}
+
+fn looked(l: Line, window: &[u8; WINDOW]) -> Line {
+    let r = l.reading;
+    ended(
+        r,
+        l.skips,
+        words::until(part(window, 0, r.fill), r.from, b'\n'),
+    )
 }
 
 // What the place where a line ends says: that it was found, that nothing is left, or that more is to be read.
-fn looked(r: Reading, end: usize) -> Reading {
-    let mut r = r;
-    r.end = end;
-    r.found = false;
+fn ended(r: Reading, skips: bool, end: usize) -> Line {
     if end < r.fill {
-        if r.skips {
-            r.skips = false;
-            r.from = sum(end, 1);
-            return r;
+        if skips {
+            return line_at(window::at(r, sum(end, 1)), end, false, false, false);
         }
-        r.found = true;
-        return r;
+        return line_at(r, end, true, false, false);
     }
     if r.ended {
-        let last = is_last(r);
-        r.found = last;
-        r.done = !last;
-        return r;
+        let last = r.from < r.fill && !skips;
+        return line_at(r, end, last, skips, !last);
     }
-    if is_full(r) {
-        r.found = !r.skips;
-        r.skips = true;
-        r.from = if r.found { 0 } else { end };
+    if !is_full(r) {
+        return line_at(r, end, false, skips, false);
     }
-    r
-}
-
-// Whether something is left at the file's end that no line's end follows.
-fn is_last(r: Reading) -> bool {
-    if r.skips {
-        return false;
+    if skips {
+        return line_at(window::at(r, end), end, false, true, false);
     }
-    r.from < r.fill
+    line_at(r, end, true, true, false)
 }
 
 fn is_full(r: Reading) -> bool {

@@ -10,59 +10,53 @@ use crate::recording;
 use crate::recording::Carried;
 use crate::recording::DATA;
 use crate::why;
-use crate::window::Reading;
 use crate::words;
-use frame::Frame;
 use lookup::BlockAnswer;
 use message::Header;
 use message::HeaderAnswer;
 
-// The beginning of a line: the place of what is looked at, and words with a number among them.
-fn begun(r: Reading, words: &[u8], n: u64, sheet: &mut [u8; SHEET]) -> Reading {
-    let place = std::num::wrapping_add_u64(r.base, r.from as u64);
-    let mut r = r;
-    r.page = page::filled(sheet, r.page, b">  ", &[place]);
-    r.page = page::filled(sheet, r.page, words, &[n]);
-    r
+// The beginning of a line: a place of the recording, and words with a number among them.
+fn begun(sheet: &mut [u8; SHEET], at: usize, place: u64, words: &[u8], n: u64) -> usize {
+    let next = page::filled(sheet, at, b">  ", &[place]);
+    page::filled(sheet, next, words, &[n])
 }
 
-pub fn stop(r: Reading, n: u8, sheet: &mut [u8; SHEET]) -> Reading {
-    let mut r = begun(r, b"stopped, ", 0, sheet);
-    r.page = why::refusal(sheet, r.page, n);
-    r
+pub fn stop(sheet: &mut [u8; SHEET], at: usize, place: u64, n: u8) -> usize {
+    let next = begun(sheet, at, place, b"stopped, ", 0);
+    why::refusal(sheet, next, n)
 }
 
-pub fn no_radial(r: Reading, sheet: &mut [u8; SHEET]) -> Reading {
-    begun(r, b"no radial here\n", 0, sheet)
+pub fn no_radial(sheet: &mut [u8; SHEET], at: usize, place: u64) -> usize {
+    begun(sheet, at, place, b"no radial here\n", 0)
 }
 
-pub fn refused(r: Reading, whole: &[u8], n: u8, sheet: &mut [u8; SHEET]) -> Reading {
-    let mut r = begun(r, b"data, # bytes, ", whole.len() as u64, sheet);
-    r.page = why::refusal(sheet, r.page, n);
-    r
+pub fn refused(sheet: &mut [u8; SHEET], at: usize, place: u64, whole: &[u8], n: u8) -> usize {
+    let next = begun(sheet, at, place, b"data, # bytes, ", whole.len() as u64);
+    why::refusal(sheet, next, n)
 }
 
-pub fn of_frame(r: Reading, f: Frame, whole: &[u8], sheet: &mut [u8; SHEET]) -> Reading {
+pub fn of_frame(sheet: &mut [u8; SHEET], at: usize, place: u64, kind: u32, whole: &[u8]) -> usize {
     let kinds =
         b"login, # bytes\n;login acknowledgement, # bytes\n;data, # bytes\n;data acknowledgement, # bytes\n;keep alive, # bytes\n";
-    if f.kind != DATA {
-        let words = words::pick(kinds, f.kind as usize);
-        return begun(r, words, whole.len() as u64, sheet);
+    let size = whole.len() as u64;
+    if kind != DATA {
+        return begun(sheet, at, place, words::pick(kinds, kind as usize), size);
     }
     match message::read_header(whole) {
-        HeaderAnswer::Refused(n) => refused(r, whole, n, sheet),
-        HeaderAnswer::Read(h) => of_data(r, h, whole.len(), sheet),
+        HeaderAnswer::Refused(n) => refused(sheet, at, place, whole, n),
+        HeaderAnswer::Read(h) => {
+            let next = begun(sheet, at, place, b"data, # bytes, ", size);
+            of_header(sheet, next, h)
+        }
     }
 }
 
-fn of_data(r: Reading, h: Header, size: usize, sheet: &mut [u8; SHEET]) -> Reading {
-    let mut r = begun(r, b"data, # bytes, ", size as u64, sheet);
+fn of_header(sheet: &mut [u8; SHEET], at: usize, h: Header) -> usize {
     let first = [wide8(h.kind), wide16(h.sequence)];
-    r.page = page::filled(sheet, r.page, b"type #, sequence #, ", &first);
-    r.page = stamp(sheet, r.page, h.date, h.milliseconds);
+    let mut next = page::filled(sheet, at, b"type #, sequence #, ", &first);
+    next = stamp(sheet, next, h.date, h.milliseconds);
     let last = [wide16(h.number), wide16(h.segments)];
-    r.page = page::filled(sheet, r.page, b", segment # of #\n", &last);
-    r
+    page::filled(sheet, next, b", segment # of #\n", &last)
 }
 
 // A radial's date and time are not checked: those that no clock shows are shown as stored.
@@ -85,26 +79,31 @@ fn stamp(sheet: &mut [u8; SHEET], at: usize, date: u16, milliseconds: u32) -> us
 }
 
 // What is no radial has no line; a message that is refused has one, since nobody can tell what it was.
-pub fn of_radial(r: Reading, c: Carried, whole: &[u8], sheet: &mut [u8; SHEET]) -> Reading {
+pub fn of_radial(
+    sheet: &mut [u8; SHEET],
+    at: usize,
+    place: u64,
+    c: Carried,
+    whole: &[u8],
+) -> usize {
     match c {
-        Carried::Other => r,
-        Carried::Refused(n) => refused(r, whole, n, sheet),
-        Carried::Radial => radial_line(r, whole, sheet),
+        Carried::Other => at,
+        Carried::Refused(n) => refused(sheet, at, place, whole, n),
+        Carried::Radial => radial_line(sheet, at, place, whole),
     }
 }
 
-fn radial_line(r: Reading, whole: &[u8], sheet: &mut [u8; SHEET]) -> Reading {
+fn radial_line(sheet: &mut [u8; SHEET], at: usize, place: u64, whole: &[u8]) -> usize {
     let body = recording::body_of(whole);
     let answer = radial::read_radial(body);
     if answer.refusal != 0 {
-        return refused(r, whole, answer.refusal, sheet);
+        return refused(sheet, at, place, whole, answer.refusal);
     }
     let h = answer.header;
-    let mut r = begun(r, b"", 0, sheet);
-    r.page = values(sheet, r.page, h);
-    r.page = status(sheet, r.page, h.status);
-    r.page = moments(sheet, r.page, body, answer.count);
-    r
+    let mut next = begun(sheet, at, place, b"", 0);
+    next = values(sheet, next, h);
+    next = status(sheet, next, h.status);
+    moments(sheet, next, body, answer.count)
 }
 
 fn values(sheet: &mut [u8; SHEET], at: usize, h: radial::Header) -> usize {

@@ -22,7 +22,7 @@ use filter::CodeAnswer;
 use page::SHEET;
 use recording::ROWS;
 use recording::SURVEY;
-use window::Reading;
+use recording::Walk;
 use window::WINDOW;
 use words::Number;
 
@@ -201,13 +201,17 @@ fn run_listing(mode: u8) {
     }
     let mut window = [0u8; 1703936];
     let mut sheet = [0u8; 1114112];
-    let r = recording::walked(window::begun(fd, 0), mode, [0; 4], &mut window, &mut sheet);
-    ended(r, &sheet);
+    let w = recording::begun(fd, 0, 0, picture::empty());
+    ended(
+        recording::walked(w, mode, [0; 4], &mut window, &mut sheet),
+        &sheet,
+    );
 }
 
 // What is left of the page is written, and a recording that could not be read to its end is told.
-fn ended(r: Reading, sheet: &[u8; SHEET]) {
-    let r = recording::emptied(r, 0, sheet);
+fn ended(w: Walk, sheet: &[u8; SHEET]) {
+    let w = recording::emptied(w, 0, sheet);
+    let r = w.reading;
     if r.failed {
         os::fail(b"recording");
     }
@@ -239,8 +243,8 @@ fn gates_at(fd: i32, place: u64, name: [u8; 4]) {
         os::fail(b"recording");
         return;
     }
-    let r = gates::listed(fd, place, name, &mut window, &mut sheet);
-    ended(r, &sheet);
+    let w = gates::listed(fd, place, name, &mut window, &mut sheet);
+    ended(w, &sheet);
 }
 
 fn run_picture() {
@@ -255,30 +259,30 @@ fn run_picture() {
     }
     let mut window = [0u8; 1703936];
     let mut sheet = [0u8; 1114112];
-    let r = pictured(fd, name_of(moment), &mut window, &mut sheet);
-    ended(r, &sheet);
+    let w = pictured(fd, name_of(moment), &mut window, &mut sheet);
+    ended(w, &sheet);
 }
 
-fn pictured(fd: i32, name: [u8; 4], window: &mut [u8; WINDOW], sheet: &mut [u8; SHEET]) -> Reading {
-    let begun = window::begun(fd, 0);
-    let r = recording::walked(begun, SURVEY, name, window, sheet);
+fn pictured(fd: i32, name: [u8; 4], window: &mut [u8; WINDOW], sheet: &mut [u8; SHEET]) -> Walk {
+    let w = recording::begun(fd, 0, 0, picture::empty());
+    let w = recording::walked(w, SURVEY, name, window, sheet);
+    let r = w.reading;
     if r.failed {
-        return r;
+        return w;
     }
-    if r.most == 0 {
+    let p = w.picture;
+    if p.most == 0 {
         io::write_all(
             libc::STDERR_FILENO,
             b"ulmarzhe: no radial has a gate of that moment\n",
         );
-        return r;
+        return w;
     }
     if libc::lseek(fd, 0, libc::SEEK_SET) < 0 {
-        return window::failed(r);
+        os::fail(b"recording");
+        return w;
     }
-    let mut again = begun;
-    again.most = r.most;
-    again.wide = r.wide;
-    again.page = picture::head(r, sheet);
+    let again = recording::begun(fd, 0, picture::head(p, sheet), p);
     recording::walked(again, ROWS, name, window, sheet)
 }
 
@@ -297,6 +301,11 @@ fn run_map() {
     let mut window = [0u8; 1703936];
     let mut sheet = [0u8; 1114112];
     let r = window::whole(window::begun(fd, 0), &mut window);
+    if r.failed {
+        os::fail(b"map");
+        return;
+    }
+    libc::close(fd);
     let answer = mapped(
         &window,
         r.fill,
@@ -304,7 +313,8 @@ fn run_map() {
         azimuth.value as usize,
         kilometre.value as usize,
     );
-    ended(code_line(r, answer, &mut sheet), &sheet);
+    let at = code_line(answer, &mut sheet);
+    page::send(libc::STDOUT_FILENO, &sheet, at);
 }
 
 // A file longer than the window is longer than any map, and refused alike.
@@ -318,19 +328,14 @@ fn mapped(
     filter::code_at(part::part(window, 0, fill), elevation, azimuth, kilometre)
 }
 
-fn code_line(r: Reading, answer: CodeAnswer, sheet: &mut [u8; SHEET]) -> Reading {
+fn code_line(answer: CodeAnswer, sheet: &mut [u8; SHEET]) -> usize {
     let list = b"code #, bypass filter\n;code #, bypass map in control\n;code #, force filter\n";
-    let mut r = r;
-    if r.failed {
-        return r;
-    }
-    r.page = match answer {
+    match answer {
         CodeAnswer::Refused(n) => why::refusal(sheet, 0, n),
         CodeAnswer::Code(code) => {
             page::filled(sheet, 0, words::pick(list, code as usize), &[code as u64])
         }
-    };
-    r
+    }
 }
 
 fn run_why() {

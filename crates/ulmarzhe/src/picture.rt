@@ -3,8 +3,22 @@ use crate::page;
 use crate::page::SHEET;
 use crate::part::wide16;
 use crate::recording::Carried;
-use crate::window::Reading;
 use lookup::MomentAnswer;
+
+// How many rows a picture has, how many gates the longest, and whether a code takes two bytes.
+pub struct Picture {
+    pub rows: u64,
+    pub most: u16,
+    pub wide: bool,
+}
+
+pub fn empty() -> Picture {
+    Picture {
+        rows: 0,
+        most: 0,
+        wide: false,
+    }
+}
 
 // The moment of a radial, where it has one. `gates` is 0 and `there` false where it has none.
 struct Shown {
@@ -32,52 +46,58 @@ fn moment_in(c: Carried, body: &[u8], name: [u8; 4]) -> Shown {
     }
 }
 
-pub fn surveyed(r: Reading, c: Carried, body: &[u8], name: [u8; 4]) -> Reading {
+pub fn surveyed(p: Picture, c: Carried, body: &[u8], name: [u8; 4]) -> Picture {
     let s = moment_in(c, body, name);
-    let mut r = r;
+    let mut p = p;
     if s.there {
-        r.rows = std::num::wrapping_add_u64(r.rows, 1);
+        p.rows = std::num::wrapping_add_u64(p.rows, 1);
     }
-    if r.most < s.gates {
-        r.most = s.gates;
+    if p.most < s.gates {
+        p.most = s.gates;
     }
     if s.word == 16 {
-        r.wide = true;
+        p.wide = true;
     }
-    r
+    p
 }
 
 // The picture's head: its width, its height, and the largest code.
-pub fn head(r: Reading, sheet: &mut [u8; SHEET]) -> usize {
-    let largest = if r.wide { 65535 } else { 255 };
+pub fn head(p: Picture, sheet: &mut [u8; SHEET]) -> usize {
+    let largest = if p.wide { 65535 } else { 255 };
     page::filled(
         sheet,
         0,
         b"P5\n# #\n#\n",
-        &[wide16(r.most), r.rows, largest],
+        &[wide16(p.most), p.rows, largest],
     )
 }
 
-pub fn row(r: Reading, c: Carried, body: &[u8], name: [u8; 4], sheet: &mut [u8; SHEET]) -> Reading {
+// The row of a radial that has the moment.
+pub fn row(
+    p: Picture,
+    c: Carried,
+    body: &[u8],
+    name: [u8; 4],
+    sheet: &mut [u8; SHEET],
+    at: usize,
+) -> usize {
     let s = moment_in(c, body, name);
     if !s.there {
-        return r;
+        return at;
     }
-    codes(r, lookup::gates(body, name), s.word, sheet)
+    codes(p, lookup::gates(body, name), s.word, sheet, at)
 }
 
 // Gates past the last are 0.
-fn codes(r: Reading, gates: &[u8], word: u8, sheet: &mut [u8; SHEET]) -> Reading {
-    let most = r.most;
-    let mut at = r.page;
+fn codes(p: Picture, gates: &[u8], word: u8, sheet: &mut [u8; SHEET], at: usize) -> usize {
+    let most = p.most;
+    let mut next = at;
     let mut i = 0;
     while i < most {
-        at = pixel(sheet, at, code_at(gates, word, i as u32), r.wide);
+        next = pixel(sheet, next, code_at(gates, word, i as u32), p.wide);
         i += 1;
     }
-    let mut r = r;
-    r.page = at;
-    r
+    next
 }
 
 fn pixel(sheet: &mut [u8; SHEET], at: usize, code: u16, wide: bool) -> usize {

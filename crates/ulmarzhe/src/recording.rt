@@ -5,10 +5,10 @@ use crate::page::PAGE;
 use crate::page::SHEET;
 use crate::part::part;
 use crate::picture;
+use crate::picture::Picture;
 use crate::window;
 use crate::window::Reading;
 use crate::window::WINDOW;
-use frame::Frame;
 use frame::FrameAnswer;
 use message::HeaderAnswer;
 use wire::refusal;
@@ -36,31 +36,58 @@ pub enum Carried {
     Refused(u8),
 }
 
+// A walk through a recording: how far the page is filled, whether the walk is done, and what a picture of it is like.
+pub struct Walk {
+    pub reading: Reading,
+    pub page: usize,
+    pub done: bool,
+    pub picture: Picture,
+}
+
+fn walk_at(r: Reading, page: usize, done: bool, p: Picture) -> Walk {
+    Walk {
+        reading: r,
+        page,
+        done,
+        picture: p,
+    }
+}
+
+// A walk from a place at which the recording stands.
+pub fn begun(fd: i32, place: u64, page: usize, p: Picture) -> Walk {
+    walk_at(window::begun(fd, place), page, false, p)
+}
+
 pub fn walked(
-    r: Reading,
+    w: Walk,
     mode: u8,
     name: [u8; 4],
     window: &mut [u8; WINDOW],
     sheet: &mut [u8; SHEET],
-) -> Reading {
-    let mut r = r;
+) -> Walk {
+    let mut w = w;
     let mut turns = u64::MAX;
     while 0 < turns {
-        r = ready(r, window);
-        if r.failed {
-            return r;
+        w = ready(w, window);
+        if w.done {
+            return w;
         }
-        r = step(r, mode, name, window, sheet);
-        if r.done {
-            return r;
+        w = step(w, mode, name, window, sheet);
+        if w.done {
+            return w;
         }
         turns -= 1;
     }
-    r
+    w
 }
 
-// The frame that is looked at lies whole in the window, as far as the recording has it.
-pub fn ready(r: Reading, window: &mut [u8; WINDOW]) -> Reading {
+// The frame that is looked at lies whole in the window, as far as the recording has it, or it could not be read.
+pub fn ready(w: Walk, window: &mut [u8; WINDOW]) -> Walk {
+    let r = filled(w.reading, window);
+    walk_at(r, w.page, r.failed, w.picture)
+}
+
+fn filled(r: Reading, window: &mut [u8; WINDOW]) -> Reading {
     let mut r = r;
     let mut turns = u64::MAX;
     while 0 < turns {
@@ -85,38 +112,55 @@ fn is_whole(stream: &[u8], at: usize) -> bool {
     }
 }
 
-fn step(
-    r: Reading,
-    mode: u8,
-    name: [u8; 4],
-    window: &[u8; WINDOW],
-    sheet: &mut [u8; SHEET],
-) -> Reading {
+fn step(w: Walk, mode: u8, name: [u8; 4], window: &[u8; WINDOW], sheet: &mut [u8; SHEET]) -> Walk {
+    let r = w.reading;
     match frame::frame_at(part(window, 0, r.fill), r.from) {
-        FrameAnswer::End => window::finished(r),
-        FrameAnswer::Refused(n) => stopped(r, mode, n, sheet),
+        FrameAnswer::End => walk_at(r, w.page, true, w.picture),
+        FrameAnswer::Refused(n) => stopped(w, mode, n, sheet),
         FrameAnswer::Read(f) => {
             let whole = part(window, f.start, f.next);
-            let r = met(r, mode, name, f, whole, sheet);
-            emptied(window::at(r, f.next), PAGE / 2, sheet)
+            let page = shown(w, mode, name, f.kind, whole, sheet);
+            let p = looked(w, mode, name, f.kind, whole);
+            emptied(
+                walk_at(window::at(r, f.next), page, false, p),
+                PAGE / 2,
+                sheet,
+            )
         }
     }
 }
 
-fn met(
-    r: Reading,
+// What a frame adds to the page.
+fn shown(
+    w: Walk,
     mode: u8,
     name: [u8; 4],
-    f: Frame,
+    kind: u32,
     whole: &[u8],
     sheet: &mut [u8; SHEET],
-) -> Reading {
+) -> usize {
+    let place = window::place_of(w.reading);
     match mode {
-        FRAMES => listing::of_frame(r, f, whole, sheet),
-        RADIALS => listing::of_radial(r, carried_by(f.kind, whole), whole, sheet),
-        SURVEY => picture::surveyed(r, carried_by(f.kind, whole), body_of(whole), name),
-        _ => picture::row(r, carried_by(f.kind, whole), body_of(whole), name, sheet),
+        FRAMES => listing::of_frame(sheet, w.page, place, kind, whole),
+        RADIALS => listing::of_radial(sheet, w.page, place, carried_by(kind, whole), whole),
+        ROWS => picture::row(
+            w.picture,
+            carried_by(kind, whole),
+            body_of(whole),
+            name,
+            sheet,
+            w.page,
+        ),
+        _ => w.page,
     }
+}
+
+// What a frame adds to the picture's measures.
+fn looked(w: Walk, mode: u8, name: [u8; 4], kind: u32, whole: &[u8]) -> Picture {
+    if mode != SURVEY {
+        return w.picture;
+    }
+    picture::surveyed(w.picture, carried_by(kind, whole), body_of(whole), name)
 }
 
 pub fn carried_by(kind: u32, whole: &[u8]) -> Carried {
@@ -139,31 +183,29 @@ pub fn body_of(whole: &[u8]) -> &[u8] {
 }
 
 // A damaged place ends a walk. A listing tells it on a line of its own, a picture on standard error.
-fn stopped(r: Reading, mode: u8, n: u8, sheet: &mut [u8; SHEET]) -> Reading {
-    let r = window::finished(r);
-    if mode < SURVEY {
-        return listing::stop(r, n, sheet);
-    }
+fn stopped(w: Walk, mode: u8, n: u8, sheet: &mut [u8; SHEET]) -> Walk {
+    let place = window::place_of(w.reading);
     if mode == SURVEY {
-        return r;
+        return walk_at(w.reading, w.page, true, w.picture);
     }
-    let r = listing::stop(emptied(r, 0, sheet), n, sheet);
-    page::send(libc::STDERR_FILENO, sheet, r.page);
-    let mut r = r;
-    r.page = 0;
-    r
+    if mode == ROWS {
+        let w = emptied(w, 0, sheet);
+        let page = listing::stop(sheet, 0, place, n);
+        page::send(libc::STDERR_FILENO, sheet, page);
+        return walk_at(w.reading, 0, true, w.picture);
+    }
+    let page = listing::stop(sheet, w.page, place, n);
+    walk_at(w.reading, page, true, w.picture)
 }
 
 // The page is written out once it is filled beyond a place.
-pub fn emptied(r: Reading, most: usize, sheet: &[u8; SHEET]) -> Reading {
-    if r.page <= most {
-        return r;
+pub fn emptied(w: Walk, most: usize, sheet: &[u8; SHEET]) -> Walk {
+    if w.page <= most {
+        return w;
     }
-    let mut r = r;
-    if !page::send(libc::STDOUT_FILENO, sheet, r.page) {
-        os::fail(b"standard output");
-        r.done = true;
+    if page::send(libc::STDOUT_FILENO, sheet, w.page) {
+        return walk_at(w.reading, 0, w.done, w.picture);
     }
-    r.page = 0;
-    r
+    os::fail(b"standard output");
+    walk_at(w.reading, 0, true, w.picture)
 }

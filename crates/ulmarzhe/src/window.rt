@@ -7,23 +7,14 @@ pub const WINDOW: usize = 1703936;
 const AT_ONCE: usize = 262144;
 
 // What is looked at begins at `from` in the window, whose first byte is the file's at `base`; the window is filled up to `fill`.
-// `ended`: nothing is left to read. `page`: how far the page is filled. Of a line: `found`, and it ends at `end`; `skips`: it is too long,
-// and its rest goes by. Of a picture: how many rows it has, how many gates the longest, and whether a code takes two bytes.
+// `ended`: nothing is left to read; `failed`: it could not be read.
 pub struct Reading {
     pub fd: i32,
     pub base: u64,
     pub from: usize,
-    pub end: usize,
     pub fill: usize,
     pub ended: bool,
     pub failed: bool,
-    pub done: bool,
-    pub found: bool,
-    pub skips: bool,
-    pub page: usize,
-    pub rows: u64,
-    pub most: u16,
-    pub wide: bool,
 }
 
 pub fn begun(fd: i32, base: u64) -> Reading {
@@ -31,31 +22,29 @@ pub fn begun(fd: i32, base: u64) -> Reading {
         fd,
         base,
         from: 0,
-        end: 0,
         fill: 0,
         ended: false,
         failed: false,
-        done: false,
-        found: false,
-        skips: false,
-        page: 0,
-        rows: 0,
-        most: 0,
-        wide: false,
     }
+}
+
+// The place in the file of what is looked at.
+pub fn place_of(r: Reading) -> u64 {
+    std::num::wrapping_add_u64(r.base, r.from as u64)
 }
 
 // What was begun is moved to the window's start, and more is read after it.
 pub fn more(r: Reading, window: &mut [u8; WINDOW]) -> Reading {
     let fill = moved(window, r.from, r.fill);
     let got = read_at(r.fd, window, fill);
-    let mut r = r;
-    r.base = std::num::wrapping_add_u64(r.base, r.from as u64);
-    r.from = 0;
-    r.fill = sum(fill, io::count(got, window));
-    r.failed = got < 0;
-    r.ended = got <= 0;
-    r
+    Reading {
+        fd: r.fd,
+        base: place_of(r),
+        from: 0,
+        fill: sum(fill, io::count(got, window)),
+        ended: got <= 0,
+        failed: got < 0,
+    }
 }
 
 fn moved(window: &mut [u8; WINDOW], from: usize, fill: usize) -> usize {
@@ -87,18 +76,6 @@ fn read_at(fd: i32, window: &mut [u8], at: usize) -> isize {
 pub fn at(r: Reading, from: usize) -> Reading {
     let mut r = r;
     r.from = from;
-    r
-}
-
-pub fn finished(r: Reading) -> Reading {
-    let mut r = r;
-    r.done = true;
-    r
-}
-
-pub fn failed(r: Reading) -> Reading {
-    let mut r = r;
-    r.failed = true;
     r
 }
 

@@ -3,19 +3,19 @@ use Rattle.ulmarzhe.proofs.cases.all_lines.Statement.{statement}
 use Rattle.ulmarzhe.proofs.cases.all_lines.Tie as tie
 
 abbrev Inv-loop : tie.InvT-loop
-Inv-loop fd window₀ sheet₀ r₀ turns₀ window sheet r turns = Unit {0}
+Inv-loop fd window₀ sheet₀ l₀ turns₀ window sheet l turns = Unit {0}
 
 abbrev μ-loop : tie.MeasureT-loop
-μ-loop fd window₀ sheet₀ r₀ turns₀ window sheet r turns = turns
+μ-loop fd window₀ sheet₀ l₀ turns₀ window sheet l turns = turns
 
-begun-requires : tie.Need-begun-requires Inv-loop μ-loop
-begun-requires c κs = search needs
+first-requires : tie.Need-first-requires Inv-loop μ-loop
+first-requires c κs = search needs
 
 loop-holds : tie.Need-loop-holds Inv-loop μ-loop
 loop-holds c = search needs
 
-sought-requires : tie.Need-sought-requires Inv-loop μ-loop
-sought-requires c κs = search needs
+has-failed-requires : tie.Need-has-failed-requires Inv-loop μ-loop
+has-failed-requires c κs = search needs
 
 returns : tie.Need-returns Inv-loop μ-loop
 returns c = search needs
@@ -23,11 +23,8 @@ returns c = search needs
 one-line-requires : tie.Need-one-line-requires Inv-loop μ-loop
 one-line-requires c κs = search needs
 
-sum-requires : tie.Need-sum-requires Inv-loop μ-loop
-sum-requires c κs = search needs
-
-at-requires : tie.Need-at-requires Inv-loop μ-loop
-at-requires c κs = search needs
+next-requires : tie.Need-next-requires Inv-loop μ-loop
+next-requires c κs = search needs
 
 sub-turns : tie.Need-sub-turns Inv-loop μ-loop
 sub-turns c = search needs
@@ -47,13 +44,12 @@ all-lines-spec =
     (tie.spec
     Inv-loop
     μ-loop
-    begun-requires
+    first-requires
     loop-holds
-    sought-requires
+    has-failed-requires
     returns
     one-line-requires
-    sum-requires
-    at-requires
+    next-requires
     sub-turns
     loop-less
     loop-again

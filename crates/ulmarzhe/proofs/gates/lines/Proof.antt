@@ -4,10 +4,10 @@ use Rattle.ulmarzhe.proofs.gates.lines.Statement.{statement}
 use Rattle.ulmarzhe.proofs.gates.lines.Tie as tie
 
 abbrev Inv-loop : tie.InvT-loop
-Inv-loop m gates sheet₀ r₀ metres₀ i₀ sheet r metres i = Unit {0}
+Inv-loop m gates sheet₀ w₀ metres₀ i₀ sheet w metres i = Unit {0}
 
 abbrev μ-loop : tie.MeasureT-loop
-μ-loop m gates sheet₀ r₀ metres₀ i₀ sheet r metres i = m .gates - i
+μ-loop m gates sheet₀ w₀ metres₀ i₀ sheet w metres i = m .gates - i
 
 wide16-requires : tie.Need-wide16-requires Inv-loop μ-loop
 wide16-requires c κs = search needs

@@ -3,19 +3,16 @@ use Rattle.ulmarzhe.proofs.lines.sought.Statement.{statement}
 use Rattle.ulmarzhe.proofs.lines.sought.Tie as tie
 
 abbrev Inv-loop : tie.InvT-loop
-Inv-loop window₀ r₀ turns₀ window r turns = Unit {0}
+Inv-loop window₀ l₀ turns₀ window l turns = Unit {0}
 
 abbrev μ-loop : tie.MeasureT-loop
-μ-loop window₀ r₀ turns₀ window r turns = turns
-
-loop-holds : tie.Need-loop-holds Inv-loop μ-loop
-loop-holds c = search needs
-
-end-of-requires : tie.Need-end-of-requires Inv-loop μ-loop
-end-of-requires c κs = search needs
+μ-loop window₀ l₀ turns₀ window l turns = turns
 
 looked-requires : tie.Need-looked-requires Inv-loop μ-loop
 looked-requires c κs = search needs
+
+loop-holds : tie.Need-loop-holds Inv-loop μ-loop
+loop-holds c = search needs
 
 returns : tie.Need-returns Inv-loop μ-loop
 returns c = search needs
@@ -26,6 +23,9 @@ returns-2 c = search needs
 more-requires : tie.Need-more-requires Inv-loop μ-loop
 more-requires c κs = search needs
 
+looked-requires-2 : tie.Need-looked-requires-2 Inv-loop μ-loop
+looked-requires-2 c κs = search needs
+
 sub-turns : tie.Need-sub-turns Inv-loop μ-loop
 sub-turns c = search needs
 
@@ -34,9 +34,6 @@ loop-less c = search needs
 
 loop-again : tie.Need-loop-again Inv-loop μ-loop
 loop-again c = search needs
-
-finished-requires : tie.Need-finished-requires Inv-loop μ-loop
-finished-requires c κs = search needs
 
 returns-3 : tie.Need-returns-3 Inv-loop μ-loop
 returns-3 c = search needs
@@ -47,14 +44,13 @@ sought-spec =
     (tie.spec
     Inv-loop
     μ-loop
-    loop-holds
-    end-of-requires
     looked-requires
+    loop-holds
     returns
     returns-2
     more-requires
+    looked-requires-2
     sub-turns
     loop-less
     loop-again
-    finished-requires
     returns-3)

@@ -4,10 +4,10 @@ use Rattle.ulmarzhe.proofs.picture.codes.Statement.{statement}
 use Rattle.ulmarzhe.proofs.picture.codes.Tie as tie
 
 abbrev Inv-loop : tie.InvT-loop
-Inv-loop r gates word sheet₀ most at₀ i₀ sheet at i = Unit {0}
+Inv-loop p gates word sheet₀ at most next₀ i₀ sheet next i = Unit {0}
 
 abbrev μ-loop : tie.MeasureT-loop
-μ-loop r gates word sheet₀ most at₀ i₀ sheet at i = most - i
+μ-loop p gates word sheet₀ at most next₀ i₀ sheet next i = most - i
 
 loop-holds : tie.Need-loop-holds Inv-loop μ-loop
 loop-holds c = search needs

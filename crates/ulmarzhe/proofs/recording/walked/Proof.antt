@@ -3,10 +3,10 @@ use Rattle.ulmarzhe.proofs.recording.walked.Statement.{statement}
 use Rattle.ulmarzhe.proofs.recording.walked.Tie as tie
 
 abbrev Inv-loop : tie.InvT-loop
-Inv-loop mode name window₀ sheet₀ r₀ turns₀ window sheet r turns = Unit {0}
+Inv-loop mode name window₀ sheet₀ w₀ turns₀ window sheet w turns = Unit {0}
 
 abbrev μ-loop : tie.MeasureT-loop
-μ-loop mode name window₀ sheet₀ r₀ turns₀ window sheet r turns = turns
+μ-loop mode name window₀ sheet₀ w₀ turns₀ window sheet w turns = turns
 
 loop-holds : tie.Need-loop-holds Inv-loop μ-loop
 loop-holds c = search needs

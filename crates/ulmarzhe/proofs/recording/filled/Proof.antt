@@ -1,6 +1,6 @@
 use borrow.Author.Needs.{needs}
-use Rattle.ulmarzhe.proofs.recording.ready.Statement.{statement}
-use Rattle.ulmarzhe.proofs.recording.ready.Tie as tie
+use Rattle.ulmarzhe.proofs.recording.filled.Statement.{statement}
+use Rattle.ulmarzhe.proofs.recording.filled.Tie as tie
 
 abbrev Inv-loop : tie.InvT-loop
 Inv-loop window₀ r₀ turns₀ window r turns = Unit {0}
@@ -38,8 +38,8 @@ loop-again c = search needs
 returns-3 : tie.Need-returns-3 Inv-loop μ-loop
 returns-3 c = search needs
 
-pub ready-spec : {M : Type 1} → statement M
-ready-spec =
+pub filled-spec : {M : Type 1} → statement M
+filled-spec =
     tie.close
     (tie.spec
     Inv-loop
