@@ -27,8 +27,8 @@ const MALFORMED: usize = 2;
 
 // The lines of a file that is open. It answers whether all of it could be read.
 pub fn all(fd: i32) -> bool {
-    let mut window = [0u8; 1703936];
-    let mut sheet = [0u8; 1114112];
+    let mut window = [0u8; WINDOW];
+    let mut sheet = [0u8; SHEET];
     all_lines(fd, &mut window, &mut sheet)
 }
 

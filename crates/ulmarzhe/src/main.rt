@@ -81,7 +81,7 @@ fn is_right(command: usize, count: usize) -> bool {
 
 // One line on standard error: the form of the command, or where to find all of them.
 fn wrong(command: usize) {
-    let mut sheet = [0u8; 1114112];
+    let mut sheet = [0u8; SHEET];
     wrong_line(command, &mut sheet);
 }
 
@@ -199,8 +199,8 @@ fn run_listing(mode: u8) {
     if fd < 0 {
         return;
     }
-    let mut window = [0u8; 1703936];
-    let mut sheet = [0u8; 1114112];
+    let mut window = [0u8; WINDOW];
+    let mut sheet = [0u8; SHEET];
     let w = recording::begun(fd, 0, 0, picture::empty());
     ended(
         recording::walked(w, mode, [0; 4], &mut window, &mut sheet),
@@ -237,8 +237,8 @@ fn run_gates() {
 }
 
 fn gates_at(fd: i32, place: u64, name: [u8; 4]) {
-    let mut window = [0u8; 1703936];
-    let mut sheet = [0u8; 1114112];
+    let mut window = [0u8; WINDOW];
+    let mut sheet = [0u8; SHEET];
     if libc::lseek(fd, (place % 9223372036854775808) as i64, libc::SEEK_SET) < 0 {
         os::fail(b"recording");
         return;
@@ -257,8 +257,8 @@ fn run_picture() {
     if fd < 0 {
         return;
     }
-    let mut window = [0u8; 1703936];
-    let mut sheet = [0u8; 1114112];
+    let mut window = [0u8; WINDOW];
+    let mut sheet = [0u8; SHEET];
     let w = pictured(fd, name_of(moment), &mut window, &mut sheet);
     ended(w, &sheet);
 }
@@ -298,8 +298,8 @@ fn run_map() {
     if fd < 0 {
         return;
     }
-    let mut window = [0u8; 1703936];
-    let mut sheet = [0u8; 1114112];
+    let mut window = [0u8; WINDOW];
+    let mut sheet = [0u8; SHEET];
     let r = window::whole(window::begun(fd, 0), &mut window);
     if r.failed {
         os::fail(b"map");
@@ -344,7 +344,7 @@ fn run_why() {
         wrong(WHY);
         return;
     }
-    let mut sheet = [0u8; 1114112];
+    let mut sheet = [0u8; SHEET];
     why_line(n.value, &mut sheet);
 }
 

@@ -7,7 +7,7 @@ pub const PAGE: usize = 65536;
 
 pub const ROOM: usize = 1048576;
 
-pub const SHEET: usize = 1114112;
+pub const SHEET: usize = PAGE + ROOM;
 
 pub fn byte(sheet: &mut [u8; SHEET], at: usize, b: u8) -> usize {
     if at < PAGE {

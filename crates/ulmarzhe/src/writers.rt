@@ -35,7 +35,7 @@ pub fn written(entry: usize, n: [u64; 6], body: &[u8], sheet: &mut [u8; SHEET]) 
 }
 
 fn room_of(room: u64) -> usize {
-    if room < 1048576 {
+    if room < ROOM as u64 {
         return room as usize;
     }
     ROOM
@@ -113,7 +113,7 @@ fn given(n: [u64; 6]) -> Given {
 
 // The writers of messages 9 and 8.
 fn of_list(entry: usize, body: &[u8], sheet: &mut [u8; SHEET], end: usize) -> Told {
-    let mut list = [0u16; 425984];
+    let mut list = [0u16; LIST];
     let count = listed(body, &mut list);
     by_list(entry, &list, count, sheet, end)
 }
