@@ -1,6 +1,6 @@
 // The case runner: each line of a file asks the library a question, and its answer is compared or written.
-use crate::args;
 use crate::args::Args;
+use crate::entries;
 use crate::lines;
 use crate::lines::Line;
 use crate::page;
@@ -67,11 +67,11 @@ fn question(line: &[u8], long: bool) -> Args {
     let title = words::until(line, 0, b' ');
     let first = sum(title, 1);
     let next = words::until(line, first, b' ');
-    let entry = entry_of(part(line, first, next));
+    let entry = entries::named(part(line, first, next));
     let equals = equals_sign(line);
     let asks = equals == line.len();
     let end = if asks { equals } else { less(equals, 1) };
-    let mut a = asked(entry, part(line, 0, end), next);
+    let mut a = entries::asked(entry, part(line, 0, end), next);
     a.entry = entry;
     a.title = title;
     a.answer = sum(equals, 2);
@@ -94,18 +94,6 @@ fn equals_sign(line: &[u8]) -> usize {
         i += 1;
     }
     line.len()
-}
-
-fn entry_of(word: &[u8]) -> usize {
-    let entries =
-        b"frame;header;set;write;radial;gates;gate;request;write-request;censor;write-censor;map;map-code";
-    words::which(word, entries)
-}
-
-// The words after the entry, by its shape.
-fn asked(entry: usize, question: &[u8], at: usize) -> Args {
-    let shapes = b"nx;x;nx;bbhhwnx;x;mx;mnx;x;nl;x;nl;x;nnnx";
-    args::parsed(question, at, words::pick(shapes, entry))
 }
 
 // A case whose bytes stand in the line up to `to`; where that is 0, a line that is no case.
@@ -136,15 +124,20 @@ fn told_of(a: Args, body: &[u8], sheet: &mut [u8; SHEET]) -> Told {
     let name = a.name;
     let entry = a.entry;
     match entry {
-        0 => readers::of_frame(body, n[0] as usize),
-        1 => readers::of_header(body),
-        4 => readers::of_radial(body),
-        5 => writers::of_gates(body, name, sheet),
-        6 => readers::of_gate(body, name, n[0] as usize),
-        7 => readers::of_request(body),
-        9 => writers::of_censor(body, sheet),
-        11 => readers::of_map(body),
-        12 => readers::of_map_code(body, n[0] as usize, n[1] as usize, n[2] as usize),
+        entries::FRAME => readers::of_frame(body, n[0] as usize),
+        entries::HEADER => readers::of_header(body),
+        entries::RADIAL => readers::of_radial(body),
+        entries::GATES => writers::of_gates(body, name, sheet),
+        entries::GATE => readers::of_gate(body, name, n[0] as usize),
+        entries::REQUEST => readers::of_request(body),
+        entries::CENSOR => writers::of_censor(body, sheet),
+        entries::MAP => readers::of_map(body),
+        entries::MAP_CODE => readers::of_map_code(
+            body,
+            n[0] as usize,
+            n[1] as usize,
+            n[2] as usize,
+        ),
         _ => writers::written(entry, n, body, sheet),
     }
 }

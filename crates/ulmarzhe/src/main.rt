@@ -2,6 +2,7 @@
 mod args;
 mod cases;
 mod date;
+mod entries;
 mod gates;
 mod lines;
 mod listing;

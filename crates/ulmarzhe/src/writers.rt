@@ -1,5 +1,6 @@
 // The entries whose answer has bytes: they lie in the room behind the page, which is lent full of a pattern. Where a refusal changed a
 // byte of what was lent, or an acceptance one past its length, the answer is `touched`.
+use crate::entries;
 use crate::page::PAGE;
 use crate::page::ROOM;
 use crate::page::SHEET;
@@ -16,7 +17,7 @@ const LIST: usize = 425984;
 
 // Sets and writers: the room that is lent is as large as the question says, and never larger than an answer needs.
 pub fn written(entry: usize, n: [u64; 6], body: &[u8], sheet: &mut [u8; SHEET]) -> Told {
-    let room = if entry == 3 {
+    let room = if entry == entries::WRITE {
         room_of(n[5])
     } else {
         room_of(n[0])
@@ -24,8 +25,8 @@ pub fn written(entry: usize, n: [u64; 6], body: &[u8], sheet: &mut [u8; SHEET]) 
     let end = sum(PAGE, room);
     lay(sheet, end);
     let t = match entry {
-        2 => of_set(body, sheet, end),
-        3 => of_write(given(n), body, sheet, end),
+        entries::SET => of_set(body, sheet, end),
+        entries::WRITE => of_write(given(n), body, sheet, end),
         _ => of_list(entry, body, sheet, end),
     };
     if kept(sheet, t.length, end) {
@@ -126,7 +127,7 @@ fn by_list(
     end: usize,
 ) -> Told {
     let numbers = first(list, count);
-    if entry == 8 {
+    if entry == entries::WRITE_REQUEST {
         return of_request(numbers, sheet, end);
     }
     of_censor_list(numbers, sheet, end)
