@@ -5,6 +5,7 @@ and with nothing checked: the sample is sound.
 """
 import datetime
 import decimal
+import math
 import pathlib
 import struct
 
@@ -23,12 +24,19 @@ MAP_CODES = ["bypass filter", "bypass map in control", "force filter"]
 
 def single(x):
     """x rounded to a 32-bit float."""
-    return struct.unpack(">f", struct.pack(">f", x))[0]
+    try:
+        return struct.unpack(">f", struct.pack(">f", x))[0]
+    except OverflowError:
+        return math.copysign(math.inf, x)
 
 
 def decimals(x, count):
     """A float in decimals, rounded to the nearest."""
-    return str(decimal.Decimal(x).quantize(decimal.Decimal(1).scaleb(-count), decimal.ROUND_HALF_EVEN))
+    if math.isinf(x):
+        return "-infinite" if x < 0 else "infinite"
+    with decimal.localcontext() as context:
+        context.prec = 60
+        return str(decimal.Decimal(x).quantize(decimal.Decimal(1).scaleb(-count), decimal.ROUND_HALF_EVEN))
 
 
 def stamp(days, milliseconds):
