@@ -5,6 +5,7 @@ use mathlib.Core.Bool.{Bool, true, false}
 use mathlib.Core.Option.{Option, none, some}
 use mathlib.Core.List.{List, [], _∷_, _++_}
 use native.Mathlib.Omega.{arith}
+use lib.Dec.{eqb}
 use Rattle.wire.specs.Checks.{pick, either, both, Check, first, decide, someBroken, AllHold, Blamed}
 
 -- zero is not one, so anything follows: for two constructors that cannot meet, by `never (cc e)`
@@ -18,6 +19,10 @@ never e = absurd (no-way e)
 pub either-false : (t : Bool) → either t false ≡ t
 either-false true = refl
 either-false false = refl
+
+pub either-true : (t : Bool) → either t true ≡ true
+either-true true = refl
+either-true false = refl
 
 pub both-false : (t : Bool) → both t false ≡ false
 both-false true = refl
@@ -93,6 +98,23 @@ decide-map {Y} g (k ∷ ks) f ok = go (k .broken) (decide-map g ks f ok)
     go : (t : Bool) → g (decide ks f ok) ≡ decide ks (λ n. g (f n)) (g ok)
         → g (pick t (f (k .number)) (decide ks f ok)) ≡ pick t (g (f (k .number))) (decide ks (λ n. g (f n)) (g ok))
     go true h = refl
+    go false h = h
+
+-- every check of the list has a number above 0
+abbrev pub AllAbove0 : List Check → Type 0
+AllAbove0 [] = Unit {0}
+AllAbove0 (k ∷ ks) = (eqb (k .number) 0 ≡ false) × AllAbove0 ks
+
+-- so the number of the first broken one, or 0 where none is broken, says all that they decide
+pub decide-number {ℓ} : {X : Type ℓ} (ks : List Check) (f : ℕ → X) (ok : X) → AllAbove0 ks
+    → decide ks f ok ≡ pick (eqb (decide ks (λ (n : ℕ). n) 0) 0) ok (f (decide ks (λ (n : ℕ). n) 0))
+decide-number [] f ok a = refl
+decide-number {X} (k ∷ ks) f ok a = go (k .broken) (decide-number ks f ok (a .1))
+  where
+    go : (t : Bool) → decide ks f ok ≡ pick (eqb (decide ks (λ (n : ℕ). n) 0) 0) ok (f (decide ks (λ (n : ℕ). n) 0))
+        → pick t (f (k .number)) (decide ks f ok)
+        ≡ pick (eqb (pick t (k .number) (decide ks (λ (n : ℕ). n) 0)) 0) ok (f (pick t (k .number) (decide ks (λ (n : ℕ). n) 0)))
+    go true h = simp (a .0)
     go false h = h
 
 -- every check of the list has the number n

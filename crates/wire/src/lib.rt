@@ -45,14 +45,16 @@ fn whole16(b: &[u8], at: usize) -> u16
     wide16(b[at]) * 256 + wide16(b[at + 1])
 }
 
+// The lowest byte comes first in the sum: where the number is also compared with one that ends in zero bits, the compiler
+// else takes the last byte out of it and loads each byte by itself.
 fn whole32(b: &[u8], at: usize) -> u32
     requires { ⌜ at + 4 ≤ length (now b) ⌝ }
     ensures { λ r. ⌜ r ≡ num 4 (now (b .entry)) at ⌝ }
 {
-    wide32(b[at]) * 16777216
-        + wide32(b[at + 1]) * 65536
+    wide32(b[at + 3])
         + wide32(b[at + 2]) * 256
-        + wide32(b[at + 3])
+        + wide32(b[at + 1]) * 65536
+        + wide32(b[at]) * 16777216
 }
 
 // The byte at a place, or 0 where there is none.
