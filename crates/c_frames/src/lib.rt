@@ -1,15 +1,14 @@
 // Frames, message headers and sets as C receives them, and the writer of frames.
 ghost use mathlib.Core.Path.{_≡_};
-ghost use Rattle.wire.specs.Answers.{refused};
+ghost use Rattle.wire.specs.Answers.{refused, given};
 ghost use Rattle.frame.specs.Session.{frameAt};
-ghost use Rattle.message.specs.Header.{headerOf};
 ghost use Rattle.segments.specs.Walk.{setOf};
 ghost use Rattle.writer.specs.Writing.{writeOf};
 ghost use Rattle.c_lent.specs.Lent.{Leaves, writtenFace};
 ghost use Rattle.c_frames.specs.Frames.{noFrame, frameFace, headerFace, setFace};
 use c_lent::UlmWritten;
 use frame::FrameAnswer;
-use message::HeaderAnswer;
+use message::Header;
 use sets::SetAnswer;
 use writer::Given;
 
@@ -83,26 +82,23 @@ fn no_frame(number: u8, place: usize) -> UlmFrame
     }
 }
 
-pub fn header(msg: &[u8]) -> UlmHeader
-    ensures { λ r. ⌜ r ≡ headerFace (headerOf (now (msg .entry))) ⌝ }
+pub fn header_face(h: Header) -> UlmHeader
+    ensures { λ r. ⌜ r ≡ headerFace (given h) ⌝ }
 {
-    match message::read_header(msg) {
-        HeaderAnswer::Read(h) => UlmHeader {
-            refusal: 0,
-            size: h.size.0,
-            channel: h.channel as u32,
-            kind: h.kind as u32,
-            sequence: h.sequence as u32,
-            date: h.date as u32,
-            ms: h.milliseconds,
-            segments: h.segments as u32,
-            number: h.number as u32,
-        },
-        HeaderAnswer::Refused(number) => no_header(number),
+    UlmHeader {
+        refusal: 0,
+        size: h.size.0,
+        channel: h.channel as u32,
+        kind: h.kind as u32,
+        sequence: h.sequence as u32,
+        date: h.date as u32,
+        ms: h.milliseconds,
+        segments: h.segments as u32,
+        number: h.number as u32,
     }
 }
 
-fn no_header(number: u8) -> UlmHeader
+pub fn no_header(number: u8) -> UlmHeader
     ensures { λ r. ⌜ r ≡ headerFace (refused number) ⌝ }
 {
     UlmHeader {

@@ -6,7 +6,7 @@ use lib.Dec.{ltb, eqb}
 use lib.ListN.{length, drop}
 use Rattle.wire.specs.Numbers.{num}
 use Rattle.wire.specs.Tables.{Field, field}
-use Rattle.wire.specs.Checks.{both, among, Check, check}
+use Rattle.wire.specs.Checks.{pick, both, among, Check, check, decide}
 use Rattle.wire.specs.Answers.{Answer, rule}
 use Rattle.wire.specs.Sizes.{bytes, halfwords, halved, odd}
 use Rattle.wire.specs.declared.Halfwords.{Halfwords}
@@ -137,3 +137,11 @@ headerChecks b = check 4 (ltb (length b) headerSize) ∷ valueChecks (headerIn b
 -- what a message, a data frame's body, answers: its header, every value as stored
 unfoldable pub headerOf : List ℕ → Answer Header
 headerOf b = rule (headerChecks b) (headerIn b)
+
+-- the header of a message before it is checked: that of no bytes where the message is too short for one
+unfoldable pub headerOr0 : List ℕ → Header
+headerOr0 b = pick (ltb (length b) headerSize) (headerIn []) (headerIn b)
+
+-- the number of refusal of a message of `long` bytes that has the header h, or 0
+unfoldable pub refusalOf : Header → ℕ → ℕ
+refusalOf h long = decide (check 4 (ltb long headerSize) ∷ valueChecks h long) (λ (n : ℕ). n) 0

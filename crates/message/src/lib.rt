@@ -2,9 +2,10 @@
 ghost use mathlib.Core.Path.{_≡_};
 ghost use mathlib.Core.Bool.{not};
 ghost use Prim.Native.Nat.{_≤_};
-ghost use lib.ListN.{length};
-ghost use Rattle.wire.specs.Checks.{someBroken};
-ghost use Rattle.message.specs.Header.{headerIn, headerOf, notPermitted, sizeChecks, segmentChecks, timeChecks};
+ghost use lib.Dec.{eqb};
+ghost use mathlib.Core.List.{[]};
+ghost use Rattle.wire.specs.Checks.{either, someBroken};
+ghost use Rattle.message.specs.Header.{headerSize, headerIn, headerOf, headerOr0, refusalOf, notPermitted, sizeChecks, segmentChecks, timeChecks};
 ghost use Rattle.message.specs.Promises.{tellHeader};
 use wire::Bytes;
 use wire::Halfwords;
@@ -29,10 +30,6 @@ pub enum HeaderAnswer {
 
 const HEADER: usize = 16;
 
-const LEAST_SIZE: u32 = 8;
-
-const MOST_SIZE: u32 = 65534;
-
 const MOST_BYTES: usize = 131068;
 
 const RADIAL: u8 = 31;
@@ -47,29 +44,21 @@ const LAST_MILLISECOND: u32 = 86399999;
 pub fn read_header(message: &[u8]) -> HeaderAnswer
     ensures { λ r. ⌜ tellHeader r ≡ headerOf (now (message .entry)) ⌝ }
 {
-    if message.len() < HEADER {
-        return HeaderAnswer::Refused(refusal::MESSAGE_SHORT);
-    }
     let h = stored(message);
-    if breaks_size(h.size, message.len()) {
-        return HeaderAnswer::Refused(refusal::SIZE);
-    }
-    if breaks_type(h.kind) {
-        return HeaderAnswer::Refused(refusal::TYPE);
-    }
-    if breaks_segment(h.size, h.kind, h.segments, h.number) {
-        return HeaderAnswer::Refused(refusal::SEGMENT);
-    }
-    if breaks_time(h.date, h.milliseconds) {
-        return HeaderAnswer::Refused(refusal::DATE_OR_TIME);
+    let number = check_header(h, message.len());
+    if number != 0 {
+        return HeaderAnswer::Refused(number);
     }
     HeaderAnswer::Read(h)
 }
 
-fn stored(message: &[u8]) -> Header
-    requires { ⌜ 16 ≤ length (now message) ⌝ }
-    ensures { λ r. ⌜ r ≡ headerIn (now (message .entry)) ⌝ }
+// The header that a message begins with, not yet checked: that of no bytes where the message is too short for a header.
+pub fn stored(message: &[u8]) -> Header
+    ensures { λ r. ⌜ r ≡ headerOr0 (now (message .entry)) ⌝ }
 {
+    if message.len() < HEADER {
+        return no_header();
+    }
     let size = wire::fetch16(message, 0) as u32;
     let channel = wire::fetch8(message, 2);
     let kind = wire::fetch8(message, 3);
@@ -90,16 +79,50 @@ fn stored(message: &[u8]) -> Header
     }
 }
 
-// No size that passes says more than 131,068 bytes, so a longer message need not be halved.
+// The header that no bytes spell.
+pub fn no_header() -> Header
+    ensures { λ r. ⌜ r ≡ headerIn [] ⌝ }
+{
+    Header {
+        size: Halfwords(0),
+        channel: 0,
+        kind: 0,
+        sequence: 0,
+        date: 0,
+        milliseconds: 0,
+        segments: 0,
+        number: 0,
+    }
+}
+
+// The number of refusal of a message of `long` bytes that has this header, or 0. It takes the values and not the bytes, so that it is
+// small enough to be put in line wherever a header is read.
+pub fn check_header(h: Header, long: usize) -> u8
+    ensures { λ r. ⌜ r ≡ refusalOf h long ⌝ }
+{
+    if long < HEADER {
+        return refusal::MESSAGE_SHORT;
+    }
+    if breaks_size(h.size, long) {
+        return refusal::SIZE;
+    }
+    if breaks_type(h.kind) {
+        return refusal::TYPE;
+    }
+    if breaks_segment(h.size, h.kind, h.segments, h.number) {
+        return refusal::SEGMENT;
+    }
+    if breaks_time(h.date, h.milliseconds) {
+        return refusal::DATE_OR_TIME;
+    }
+    0
+}
+
+// A header's bytes are 8 halfwords and 131,068 bytes are 65,534, so a size that is half of the message is within both limits.
 fn breaks_size(size: Halfwords, long: usize) -> bool
+    requires { ⌜ headerSize ≤ long ⌝ }
     ensures { λ r. ⌜ r ≡ someBroken (sizeChecks size long) ⌝ }
 {
-    if size.0 < LEAST_SIZE {
-        return true;
-    }
-    if MOST_SIZE < size.0 {
-        return true;
-    }
     if long % 2 != 0 {
         return true;
     }
@@ -114,24 +137,24 @@ fn breaks_size(size: Halfwords, long: usize) -> bool
 pub fn breaks_type(kind: u8) -> bool
     ensures { λ r. ⌜ r ≡ notPermitted kind ⌝ }
 {
-    if kind < 1 {
-        return true;
+    if kind == RADIAL {
+        return false;
     }
     if kind <= 13 {
-        return false;
+        return kind < 1;
     }
     if kind == 15 {
         return false;
     }
-    if kind == 18 {
-        return false;
-    }
-    kind != RADIAL
+    kind != 18
 }
 
 fn breaks_segment(size: Halfwords, kind: u8, segments: u16, number: u16) -> bool
     ensures { λ r. ⌜ r ≡ someBroken (segmentChecks size kind segments number) ⌝ }
 {
+    if kind == RADIAL {
+        return breaks_lone(segments, number);
+    }
     if segments < 1 {
         return true;
     }
@@ -144,10 +167,17 @@ fn breaks_segment(size: Halfwords, kind: u8, segments: u16, number: u16) -> bool
     if segments < number {
         return true;
     }
-    if kind == RADIAL {
-        return segments != 1;
-    }
     SEGMENT_SIZE < size.0
+}
+
+// Of a message that is to be the one segment there is.
+fn breaks_lone(segments: u16, number: u16) -> bool
+    ensures { λ r. ⌜ r ≡ either (not (eqb segments 1)) (not (eqb number 1)) ⌝ }
+{
+    if segments != 1 {
+        return true;
+    }
+    number != 1
 }
 
 // Whether a date or a time of day is out of range.

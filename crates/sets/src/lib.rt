@@ -1,7 +1,6 @@
 // A buffer of frames, in any order, joined into a lent output. Two passes: the first walks the frames and remembers where each segment's
 // data lies, the second copies. Nothing is written before 12 and 13 are known.
 ghost use mathlib.Core.Path.{_≡_};
-ghost use mathlib.Core.List.{[]};
 ghost use Prim.Native.Nat.{_*_, _≤_};
 ghost use lib.Dec.{eqb};
 ghost use lib.ListN.{length};
@@ -10,7 +9,7 @@ ghost use Rattle.wire.specs.Answers.{Promise};
 ghost use Rattle.wire.specs.Writing.{filled};
 ghost use Rattle.frame.specs.Session.{sessionLimit};
 ghost use Rattle.message.specs.Header.{mostSegments};
-ghost use Rattle.segments.specs.Segment.{segmentIn, agreeChecks};
+ghost use Rattle.segments.specs.Segment.{agreeChecks};
 ghost use Rattle.segments.specs.Walk.{setOf};
 ghost use Rattle.sets.specs.Promises.{tellSet};
 ghost use Rattle.sets.specs.Arrays.{SegmentRead, TurnTaken, Blank, Gathers, Parts, Within, allSet, partsLong, parts};
@@ -18,7 +17,6 @@ use frame::FrameAnswer;
 use message::Header;
 use message::HeaderAnswer;
 use wire::Bytes;
-use wire::Halfwords;
 use wire::refusal;
 
 // Segment 1's header, and the length of the joined data.
@@ -148,22 +146,6 @@ fn take_turn(
     }
 }
 
-// The header that no bytes spell: what is told of where no segment was met.
-fn no_header() -> Header
-    ensures { λ r. ⌜ r ≡ segmentIn [] .header ⌝ }
-{
-    Header {
-        size: Halfwords(0),
-        channel: 0,
-        kind: 0,
-        sequence: 0,
-        date: 0,
-        milliseconds: 0,
-        segments: 0,
-        number: 0,
-    }
-}
-
 // The first pass: each frame in turn, to the end of the buffer.
 fn gather(
     frames: &[u8],
@@ -176,8 +158,8 @@ fn gather(
 {
     let mut at = 0;
     let mut heads = Heads {
-        first: no_header(),
-        one: no_header(),
+        first: message::no_header(),
+        one: message::no_header(),
     };
     while at < frames.len() {
         match take_turn(frames, at, heads, flags, starts, ends) {

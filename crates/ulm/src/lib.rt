@@ -39,7 +39,12 @@ pub extern "C" fn ulm_frame(buf: &[u8], place: usize) -> UlmFrame
 pub extern "C" fn ulm_header(msg: &[u8]) -> UlmHeader
     ensures { λ r. ⌜ r ≡ headerFace (headerOf (now (msg .entry))) ⌝ }
 {
-    c_frames::header(msg)
+    let h = message::stored(msg);
+    let number = message::check_header(h, msg.len());
+    if number != 0 {
+        return c_frames::no_header(number);
+    }
+    c_frames::header_face(h)
 }
 
 #[no_mangle]

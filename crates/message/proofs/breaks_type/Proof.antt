@@ -1,31 +1,27 @@
-use Rattle.message.proofs.HeaderLaws.{types-shape, type-last}
-use borrow.Author.Tests.{lt-ltb, le-ltb, le-leb, lt-leb, eq-eqb, ne-eqb}
 use mathlib.Core.Path.{sym, _∙_}
+use Rattle.message.proofs.HeaderLaws.{types-shape, type-last}
+use borrow.Author.Tests.{le-leb, lt-leb, eq-eqb, ne-eqb}
 use borrow.Author.Needs.{needs}
 use Rattle.message.proofs.breaks_type.Statement.{statement}
 use Rattle.message.proofs.breaks_type.Tie as tie
 use Rattle.message.proofs.breaks_type.Reads as reads
 use Rattle.message.proofs.breaks_type.Lts as lts
 
--- src/lib.rt:112:9
+-- src/lib.rt:141:9
 returns : tie.Need-returns
-returns c = sym (types-shape (c .before .args .kind) (search needs) ∙ simp (lt-ltb _ _ (c .if1 .taken)))
+returns c = sym (types-shape (c .before .args .kind) (search needs) ∙ simp (eq-eqb _ _ (c .if1 .taken)))
 
--- src/lib.rt:115:9
+-- src/lib.rt:144:9
 returns-2 : tie.Need-returns-2
-returns-2 c = sym (types-shape (c .before .before .args .kind) (search needs) ∙ simp (le-ltb _ _ (c .before .if1 .left), le-leb _ _ (c .if2 .taken)))
+returns-2 c = sym (types-shape (c .before .before .args .kind) (search needs) ∙ simp (ne-eqb _ _ (c .before .if1 .left), le-leb _ _ (c .if2 .taken)))
 
--- src/lib.rt:118:9
+-- src/lib.rt:147:9
 returns-3 : tie.Need-returns-3
-returns-3 c = sym (types-shape (c .before .before .before .args .kind) (search needs) ∙ simp (le-ltb _ _ (c .before .before .if1 .left), lt-leb _ _ (c .before .if2 .left), eq-eqb _ _ (c .if3 .taken)))
+returns-3 c = sym (types-shape (c .before .before .before .args .kind) (search needs) ∙ simp (ne-eqb _ _ (c .before .before .if1 .left), lt-leb _ _ (c .before .if2 .left), eq-eqb _ _ (c .if3 .taken)))
 
--- src/lib.rt:121:9
+-- src/lib.rt:137:1
 returns-4 : tie.Need-returns-4
-returns-4 c = sym (types-shape (c .before .before .before .before .args .kind) (search needs) ∙ simp (le-ltb _ _ (c .before .before .before .if1 .left), lt-leb _ _ (c .before .before .if2 .left), ne-eqb _ _ (c .before .if3 .left), eq-eqb _ _ (c .if4 .taken)))
-
--- src/lib.rt:108:1
-returns-5 : tie.Need-returns-5
-returns-5 c = sym (types-shape (c .before .before .before .before .args .kind) (search needs) ∙ type-last (c .before .before .before .before .args .kind) (c .before .before .before .if1 .left) (c .before .before .if2 .left) (c .before .if3 .left) (c .if4 .left))
+returns-4 c = sym (types-shape (c .before .before .before .args .kind) (search needs) ∙ type-last (c .before .before .before .args .kind) (c .before .before .if1 .left) (c .before .if2 .left) (c .if3 .left))
 
 pub breaks-type-spec : {M : Type 1} → statement M
-breaks-type-spec = tie.close (tie.spec returns returns-2 returns-3 returns-4 returns-5)
+breaks-type-spec = tie.close (tie.spec returns returns-2 returns-3 returns-4)

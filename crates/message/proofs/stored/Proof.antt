@@ -1,59 +1,72 @@
-use Rattle.message.specs.Header.{headerIn}
-use Rattle.wire.proofs.NumberLaws.{fetched-whole}
-use native.Mathlib.Omega.{arith}
-use mathlib.Core.Path.{_∙_}
+use lib.ListN.{length}
 use denote.Ref.{now}
+use mathlib.Core.Path.{_≡_, sym, _∙_}
+use native.Mathlib.Omega.{arith}
+use Rattle.wire.proofs.NumberLaws.{fetched-whole}
+use Rattle.message.proofs.HeaderLaws.{stored-whole}
+use Rattle.message.specs.Header.{headerSize, headerIn, headerOr0}
+use borrow.Author.Tests.{lt-ltb, le-ltb}
 use borrow.Author.Needs.{needs}
 use Rattle.message.proofs.stored.Statement.{statement}
 use Rattle.message.proofs.stored.Tie as tie
 use Rattle.message.proofs.stored.Reads as reads
 use Rattle.message.proofs.stored.Lts as lts
+use Rattle.message.proofs.no_header.Reads as no-header-reads
 use Rattle.wire.proofs.fetch16.Reads as fetch16-reads
 use Rattle.wire.proofs.fetch32.Reads as fetch32-reads
 use Rattle.wire.proofs.fetch8.Reads as fetch8-reads
 
--- src/lib.rt:67:16
+-- src/lib.rt:60:9
+no-header-requires : tie.Need-no-header-requires
+no-header-requires c κs = search needs
+
+-- src/lib.rt:60:9
+returns : tie.Need-returns
+unfolding headerOr0
+returns c = simp (lt-ltb _ _ (c .before .if1 .taken), c .no-header .ensures)
+
+-- src/lib.rt:62:16
 fetch16-requires : tie.Need-fetch16-requires
 fetch16-requires c κs = search needs
 
--- src/lib.rt:67:16
+-- src/lib.rt:62:16
 cast-size : tie.Need-cast-size
 cast-size c = search needs
 
--- src/lib.rt:68:9
+-- src/lib.rt:63:9
 fetch8-requires : tie.Need-fetch8-requires
 fetch8-requires c κs = search needs
 
--- src/lib.rt:69:9
+-- src/lib.rt:64:9
 fetch8-requires-2 : tie.Need-fetch8-requires-2
 fetch8-requires-2 c κs = search needs
 
--- src/lib.rt:70:9
+-- src/lib.rt:65:9
 fetch16-requires-2 : tie.Need-fetch16-requires-2
 fetch16-requires-2 c κs = search needs
 
--- src/lib.rt:71:9
+-- src/lib.rt:66:9
 fetch16-requires-3 : tie.Need-fetch16-requires-3
 fetch16-requires-3 c κs = search needs
 
--- src/lib.rt:72:9
+-- src/lib.rt:67:9
 fetch32-requires : tie.Need-fetch32-requires
 fetch32-requires c κs = search needs
 
--- src/lib.rt:73:9
+-- src/lib.rt:68:9
 fetch16-requires-4 : tie.Need-fetch16-requires-4
 fetch16-requires-4 c κs = search needs
 
--- src/lib.rt:74:9
+-- src/lib.rt:69:9
 fetch16-requires-5 : tie.Need-fetch16-requires-5
 fetch16-requires-5 c κs = search needs
 
--- src/lib.rt:63:1
-returns : tie.Need-returns
+-- src/lib.rt:56:1
+returns-2 : tie.Need-returns-2
 unfolding headerIn
-returns c =
-    let b = now (c .before .before .before .before .before .before .before .before .before .args .message) in
-    λ i. record {
+returns-2 c =
+    let b = now (c .before .before .before .before .before .before .before .before .before .before .args .message) in
+    (λ i. record {
       size = record { 0 = (c .before .before .before .before .before .before .before .fetch16 .ensures ∙ fetched-whole 2 b 0 (omega arith)) i };
       channel = (c .before .before .before .before .before .before .fetch8 .ensures ∙ fetched-whole 1 b 2 (omega arith)) i;
       kind = (c .before .before .before .before .before .fetch82 .ensures ∙ fetched-whole 1 b 3 (omega arith)) i;
@@ -62,12 +75,14 @@ returns c =
       milliseconds = (c .before .before .fetch32 .ensures ∙ fetched-whole 4 b 8 (omega arith)) i;
       segments = (c .before .fetch164 .ensures ∙ fetched-whole 2 b 12 (omega arith)) i;
       number = (c .fetch165 .ensures ∙ fetched-whole 2 b 14 (omega arith)) i;
-    }
+    }) ∙ sym (stored-whole b (le-ltb (length b) headerSize (c .before .before .before .before .before .before .before .before .if1 .left)))
 
 pub stored-spec : {M : Type 1} → statement M
 stored-spec =
     tie.close
     (tie.spec
+    no-header-requires
+    returns
     fetch16-requires
     cast-size
     fetch8-requires
@@ -77,4 +92,4 @@ stored-spec =
     fetch32-requires
     fetch16-requires-4
     fetch16-requires-5
-    returns)
+    returns-2)

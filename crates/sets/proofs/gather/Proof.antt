@@ -1,3 +1,4 @@
+use Rattle.wire.specs.Numbers.{num}
 use Rattle.sets.proofs.GatherLaws.{Going, going-start, going-stops, going-on, going-forward, going-ends}
 use Prim.Native.Nat.{_-_}
 use native.Mathlib.Omega.{arith}
@@ -7,7 +8,7 @@ use Rattle.sets.proofs.gather.Statement.{statement}
 use Rattle.sets.proofs.gather.Tie as tie
 use Rattle.sets.proofs.gather.Reads as reads
 use Rattle.sets.proofs.gather.Lts as lts
-use Rattle.sets.proofs.no_header.Reads as no-header-reads
+use Rattle.message.proofs.no_header.Reads as no-header-reads
 use Rattle.sets.proofs.take_turn.Reads as take-turn-reads
 
 abbrev Inv-loop : tie.InvT-loop
@@ -26,6 +27,7 @@ no-header-requires-2 c κs = search needs
 
 -- src/lib.rt:178:5
 loop-holds : tie.Need-loop-holds Inv-loop μ-loop
+unfolding num
 loop-holds c = going-start _ _ _ _ _ (c .before .before .before .pre) (c .before .no-header .ensures) (c .no-header2 .ensures)
 
 -- src/lib.rt:179:15
