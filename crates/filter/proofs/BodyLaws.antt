@@ -3,25 +3,32 @@ use Prim.Native.Nat.{ℕ, _+_, _*_, _-_, _≤_, _<_}
 use native.Mathlib.Omega.{arith}
 use mathlib.Core.Path.{_≡_, sym, ap, _∙_}
 use mathlib.Core.List.{List, _++_}
+use lib.Dec.{ltb}
 use lib.ListN.{length, drop, length-drop}
 use borrow.Author.Tests.{lt-ltb, le-ltb, ltb-false, eq-eqb, ne-eqb}
 use Rattle.wire.specs.Numbers.{fetched}
 use Rattle.wire.specs.Checks.{Check, decide}
 use Rattle.wire.specs.Answers.{refused, given, rule}
-use Rattle.wire.proofs.CheckLaws.{decide-append, decide-none, decide-some, all-hold}
+use Rattle.wire.proofs.CheckLaws.{neither, decide-append, decide-none, decide-some, all-hold}
 use Rattle.map.specs.Map.{azimuths, mostElevations, lastKilometre, Zone, codeFrom, codeAt}
-use Rattle.map.specs.Reading.{runSize, runChecks, elevationPart, dateIn, minutesIn, segmentsIn, headChecks, leftoverChecks, mapChecks, mapIn, Summary, summary, summaryOf, askedChecks, codeOf}
+use Rattle.map.specs.Reading.{runSize, runChecks, azimuthPart, elevationPart, dateIn, minutesIn, segmentsIn, headChecks, leftoverChecks, mapChecks, mapIn, Summary, summary, summaryOf, askedChecks, codeOf}
 use Rattle.map.proofs.Runs.{run-count, run-long}
 use Rattle.map.proofs.Accepted.{elevation-long}
 use Rattle.map.proofs.CheckFacts.{MapFacts, map-facts}
-use Rattle.map.proofs.Places.{asked-there, asked-zones}
+use Rattle.map.proofs.Places.{size-flat, checks-flat, asked-there, asked-zones}
 use Rattle.filter.specs.declared.Step.the-variants.{Next, Stop}
-use Rattle.filter.specs.Steps.{runStep, headStep, bodyStep, PassFits, codeThere}
+use Rattle.filter.specs.Steps.{stepBy, runStep, headStep, bodyStep, PassFits, codeThere}
 use Rattle.filter.proofs.PartLaws.{fetched-value}
 use Rattle.filter.proofs.StepLaws.{step-first, step-none, part-stops, part-passes}
 
 abbrev segments : List ℕ → List Check
 segments b = runChecks elevationPart (segmentsIn b) (drop 6 b)
+
+-- the azimuths of all elevation segments, counted through
+pub counted-through : (n : ℕ) (b : List ℕ) → runStep azimuthPart (n * azimuths) b ≡ runStep elevationPart n b
+counted-through n b =
+    ap (λ (ks : List Check). stepBy ks (runSize azimuthPart (n * azimuths) b)) (sym (checks-flat n b))
+    ∙ ap (λ (k : ℕ). stepBy (runChecks elevationPart n b) k) (sym (size-flat n b))
 
 pub head-stop : (b : List ℕ) (n : ℕ) → Stop n ≡ headStep b → Stop n ≡ bodyStep b
 head-stop b n e = sym (part-stops (headChecks b) (segments b ++ leftoverChecks b) (segmentsIn b) (Next (segmentsIn b)) n (sym e))
@@ -34,6 +41,12 @@ module _ (b : List ℕ) (m : ℕ) (e : Next m ≡ headStep b) where
       let l : 2 ≤ length (drop 4 b) = ltb-false (length (drop 4 b)) 2 (p .1 .1 .1 .1 .0) in
       let k = simp length-drop at l in
       omega arith
+
+  pub head-most : m ≤ mostElevations
+  head-most =
+      let p = all-hold (headChecks b) (step-none (headChecks b) (segmentsIn b) m (sym e) .0) in
+      let l = ltb-false mostElevations (segmentsIn b) (neither (ltb (segmentsIn b) 1) (ltb mostElevations (segmentsIn b)) (p .1 .1 .1 .1 .1 .0) .1) in
+      omega (arith, l, step-none (headChecks b) (segmentsIn b) m (sym e) .1)
 
   count-is : segmentsIn b ≡ m
   count-is = step-none (headChecks b) (segmentsIn b) m (sym e) .1

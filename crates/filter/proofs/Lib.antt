@@ -3,4 +3,5 @@ pub mod PartLaws
 pub mod StepLaws
 pub mod BodyLaws
 pub mod QueryLaws
+pub mod RisingLaws
 pub mod OneAnswer

@@ -16,6 +16,7 @@ use Rattle.wire.specs.Checks.{Check, decide, first, AllHold}
 use Rattle.wire.proofs.CheckLaws.{never, passed, stopped, decide-append, decide-none, decide-some, all-hold}
 use Rattle.map.specs.Map.{mostCode, mostZones}
 use Rattle.map.specs.Reading.{value, after, endBroken, zoneChecks, zonesChecks, Part, runSize, runChecks, azimuthPart}
+use Rattle.map.proofs.Accepted.{zones-long}
 use Rattle.filter.specs.declared.Step.{Step}
 use Rattle.filter.specs.declared.Step.the-variants.{Next, Stop}
 use Rattle.filter.specs.Steps.{stepBy, zoneStep, zonesStep, partStep, runStep}
@@ -181,3 +182,9 @@ module _ {A : Type 0} (part : Part A) where
 -- ---- how many bytes zones take
 pub zones-size : (count : ℕ) (b : List ℕ) (n : ℕ) → Next n ≡ zonesStep count b → n ≡ 4 * count
 zones-size count b n e = sym (step-none (zonesChecks count 0 b) (4 * count) n (sym e) .1)
+
+-- zones that pass are all there
+pub zones-cut : (count : ℕ) (b : List ℕ) (n : ℕ) → length b < 4 * count → Next n ≡ zonesStep count b → ⊥
+zones-cut count b n h e =
+    let l = zones-long count 0 b (all-hold (zonesChecks count 0 b) (step-none (zonesChecks count 0 b) (4 * count) n (sym e) .0)) in
+    omega (arith, l)

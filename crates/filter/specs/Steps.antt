@@ -1,9 +1,12 @@
 -- What the inner functions answer for a part of a body: how far it reaches, or its refusal.
-use Prim.Native.Nat.{ℕ, suc, _+_, _*_, _≤_}
+use Prim.Native.Nat.{ℕ, zero, suc, _+_, _*_, _≤_}
+use mathlib.Core.Bool.{Bool, not}
 use mathlib.Core.List.{List}
+use lib.Dec.{ltb, eqb}
 use lib.ListN.{length, drop}
-use Rattle.wire.specs.Checks.{Check, decide}
-use Rattle.map.specs.Map.{codeFrom}
+use Rattle.wire.specs.Numbers.{num}
+use Rattle.wire.specs.Checks.{either, Check, decide}
+use Rattle.map.specs.Map.{mostCode, lastKilometre, codeFrom}
 use Rattle.map.specs.Reading.{value, after, zoneChecks, zonesChecks, Part, runSize, runChecks, azimuthPart, segmentsIn, headChecks, mapChecks}
 use Rattle.filter.specs.declared.Step.{Step}
 use Rattle.filter.specs.declared.Step.the-variants.{Next, Stop}
@@ -18,6 +21,12 @@ zoneStep left from b = stepBy (zoneChecks left from b) (suc (value (after b)))
 -- so many zones: the bytes that they take
 abbrev pub zonesStep : ℕ → List ℕ → Step
 zonesStep count b = stepBy (zonesChecks count 0 b) (4 * count)
+
+-- so many zones from a place p on, all of them there: a code is above 2, an end is below `from`, which rises, or the last one is not 511
+abbrev pub notRising : ℕ → ℕ → List ℕ → ℕ → Bool
+notRising zero from b p = not (eqb from (suc lastKilometre))
+notRising (suc left) from b p =
+    either (ltb mostCode (num 2 b p)) (either (ltb (num 2 b (p + 2)) from) (notRising left (suc (num 2 b (p + 2))) b (p + 4)))
 
 -- an azimuth or an elevation segment, and so many of them: the bytes that they take
 abbrev pub partStep : {A : Type 0} → Part A → List ℕ → Step

@@ -1,12 +1,13 @@
 // Message 15, the clutter filter map: a body is checked in one pass; a query walks the checked body up to the azimuth asked for.
 use wire::refusal;
 ghost use mathlib.Core.Path.{_≡_};
-ghost use Prim.Native.Nat.{_+_, _*_, _≤_};
+ghost use Prim.Native.Nat.{_+_, _*_, _/_, _≤_, _<_};
 ghost use lib.ListN.{length, drop};
 ghost use Rattle.map.specs.Map.{mostZones, codeFrom};
-ghost use Rattle.map.specs.Reading.{endBroken, runSize, azimuthPart, elevationPart, summaryOf, codeOf};
+ghost use Rattle.map.specs.Reading.{endBroken, runSize, azimuthPart, summaryOf, codeOf};
 ghost use Rattle.filter.specs.Answers.{tellMap, tellCode};
-ghost use Rattle.filter.specs.Steps.{zoneStep, zonesStep, partStep, runStep, headStep, bodyStep, PassFits, codeThere};
+ghost use Rattle.filter.specs.declared.Step.the-variants.{Stop};
+ghost use Rattle.filter.specs.Steps.{zoneStep, zonesStep, notRising, partStep, runStep, headStep, bodyStep, PassFits, codeThere};
 
 const MOST_MINUTES: u16 = 1440;
 
@@ -103,6 +104,38 @@ fn check_zones(part: &[u8], count: usize) -> Step
     Step::Next(at as usize)
 }
 
+// The number of refusal of zones of which the last are not all there.
+fn cut_zones(part: &[u8], count: usize) -> u8
+    requires { ⌜ (count ≤ mostZones) × (length (now part) < 4 * count) ⌝ }
+    ensures { λ r. ⌜ Stop r ≡ zonesStep count (now (part .entry)) ⌝ }
+{
+    match check_zones(part, count) {
+        Step::Next(_) => refusal::LENGTH,
+        Step::Stop(number) => number,
+    }
+}
+
+// Whether zones that are all there break a rule: each breach has the same number, and ends that rise to 511 are none above it.
+fn zones_broken(zones: &[u8]) -> bool
+    requires { ⌜ length (now zones) ≤ 4 * mostZones ⌝ }
+    ensures { λ r. ⌜ r ≡ notRising (length (now (zones .entry)) / 4) 0 (now (zones .entry)) 0 ⌝ }
+{
+    let mut at: u32 = 0;
+    let mut from: usize = 0;
+    while at as usize + 4 <= zones.len() {
+        if MOST_CODE < wire::fetch16(zones, at) {
+            return true;
+        }
+        let end = wide(wire::fetch16(zones, at + 2));
+        if end < from {
+            return true;
+        }
+        from = end + 1;
+        at += 4;
+    }
+    from != LAST_KILOMETRE + 1
+}
+
 // The azimuth that the part begins with: its zone count, and its zones.
 fn check_azimuth(part: &[u8]) -> Step
     ensures { λ r. ⌜ r ≡ partStep azimuthPart (now (part .entry)) ⌝ }
@@ -117,38 +150,24 @@ fn check_azimuth(part: &[u8]) -> Step
     if MOST_ZONES < count {
         return Step::Stop(refusal::FIELD);
     }
-    match check_zones(&part[2..], wide(count)) {
-        Step::Next(size) => Step::Next(2 + size),
-        Step::Stop(number) => Step::Stop(number),
+    let size = 2 + 4 * wide(count);
+    if part.len() < size {
+        return Step::Stop(cut_zones(&part[2..], wide(count)));
     }
+    if zones_broken(&part[2..size]) {
+        return Step::Stop(refusal::FIELD);
+    }
+    Step::Next(size)
 }
 
-// The elevation segment that the part begins with: its 360 azimuths.
-fn check_elevation(part: &[u8]) -> Step
-    ensures { λ r. ⌜ r ≡ partStep elevationPart (now (part .entry)) ⌝ }
-{
-    let mut left = AZIMUTHS;
-    let mut at: usize = 0;
-    while 0 < left {
-        match check_azimuth(&part[at..]) {
-            Step::Next(size) => {
-                at += size;
-                left -= 1;
-            }
-            Step::Stop(number) => return Step::Stop(number),
-        }
-    }
-    Step::Next(at)
-}
-
-// So many elevation segments from the part's start.
-fn check_elevations(part: &[u8], count: usize) -> Step
-    ensures { λ r. ⌜ r ≡ runStep elevationPart count (now (part .entry)) ⌝ }
+// So many azimuths from the part's start, those of all elevation segments counted through.
+fn check_azimuths(part: &[u8], count: usize) -> Step
+    ensures { λ r. ⌜ r ≡ runStep azimuthPart count (now (part .entry)) ⌝ }
 {
     let mut left = count;
     let mut at: usize = 0;
     while 0 < left {
-        match check_elevation(&part[at..]) {
+        match check_azimuth(&part[at..]) {
             Step::Next(size) => {
                 at += size;
                 left -= 1;
@@ -193,7 +212,7 @@ fn check_body(body: &[u8]) -> Step
     ensures { λ r. ⌜ r ≡ bodyStep (now (body .entry)) ⌝ }
 {
     match check_head(body) {
-        Step::Next(count) => match check_elevations(&body[6..], count) {
+        Step::Next(count) => match check_azimuths(&body[6..], count * AZIMUTHS) {
             Step::Next(size) => {
                 if 6 + size < body.len() {
                     return Step::Stop(refusal::LENGTH);

@@ -2,17 +2,17 @@
 use Prim.Native.Nat.{ℕ, zero, suc, _+_, _*_, _-_, _≤_, _<_}
 use native.Mathlib.Omega.{arith}
 use mathlib.Core.Path.{_≡_, sym, ap, _∙_, subst}
-use mathlib.Core.List.{List, []}
+use mathlib.Core.List.{List, [], _++_}
 use lib.ListN.{length, getD, drop, length-drop}
 use lib.Seq.{drop-drop}
-use Rattle.wire.specs.Checks.{AllHold}
+use Rattle.wire.specs.Checks.{Check, AllHold}
 use Rattle.map.specs.Map.{azimuths, Zone}
 use Rattle.map.specs.Reading.{runSize, runChecks, runIn, azimuthPart, elevationPart}
-use Rattle.map.proofs.Runs.{run-none, run-more, run-add, run-read, run-holds, run-there}
+use Rattle.map.proofs.Runs.{run-none, run-more, run-add, checks-none, checks-more, checks-add, run-read, run-holds, run-there}
 use Rattle.map.proofs.Accepted.{azimuth-long, elevation-long}
 
 -- n elevation segments are n times 360 azimuths
-size-flat : (n : ℕ) (b : List ℕ) → runSize elevationPart n b ≡ runSize azimuthPart (n * azimuths) b
+pub size-flat : (n : ℕ) (b : List ℕ) → runSize elevationPart n b ≡ runSize azimuthPart (n * azimuths) b
 size-flat zero b = run-none elevationPart b ∙ sym (run-none azimuthPart b)
 size-flat (suc n) b =
     let c = drop (elevationPart .size b) b in
@@ -21,6 +21,16 @@ size-flat (suc n) b =
     ∙ ap (λ (k : ℕ). elevationPart .size b + k) (size-flat n c)
     ∙ sym (run-add azimuthPart azimuths (n * azimuths) b)
     ∙ ap (λ (k : ℕ). runSize azimuthPart k b) e
+
+pub checks-flat : (n : ℕ) (b : List ℕ) → runChecks elevationPart n b ≡ runChecks azimuthPart (n * azimuths) b
+checks-flat zero b = checks-none elevationPart b ∙ sym (checks-none azimuthPart b)
+checks-flat (suc n) b =
+    let c = drop (elevationPart .size b) b in
+    let e : azimuths + n * azimuths ≡ suc n * azimuths = omega arith in
+    checks-more elevationPart n b
+    ∙ ap (λ (ks : List Check). elevationPart .checks b ++ ks) (checks-flat n c)
+    ∙ sym (checks-add azimuthPart azimuths (n * azimuths) b)
+    ∙ ap (λ (k : ℕ). runChecks azimuthPart k b) e
 
 -- azimuth a of the e-th segment (both from 0) is the (e * 360 + a)-th of all
 module _ (n e a : ℕ) (b : List ℕ) (inside : e < n) (below : a < azimuths) where

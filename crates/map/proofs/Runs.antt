@@ -8,7 +8,7 @@ use mathlib.Core.List.{List, [], _∷_, _++_, append-assoc}
 use lib.ListN.{length, getD, drop, length-drop}
 use lib.Seq.{drop-drop}
 use Rattle.wire.specs.Numbers.{Octets}
-use Rattle.wire.specs.Checks.{AllHold}
+use Rattle.wire.specs.Checks.{Check, AllHold}
 use Rattle.wire.specs.Tables.{Field, render}
 use Rattle.wire.proofs.CheckLaws.{all-hold-append, all-hold-join}
 use Rattle.wire.proofs.TableLaws.{render-append}
@@ -46,6 +46,25 @@ module _ {A : Type 0} (part : Part A) where
       ∙ ap (λ (k : ℕ). s + k) (run-add m n c)
       ∙ ap (λ (l : List ℕ). s + (runSize part m c + runSize part n l)) d
       ∙ sym (add-assoc s (runSize part m c) (runSize part n (drop (s + runSize part m c) b)))
+
+  pub checks-none : (b : List ℕ) → runChecks part 0 b ≡ []
+  unfolding runChecks
+  checks-none b = refl
+
+  pub checks-more : (n : ℕ) (b : List ℕ) → runChecks part (suc n) b ≡ part .checks b ++ runChecks part n (drop (part .size b) b)
+  unfolding runChecks
+  checks-more n b = refl
+
+  pub checks-add : (m n : ℕ) (b : List ℕ) → runChecks part (m + n) b ≡ runChecks part m b ++ runChecks part n (drop (runSize part m b) b)
+  unfolding runChecks runSize
+  checks-add zero n b = ap (λ (k : ℕ). runChecks part k b) (zero-add n)
+  checks-add (suc m) n b =
+      let s = part .size b in
+      let c = drop s b in
+      ap (λ (k : ℕ). runChecks part k b) (suc-add m n)
+      ∙ ap (λ (ks : List Check). part .checks b ++ ks) (checks-add m n c)
+      ∙ ap (λ (l : List ℕ). part .checks b ++ (runChecks part m c ++ runChecks part n l)) (drop-drop (runSize part m c) s b)
+      ∙ sym (append-assoc (part .checks b) (runChecks part m c) (runChecks part n (drop (s + runSize part m c) b)))
 
   -- the k-th of n parts (from 0): what stands there, and that its checks hold
   pub run-read : (d : A) (n k : ℕ) (b : List ℕ) → k < n → getD (runIn part n b) k d ≡ part .read (drop (runSize part k b) b)

@@ -1,92 +1,132 @@
-use Prim.Native.Nat.{ℕ, _*_, _-_, _≤_, _<_}
-use denote.Ref.{now}
-use mathlib.Core.Path.{_≡_, sym, ap, _∙_, subst}
+use Rattle.filter.proofs.RisingLaws.{whole-stop, whole-next}
+use Rattle.filter.proofs.StepLaws.{azimuth-cut, azimuth-none, azimuth-many, azimuth-stop, azimuth-next}
+use Rattle.filter.proofs.PartLaws.{fetched-value}
+use Rattle.filter.specs.Steps.{zonesStep}
+use Rattle.filter.specs.declared.Step.the-variants.{Next}
+use Rattle.map.specs.Map.{mostZones}
+use Rattle.map.specs.Reading.{value, after}
+use Rattle.wire.proofs.ListLaws.{part-is}
+use lib.ListN.{length, take, drop, length-drop}
 use native.Mathlib.Omega.{arith}
 use mathlib.Core.List.{List}
-use lib.ListN.{length, take, drop}
-use Rattle.wire.proofs.ListLaws.{part-is}
-use Rattle.map.specs.Reading.{value, after}
-use Rattle.map.specs.Map.{mostZones}
-use Rattle.filter.specs.Steps.{zonesStep}
-use Rattle.filter.proofs.PartLaws.{fetched-value}
-use Rattle.filter.proofs.StepLaws.{azimuth-cut, azimuth-none, azimuth-many, azimuth-stop, azimuth-next, zones-size}
+use mathlib.Core.Path.{_≡_, sym, ap, _∙_, subst}
+use denote.Ref.{now}
+use Prim.Native.Nat.{ℕ, _+_, _*_, _-_, _≤_, _<_}
 use borrow.Author.Needs.{needs}
 use Rattle.filter.proofs.check_azimuth.Statement.{statement}
 use Rattle.filter.proofs.check_azimuth.Tie as tie
+use Rattle.filter.proofs.check_azimuth.Reads as reads
+use Rattle.filter.proofs.check_azimuth.Lts as lts
+use Rattle.filter.proofs.cut_zones.Reads as cut-zones-reads
+use Rattle.filter.proofs.wide.Reads as wide-reads
+use Rattle.filter.proofs.zones_broken.Reads as zones-broken-reads
+use Rattle.wire.proofs.fetch16.Reads as fetch16-reads
 
 -- the zone count
 counted : (c : tie.After-fetch16) → c .fetch16 .result ≡ value (now (c .before .before .before .args .part))
 counted c = c .fetch16 .ensures ∙ fetched-value (now (c .before .before .before .args .part)) 0 (search needs)
 
--- the zones behind it
-zoned : (c : tie.After-check-zones) → let b = now (c .before .before .before .before .before .before .before .before .args .part) in c .check-zones .result ≡ zonesStep (value b) (after b)
-zoned c =
-    let b = now (c .before .before .before .before .before .before .before .before .args .part) in
-    c .check-zones .ensures
-    ∙ ap (λ (n : ℕ). zonesStep n (take (length b - 2) (drop 2 b))) (c .before .wide .ensures ∙ counted (c .before .before .before .before .before))
-    ∙ ap (λ (l : List ℕ). zonesStep (value b) l) (part-is b 2)
+some : (c : tie.Else3) → 1 ≤ value (now (c .before .before .before .before .before .args .part))
+some c = subst (λ (n : ℕ). 1 ≤ n) (counted (c .before .before)) (c .before .if2 .left)
 
+few : (c : tie.Else3) → value (now (c .before .before .before .before .before .args .part)) ≤ mostZones
+few c = subst (λ (n : ℕ). n ≤ mostZones) (counted (c .before .before)) (c .if3 .left)
+
+-- the zones, where they are all there
+sized : (c : tie.Else4) → c .before .wide .result ≡ value (now (c .before .before .before .before .before .before .before .args .part))
+sized c = c .before .wide .ensures ∙ counted (c .before .before .before .before)
+
+there : (c : tie.Else4) → let b = now (c .before .before .before .before .before .before .before .args .part) in 4 * value b ≤ length (after b)
+there c = rw length-drop (omega (arith, sized c, c .if4 .left))
+
+taken : (c : tie.Else4) → 2 + 4 * c .before .wide .result - 2 ≡ 4 * value (now (c .before .before .before .before .before .before .before .args .part))
+taken c = omega (arith, sized c)
+
+-- src/lib.rt:144:9
 returns : tie.Need-returns
 returns c = azimuth-cut (now (c .before .before .args .part)) (c .if1 .taken)
 
+-- src/lib.rt:146:9
 fetch16-requires : tie.Need-fetch16-requires
 fetch16-requires c κs = search needs
 
+-- src/lib.rt:148:9
 returns-2 : tie.Need-returns-2
-returns-2 c =
-    let b = now (c .before .before .before .before .args .part) in
-    azimuth-none b (c .before .before .if1 .left) (subst (λ (n : ℕ). n < 1) (counted (c .before)) (c .if2 .taken))
+returns-2 c = azimuth-none (now (c .before .before .before .before .args .part)) (c .before .before .if1 .left) (subst (λ (n : ℕ). n < 1) (counted (c .before)) (c .if2 .taken))
 
+-- src/lib.rt:151:9
 returns-3 : tie.Need-returns-3
 returns-3 c =
-    let b = now (c .before .before .before .before .before .args .part) in
-    azimuth-many b (c .before .before .before .if1 .left) (subst (λ (n : ℕ). 1 ≤ n) (counted (c .before .before)) (c .before .if2 .left))
+    azimuth-many (now (c .before .before .before .before .before .args .part)) (c .before .before .before .if1 .left) (subst (λ (n : ℕ). 1 ≤ n) (counted (c .before .before)) (c .before .if2 .left))
     (subst (λ (n : ℕ). mostZones < n) (counted (c .before .before)) (c .if3 .taken))
 
-sub-check-zones : tie.Need-sub-check-zones
-sub-check-zones c = search needs
-
-part-check-zones-start : tie.Need-part-check-zones-start
-part-check-zones-start c = search needs
-
-part-check-zones-end : tie.Need-part-check-zones-end
-part-check-zones-end c = search needs
-
+-- src/lib.rt:153:24
 wide-requires : tie.Need-wide-requires
 wide-requires c κs = search needs
 
-check-zones-requires : tie.Need-check-zones-requires
-check-zones-requires c κs = search needs
+-- src/lib.rt:153:20
+mul-size : tie.Need-mul-size
+mul-size c = search needs
 
-enum-known-size : tie.Need-enum-known-size
-enum-known-size c = search needs
+-- src/lib.rt:153:16
+add-size : tie.Need-add-size
+add-size c = search needs
 
-add-t13 : tie.Need-add-t13
-add-t13 c =
-    let b = now (c .before .before .before .before .before .before .before .before .before .before .before .args .part) in
-    let f = c .before .before .before .before .before .before .before .before in
-    let n : c .before .size .given .0 .0 ≡ 4 * value b = zones-size (value b) (after b) (c .before .size .given .0 .0) (sym (c .before .size .given .1) ∙ zoned (c .before .before .before)) in
-    let m : value b ≤ mostZones = subst (λ (k : ℕ). k ≤ mostZones) (counted f) (c .before .before .before .before .before .before .if3 .left) in
-    record { fits = omega (arith, n, m) }
+-- src/lib.rt:155:37
+sub-cut-zones : tie.Need-sub-cut-zones
+sub-cut-zones c = search needs
 
-enum-known-number : tie.Need-enum-known-number
-enum-known-number c = search needs
+-- src/lib.rt:155:37
+part-cut-zones-start : tie.Need-part-cut-zones-start
+part-cut-zones-start c = search needs
 
+-- src/lib.rt:155:37
+part-cut-zones-end : tie.Need-part-cut-zones-end
+part-cut-zones-end c = search needs
+
+-- src/lib.rt:155:49
+wide-requires-2 : tie.Need-wide-requires-2
+wide-requires-2 c κs = search needs
+
+-- src/lib.rt:155:27
+cut-zones-requires : tie.Need-cut-zones-requires
+cut-zones-requires c κs = search needs
+
+-- src/lib.rt:155:9
 returns-4 : tie.Need-returns-4
 returns-4 c =
-    let b = now (c .before .before .before .before .before .before .before .before .before .before .before .args .part) in
-    let f = c .before .before .before .before .before .before .before .before in
-    azimuth-next b (f .before .if1 .left) (subst (λ (k : ℕ). 1 ≤ k) (counted f) (c .before .before .before .before .before .before .before .if2 .left))
-    (subst (λ (k : ℕ). k ≤ mostZones) (counted f) (c .before .before .before .before .before .before .if3 .left))
-    (c .before .size .given .0 .0) (sym (c .before .size .given .1) ∙ zoned (c .before .before .before))
+    let b = now (c .before .before .before .before .before .before .before .before .before .before .args .part) in
+    azimuth-stop b (c .before .before .before .before .before .before .before .before .if1 .left) (some (c .before .before .before .before .before)) (few (c .before .before .before .before .before)) (c .cut-zones .result)
+    (c .cut-zones .ensures
+    ∙ ap (λ (n : ℕ). zonesStep n (take (length b - 2) (drop 2 b))) (c .before .wide2 .ensures ∙ counted (c .before .before .before .before .before .before .before))
+    ∙ ap (λ (l : List ℕ). zonesStep (value b) l) (part-is b 2))
 
+-- src/lib.rt:157:21
+sub-zones-broken : tie.Need-sub-zones-broken
+sub-zones-broken c = search needs
+
+-- src/lib.rt:157:21
+part-zones-broken-start : tie.Need-part-zones-broken-start
+part-zones-broken-start c = search needs
+
+-- src/lib.rt:157:21
+part-zones-broken-end : tie.Need-part-zones-broken-end
+part-zones-broken-end c = search needs
+
+-- src/lib.rt:157:8
+zones-broken-requires : tie.Need-zones-broken-requires
+zones-broken-requires c κs = search needs
+
+-- src/lib.rt:158:9
 returns-5 : tie.Need-returns-5
 returns-5 c =
-    let b = now (c .before .before .before .before .before .before .before .before .before .before .before .args .part) in
-    let f = c .before .before .before .before .before .before .before .before in
-    azimuth-stop b (f .before .if1 .left) (subst (λ (k : ℕ). 1 ≤ k) (counted f) (c .before .before .before .before .before .before .before .if2 .left))
-    (subst (λ (k : ℕ). k ≤ mostZones) (counted f) (c .before .before .before .before .before .before .if3 .left))
-    (c .before .number .given .0 .0) (sym (c .before .number .given .1) ∙ zoned (c .before .before .before))
+    azimuth-stop (now (c .before .before .before .before .before .before .before .before .before .before .args .part)) (c .before .before .before .before .before .before .before .before .if1 .left) (some (c .before .before .before .before .before)) (few (c .before .before .before .before .before)) 24 (whole-stop (after (now (c .before .before .before .before .before .before .before .before .before .before .args .part))) (value (now (c .before .before .before .before .before .before .before .before .before .before .args .part))) (some (c .before .before .before .before .before)) (there (c .before .before .before)) (2 + 4 * c .before .before .before .before .wide .result - 2) (taken (c .before .before .before)) (c .before .zones-broken .result) (c .before .zones-broken .ensures) (c .if5 .taken))
+
+-- src/lib.rt:140:1
+returns-6 : tie.Need-returns-6
+returns-6 c =
+    ap (λ (n : ℕ). Next (2 + 4 * n)) (sized (c .before .before .before))
+    ∙ azimuth-next (now (c .before .before .before .before .before .before .before .before .before .before .args .part)) (c .before .before .before .before .before .before .before .before .if1 .left) (some (c .before .before .before .before .before)) (few (c .before .before .before .before .before)) (4 * value (now (c .before .before .before .before .before .before .before .before .before .before .args .part))) (whole-next (after (now (c .before .before .before .before .before .before .before .before .before .before .args .part))) (value (now (c .before .before .before .before .before .before .before .before .before .before .args .part))) (some (c .before .before .before .before .before)) (there (c .before .before .before)) (2 + 4 * c .before .before .before .before .wide .result - 2) (taken (c .before .before .before)) (c .before .zones-broken .result) (c .before .zones-broken .ensures) (c .if5 .left))
 
 pub check-azimuth-spec : {M : Type 1} → statement M
 check-azimuth-spec =
@@ -96,13 +136,18 @@ check-azimuth-spec =
     fetch16-requires
     returns-2
     returns-3
-    sub-check-zones
-    part-check-zones-start
-    part-check-zones-end
     wide-requires
-    check-zones-requires
-    enum-known-size
-    add-t13
-    enum-known-number
+    mul-size
+    add-size
+    sub-cut-zones
+    part-cut-zones-start
+    part-cut-zones-end
+    wide-requires-2
+    cut-zones-requires
     returns-4
-    returns-5)
+    sub-zones-broken
+    part-zones-broken-start
+    part-zones-broken-end
+    zones-broken-requires
+    returns-5
+    returns-6)

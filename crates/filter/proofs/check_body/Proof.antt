@@ -1,4 +1,4 @@
-use Prim.Native.Nat.{ℕ, _≤_}
+use Prim.Native.Nat.{ℕ, _*_, _≤_}
 use denote.Ref.{now}
 use mathlib.Core.Path.{_≡_, sym, ap, _∙_}
 use mathlib.Core.List.{List}
@@ -7,8 +7,9 @@ use native.Mathlib.Omega.{arith}
 use Rattle.wire.proofs.ListLaws.{part-is}
 use Rattle.filter.specs.declared.Step.the-variants.{Next}
 use Rattle.filter.specs.Steps.{runStep, headStep}
-use Rattle.map.specs.Reading.{elevationPart}
-use Rattle.filter.proofs.BodyLaws.{head-stop, head-long, segments-stop, segments-fit, body-left, body-next}
+use Rattle.map.specs.Map.{azimuths}
+use Rattle.map.specs.Reading.{azimuthPart, elevationPart}
+use Rattle.filter.proofs.BodyLaws.{counted-through, head-stop, head-long, head-most, segments-stop, segments-fit, body-left, body-next}
 use borrow.Author.Needs.{needs}
 use Rattle.filter.proofs.check_body.Statement.{statement}
 use Rattle.filter.proofs.check_body.Tie as tie
@@ -21,10 +22,13 @@ long : (c : tie.After-count) → 6 ≤ length (now (c .before .before .before .b
 long c = head-long (now (c .before .before .before .before .args .body)) (c .count .given .0 .0) (headed c)
 
 -- the elevation segments behind them
-checked : (c : tie.After-check-elevations) → c .check-elevations .result ≡ runStep elevationPart (c .before .before .before .count .given .0 .0) (drop 6 (now (c .before .before .before .before .before .before .before .args .body)))
+checked : (c : tie.After-check-azimuths) → c .check-azimuths .result ≡ runStep elevationPart (c .before .before .before .count .given .0 .0) (drop 6 (now (c .before .before .before .before .before .before .before .args .body)))
 checked c =
-    c .check-elevations .ensures
-    ∙ ap (λ (l : List ℕ). runStep elevationPart (c .before .before .before .count .given .0 .0) l) (part-is (now (c .before .before .before .before .before .before .before .args .body)) 6)
+    let n = c .before .before .before .count .given .0 .0 in
+    let b = now (c .before .before .before .before .before .before .before .args .body) in
+    c .check-azimuths .ensures
+    ∙ ap (λ (l : List ℕ). runStep azimuthPart (n * azimuths) l) (part-is b 6)
+    ∙ counted-through n (drop 6 b)
 
 check-head-requires : tie.Need-check-head-requires
 check-head-requires c κs = search needs
@@ -32,17 +36,23 @@ check-head-requires c κs = search needs
 enum-known-count : tie.Need-enum-known-count
 enum-known-count c = search needs
 
-sub-check-elevations : tie.Need-sub-check-elevations
-sub-check-elevations c = omega (arith, long (c .before))
+sub-check-azimuths : tie.Need-sub-check-azimuths
+sub-check-azimuths c = omega (arith, long (c .before))
 
-part-check-elevations-start : tie.Need-part-check-elevations-start
-part-check-elevations-start c = omega (arith, long (c .before))
+part-check-azimuths-start : tie.Need-part-check-azimuths-start
+part-check-azimuths-start c = omega (arith, long (c .before))
 
-part-check-elevations-end : tie.Need-part-check-elevations-end
-part-check-elevations-end c = search needs
+part-check-azimuths-end : tie.Need-part-check-azimuths-end
+part-check-azimuths-end c = search needs
 
-check-elevations-requires : tie.Need-check-elevations-requires
-check-elevations-requires c κs = search needs
+mul-check-azimuths : tie.Need-mul-check-azimuths
+mul-check-azimuths c =
+    let k = c .before .before in
+    let m = head-most (now (k .before .before .before .before .args .body)) (k .count .given .0 .0) (headed k) in
+    record { fits = omega (arith, m) }
+
+check-azimuths-requires : tie.Need-check-azimuths-requires
+check-azimuths-requires c κs = search needs
 
 enum-known-size : tie.Need-enum-known-size
 enum-known-size c = search needs
@@ -87,10 +97,11 @@ check-body-spec =
     (tie.spec
     check-head-requires
     enum-known-count
-    sub-check-elevations
-    part-check-elevations-start
-    part-check-elevations-end
-    check-elevations-requires
+    sub-check-azimuths
+    part-check-azimuths-start
+    part-check-azimuths-end
+    mul-check-azimuths
+    check-azimuths-requires
     enum-known-size
     add-if1
     returns
