@@ -1,34 +1,54 @@
 -- The whole body from its parts: the three fields, the elevation segments, the leftovers. Assumes nothing.
 use Prim.Native.Nat.{ℕ, _+_, _*_, _-_, _≤_, _<_}
 use native.Mathlib.Omega.{arith}
-use mathlib.Core.Path.{_≡_, sym, ap, _∙_}
+use mathlib.Core.Path.{_≡_, refl, sym, ap, _∙_, subst}
+use mathlib.Core.Bool.{Bool, true, false}
 use mathlib.Core.List.{List, _++_}
 use lib.Dec.{ltb}
-use lib.ListN.{length, drop, length-drop}
-use borrow.Author.Tests.{lt-ltb, le-ltb, ltb-false, eq-eqb, ne-eqb}
+use lib.ListN.{length, take, drop, length-drop}
+use lib.Seq.{drop-drop}
+use borrow.Author.Tests.{lt-ltb, le-ltb, lt-leb, ltb-true, ltb-false, eq-eqb, ne-eqb}
 use Rattle.wire.specs.Numbers.{fetched}
-use Rattle.wire.specs.Checks.{Check, decide}
+use Rattle.wire.specs.Checks.{pick, Check, decide}
 use Rattle.wire.specs.Answers.{refused, given, rule}
 use Rattle.wire.proofs.CheckLaws.{neither, decide-append, decide-none, decide-some, all-hold}
+use Rattle.wire.proofs.ListLaws.{part-is}
 use Rattle.map.specs.Map.{azimuths, mostElevations, lastKilometre, Zone, codeFrom, codeAt}
 use Rattle.map.specs.Reading.{runSize, runChecks, azimuthPart, elevationPart, dateIn, minutesIn, segmentsIn, headChecks, leftoverChecks, mapChecks, mapIn, Summary, summary, summaryOf, askedChecks, codeOf}
 use Rattle.map.proofs.Runs.{run-count, run-long}
 use Rattle.map.proofs.Accepted.{elevation-long}
 use Rattle.map.proofs.CheckFacts.{MapFacts, map-facts}
 use Rattle.map.proofs.Places.{size-flat, checks-flat, asked-there, asked-zones}
+use Rattle.filter.specs.declared.Found.{Found}
 use Rattle.filter.specs.declared.Step.the-variants.{Next, Stop}
-use Rattle.filter.specs.Steps.{stepBy, runStep, headStep, bodyStep, PassFits, codeThere}
+use Rattle.filter.specs.Steps.{stepBy, runStep, headStep, bodyStep, indexOf, Finds, BodyFinds, azimuthThere, PassFits, codeThere}
 use Rattle.filter.proofs.PartLaws.{fetched-value}
-use Rattle.filter.proofs.StepLaws.{step-first, step-none, part-stops, part-passes}
+use Rattle.filter.proofs.StepLaws.{step-first, step-none, part-stops, part-passes, not-both}
 
 abbrev segments : List ℕ → List Check
 segments b = runChecks elevationPart (segmentsIn b) (drop 6 b)
 
 -- the azimuths of all elevation segments, counted through
-pub counted-through : (n : ℕ) (b : List ℕ) → runStep azimuthPart (n * azimuths) b ≡ runStep elevationPart n b
+counted-through : (n : ℕ) (b : List ℕ) → runStep azimuthPart (n * azimuths) b ≡ runStep elevationPart n b
 counted-through n b =
     ap (λ (ks : List Check). stepBy ks (runSize azimuthPart (n * azimuths) b)) (sym (checks-flat n b))
     ∙ ap (λ (k : ℕ). stepBy (runChecks elevationPart n b) k) (sym (size-flat n b))
+
+pub segments-found : (b : List ℕ) (m i j : ℕ) (r : Found) → i ≡ j
+    → Finds (runStep azimuthPart (m * azimuths) (take (length b - 6) (drop 6 b))) (runSize azimuthPart i (take (length b - 6) (drop 6 b))) r
+    → Finds (runStep elevationPart m (drop 6 b)) (runSize azimuthPart j (drop 6 b)) r
+segments-found b m i j r e f =
+    let p = part-is b 6 in
+    let s : runStep azimuthPart (m * azimuths) (take (length b - 6) (drop 6 b)) ≡ runStep elevationPart m (drop 6 b)
+    = ap (λ (l : List ℕ). runStep azimuthPart (m * azimuths) l) p ∙ counted-through m (drop 6 b) in
+    record {
+      checked = f .checked ∙ s;
+      placed =
+          λ n q.
+          f .placed n (q ∙ sym s)
+          ∙ ap (λ (l : List ℕ). runSize azimuthPart i l) p
+          ∙ ap (λ (k : ℕ). runSize azimuthPart k (drop 6 b)) e;
+    }
 
 pub head-stop : (b : List ℕ) (n : ℕ) → Stop n ≡ headStep b → Stop n ≡ bodyStep b
 head-stop b n e = sym (part-stops (headChecks b) (segments b ++ leftoverChecks b) (segmentsIn b) (Next (segmentsIn b)) n (sym e))
@@ -87,6 +107,38 @@ module _ (b : List ℕ) (m : ℕ) (e : Next m ≡ headStep b) where
         let l : length b ≤ 6 + runSize elevationPart (segmentsIn b) (drop 6 b) = omega (arith, size-is) in
         ap Next (sym count-is) ∙ sym (left-is ∙ simp (le-ltb (6 + runSize elevationPart (segmentsIn b) (drop 6 b)) (length b) l))
 
+-- ---- the least of two
+pub least-low : (a b : ℕ) → pick (ltb a b) a b ≤ b
+least-low a b = go (ltb a b) refl
+  where
+    go : (t : Bool) → ltb a b ≡ t → pick t a b ≤ b
+    go true e = omega (arith, ltb-true a b e)
+    go false e = omega arith
+
+pub least-first : (a b : ℕ) → a ≤ b → pick (ltb a b) a b ≡ a
+least-first a b h = go (ltb a b) refl
+  where
+    go : (t : Bool) → ltb a b ≡ t → pick t a b ≡ a
+    go true e = refl
+    go false e = omega (arith, ltb-false a b e)
+
+-- ---- the body, and where an azimuth of it begins
+module _ (index : ℕ) (b : List ℕ) where
+  pub body-none : (r : Found) (k : ℕ) → r ≡ record { step = Stop k; place = 0 } → Stop k ≡ bodyStep b → BodyFinds index b r
+  body-none r k e f = record { checked = ap (λ (x : Found). x .step) e ∙ f; placed = λ n q i. not-both k n (bodyStep b) f q }
+
+  pub body-found : (m place all : ℕ) → Next m ≡ bodyStep b → all ≡ m * azimuths → place ≡ runSize azimuthPart (pick (ltb index all) index all) (drop 6 b)
+      → BodyFinds index b (record { step = Next m; place = place })
+  body-found m place all e a p =
+      record {
+        checked = e;
+        placed =
+            λ n q i.
+            let c : n ≡ m = cc (q ∙ sym e) in
+            let l : index ≤ all = omega (arith, i, c, a) in
+            p ∙ ap (λ (k : ℕ). runSize azimuthPart k (drop 6 b)) (least-first index all l);
+      }
+
 -- ---- what is answered of it
 pub map-stop : (b : List ℕ) (n : ℕ) → Stop n ≡ bodyStep b → refused n ≡ summaryOf b
 map-stop b n e = sym (decide-some (mapChecks b) refused (given (summary (mapIn b))) n (step-first (mapChecks b) (segmentsIn b) n (sym e)))
@@ -119,10 +171,10 @@ module _ (b : List ℕ) (m : ℕ) (e : Next m ≡ bodyStep b) where
   segments-are : segmentsIn b ≡ m
   segments-are = step-none (mapChecks b) (segmentsIn b) m (sym e) .1
 
-  pub query-long : 6 ≤ length b
+  query-long : 6 ≤ length b
   query-long = facts .here
 
-  pub query-most : m ≤ mostElevations
+  query-most : m ≤ mostElevations
   query-most = omega (arith, facts .most, segments-are)
 
   module _ (elevation azimuth kilometre : ℕ) where
@@ -152,13 +204,44 @@ module _ (b : List ℕ) (m : ℕ) (e : Next m ≡ bodyStep b) where
           inside : elevation - 1 < segmentsIn b
           inside = omega (arith, segments-are)
 
-          pub asked-fits : PassFits ((elevation - 1) * azimuths + azimuth) (drop 6 b)
+          asked-fits : PassFits ((elevation - 1) * azimuths + azimuth) (drop 6 b)
           asked-fits = asked-there (segmentsIn b) (elevation - 1) azimuth (drop 6 b) inside a (facts .elevations)
 
-          pub asked-given : kilometre ≤ lastKilometre
+          asked-given : kilometre ≤ lastKilometre
               → given (codeThere ((elevation - 1) * azimuths + azimuth) kilometre (drop 6 b)) ≡ codeOf b elevation azimuth kilometre
           asked-given k =
               ap (λ (zs : List Zone). given (codeFrom 0 zs kilometre)) (sym (asked-zones (segmentsIn b) (elevation - 1) azimuth (drop 6 b) inside a))
               ∙ sym
               (query-is
               ∙ simp (ne-eqb elevation 0 z, le-ltb m elevation h, lt-ltb azimuth azimuths a, le-ltb lastKilometre kilometre k))
+
+          -- by the azimuth that was found
+          module _ (index place : ℕ) (asked : index ≡ indexOf elevation azimuth) (found : index ≤ m * azimuths → place ≡ runSize azimuthPart index (drop 6 b)) where
+            index-is : index ≡ (elevation - 1) * azimuths + azimuth
+            index-is =
+                let l : elevation ≤ mostElevations = omega (arith, query-most) in
+                asked ∙ simp (ne-eqb elevation 0 z, le-ltb mostElevations elevation l, lt-leb azimuths azimuth a)
+
+            place-is : place ≡ runSize azimuthPart ((elevation - 1) * azimuths + azimuth) (drop 6 b)
+            place-is =
+                let l : index ≤ m * azimuths = omega (arith, index-is) in
+                found l ∙ ap (λ (k : ℕ). runSize azimuthPart k (drop 6 b)) index-is
+
+            azimuth-is : drop (6 + place) b ≡ azimuthThere ((elevation - 1) * azimuths + azimuth) (drop 6 b)
+            azimuth-is = sym (drop-drop place 6 b) ∙ ap (λ (k : ℕ). drop k (drop 6 b)) place-is
+
+            pub place-fits : 6 + place ≤ length b
+            place-fits =
+                let l = simp length-drop at asked-fits in
+                omega (arith, l, place-is, query-long)
+
+            pub azimuth-fits : azimuthPart .size (drop (6 + place) b) ≤ length (drop (6 + place) b)
+            azimuth-fits =
+                let i = (elevation - 1) * azimuths + azimuth in
+                let l : azimuthPart .size (azimuthThere i (drop 6 b)) ≤ length (azimuthThere i (drop 6 b))
+                = rw (length-drop (runSize azimuthPart i (drop 6 b)) (drop 6 b)) (omega (arith, asked-fits)) in
+                subst (λ (x : List ℕ). azimuthPart .size x ≤ length x) (sym azimuth-is) l
+
+            pub code-given : kilometre ≤ lastKilometre
+                → given (codeFrom 0 (azimuthPart .read (drop (6 + place) b)) kilometre) ≡ codeOf b elevation azimuth kilometre
+            code-given k = ap (λ (x : List ℕ). given (codeFrom 0 (azimuthPart .read x) kilometre)) azimuth-is ∙ asked-given k

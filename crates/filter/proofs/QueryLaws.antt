@@ -1,30 +1,15 @@
--- The walk of a query in a checked body: past azimuths, then past zones. Assumes nothing.
+-- The walk of a query past the zones of a checked azimuth. Assumes nothing.
 use Prim.Native.Nat.{ℕ, zero, suc, _+_, _*_, _-_, _≤_, _<_}
 use native.Mathlib.Omega.{arith}
 use mathlib.Core.Path.{_≡_, refl, sym, ap, _∙_, subst}
 use mathlib.Core.List.{List, _∷_}
 use lib.ListN.{length, drop}
-use lib.Seq.{drop-drop}
 use borrow.Author.Tests.{le-leb, lt-leb}
 use Rattle.wire.specs.Numbers.{fetched}
 use Rattle.map.specs.Map.{Zone, codeFrom}
-use Rattle.map.specs.Reading.{value, after, zonesIn, runSize, azimuthPart}
+use Rattle.map.specs.Reading.{value, after, zonesIn, azimuthPart}
 use Rattle.filter.proofs.PartLaws.{fetched-value, next-value, next-rest}
 use Rattle.filter.proofs.StepLaws.{less-one}
-
--- ---- past azimuths
-pub pass-turn : (left at : ℕ) (b : List ℕ) → 0 < left
-    → runSize azimuthPart left (drop at b) ≡ azimuthPart .size (drop at b) + runSize azimuthPart (left - 1) (drop (at + azimuthPart .size (drop at b)) b)
-unfolding runSize
-pass-turn zero at b h = absurd (omega arith)
-pass-turn (suc l) at b h =
-    let s = azimuthPart .size (drop at b) in
-    ap (λ (x : List ℕ). s + runSize azimuthPart l x) (drop-drop s at b) ∙ ap (λ (k : ℕ). s + runSize azimuthPart k (drop (at + s) b)) (sym (less-one l))
-
-pub pass-done : (left : ℕ) (b : List ℕ) → left ≤ 0 → runSize azimuthPart left b ≡ 0
-unfolding runSize
-pass-done zero b h = refl
-pass-done (suc l) b h = absurd (omega arith)
 
 -- ---- past zones: what is left answers as the whole
 pub record Looking (b : List ℕ) (kilometre left at : ℕ) : Type 0 where

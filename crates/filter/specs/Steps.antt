@@ -1,13 +1,15 @@
 -- What the inner functions answer for a part of a body: how far it reaches, or its refusal.
-use Prim.Native.Nat.{ℕ, zero, suc, _+_, _*_, _≤_}
+use Prim.Native.Nat.{ℕ, zero, suc, _+_, _*_, _-_, _≤_}
+use mathlib.Core.Path.{_≡_}
 use mathlib.Core.Bool.{Bool, not}
 use mathlib.Core.List.{List}
-use lib.Dec.{ltb, eqb}
+use lib.Dec.{ltb, leb, eqb}
 use lib.ListN.{length, drop}
 use Rattle.wire.specs.Numbers.{num}
-use Rattle.wire.specs.Checks.{either, Check, decide}
-use Rattle.map.specs.Map.{mostCode, lastKilometre, codeFrom}
+use Rattle.wire.specs.Checks.{pick, either, Check, decide}
+use Rattle.map.specs.Map.{mostElevations, azimuths, mostCode, lastKilometre, codeFrom}
 use Rattle.map.specs.Reading.{value, after, zoneChecks, zonesChecks, Part, runSize, runChecks, azimuthPart, segmentsIn, headChecks, mapChecks}
+use Rattle.filter.specs.declared.Found.{Found}
 use Rattle.filter.specs.declared.Step.{Step}
 use Rattle.filter.specs.declared.Step.the-variants.{Next, Stop}
 
@@ -42,7 +44,22 @@ headStep b = stepBy (headChecks b) (segmentsIn b)
 abbrev pub bodyStep : List ℕ → Step
 bodyStep b = stepBy (mapChecks b) (segmentsIn b)
 
--- ---- a query in a checked part, the azimuths of all elevation segments counted through from 0
+-- ---- a query, the azimuths of all elevation segments counted through from 0
+-- the azimuth asked for, or 0 where no map has one
+abbrev pub indexOf : ℕ → ℕ → ℕ
+indexOf elevation azimuth =
+    pick (eqb elevation 0) 0 (pick (ltb mostElevations elevation) 0 (pick (leb azimuths azimuth) 0 ((elevation - 1) * azimuths + azimuth)))
+
+-- a check that also tells a place, where it passes
+pub record Finds (right : Step) (place : ℕ) (r : Found) : Type 0 where
+  pub checked : r .step ≡ right
+  pub placed : (n : ℕ) → Next n ≡ right → r .place ≡ place
+
+-- the same of the whole body, where the azimuth of the index is one of its own
+pub record BodyFinds (index : ℕ) (b : List ℕ) (r : Found) : Type 0 where
+  pub checked : r .step ≡ bodyStep b
+  pub placed : (n : ℕ) → Next n ≡ bodyStep b → index ≤ n * azimuths → r .place ≡ runSize azimuthPart index (drop 6 b)
+
 -- the azimuth of an index, and that it lies within the part
 abbrev pub azimuthThere : ℕ → List ℕ → List ℕ
 azimuthThere index b = drop (runSize azimuthPart index b) b

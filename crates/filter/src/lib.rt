@@ -1,13 +1,15 @@
-// Message 15, the clutter filter map: a body is checked in one pass; a query walks the checked body up to the azimuth asked for.
+// Message 15, the clutter filter map: a body is checked in one pass, which also tells where the azimuth asked for begins.
 use wire::refusal;
 ghost use mathlib.Core.Path.{_≡_};
 ghost use Prim.Native.Nat.{_+_, _*_, _/_, _≤_, _<_};
+ghost use lib.Dec.{ltb};
 ghost use lib.ListN.{length, drop};
+ghost use Rattle.wire.specs.Checks.{pick};
 ghost use Rattle.map.specs.Map.{mostZones, codeFrom};
 ghost use Rattle.map.specs.Reading.{endBroken, runSize, azimuthPart, summaryOf, codeOf};
 ghost use Rattle.filter.specs.Answers.{tellMap, tellCode};
 ghost use Rattle.filter.specs.declared.Step.the-variants.{Stop};
-ghost use Rattle.filter.specs.Steps.{zoneStep, zonesStep, notRising, partStep, runStep, headStep, bodyStep, PassFits, codeThere};
+ghost use Rattle.filter.specs.Steps.{zoneStep, zonesStep, notRising, partStep, runStep, headStep, Finds, BodyFinds, indexOf};
 
 const MOST_MINUTES: u16 = 1440;
 
@@ -15,7 +17,7 @@ const MOST_ELEVATIONS: u16 = 5;
 
 const AZIMUTHS: usize = 360;
 
-const MOST_ZONES: u16 = 20;
+const MOST_ZONES: usize = 20;
 
 const MOST_CODE: u16 = 2;
 
@@ -37,6 +39,12 @@ pub enum CodeAnswer {
 enum Step {
     Next(usize),
     Stop(u8),
+}
+
+// The azimuths checked, and where the one asked for begins.
+struct Found {
+    step: Step,
+    place: usize,
 }
 
 // Whether an end is out of range, does not rise, or is the last and not 511.
@@ -143,16 +151,16 @@ fn check_azimuth(part: &[u8]) -> Step
     if part.len() < 2 {
         return Step::Stop(refusal::LENGTH);
     }
-    let count = wire::fetch16(part, 0);
+    let count = wide(wire::fetch16(part, 0));
     if count < 1 {
         return Step::Stop(refusal::FIELD);
     }
     if MOST_ZONES < count {
         return Step::Stop(refusal::FIELD);
     }
-    let size = 2 + 4 * wide(count);
+    let size = 2 + 4 * count;
     if part.len() < size {
-        return Step::Stop(cut_zones(&part[2..], wide(count)));
+        return Step::Stop(cut_zones(&part[2..], count));
     }
     if zones_broken(&part[2..size]) {
         return Step::Stop(refusal::FIELD);
@@ -176,6 +184,32 @@ fn check_azimuths(part: &[u8], count: usize) -> Step
         }
     }
     Step::Next(at)
+}
+
+fn found_none(number: u8) -> Found
+    ensures { λ r. ⌜ r ≡ record { step = Stop number; place = 0 } ⌝ }
+{
+    Found {
+        step: Step::Stop(number),
+        place: 0,
+    }
+}
+
+// The check halts at the azimuth of an index and goes on from there: that is where it begins.
+fn find_azimuth(part: &[u8], count: usize, index: usize) -> Found
+    requires { ⌜ index ≤ count ⌝ }
+    ensures { λ r. ⌜ Finds (runStep azimuthPart count (now (part .entry))) (runSize azimuthPart index (now (part .entry))) r ⌝ }
+{
+    match check_azimuths(part, index) {
+        Step::Next(place) => match check_azimuths(&part[place..], count - index) {
+            Step::Next(size) => Found {
+                step: Step::Next(place + size),
+                place,
+            },
+            Step::Stop(number) => found_none(number),
+        },
+        Step::Stop(number) => found_none(number),
+    }
 }
 
 // Date, minutes and the number of elevation segments.
@@ -207,21 +241,40 @@ fn check_head(body: &[u8]) -> Step
     Step::Next(wide(count))
 }
 
-// The whole body: the number of its elevation segments.
-fn check_body(body: &[u8]) -> Step
-    ensures { λ r. ⌜ r ≡ bodyStep (now (body .entry)) ⌝ }
+fn least(a: usize, b: usize) -> usize
+    ensures { λ r. ⌜ r ≡ pick (ltb a b) a b ⌝ }
+{
+    if a < b {
+        return a;
+    }
+    b
+}
+
+// The whole body: the number of its elevation segments, and where the azimuth of an index begins after the first six bytes. The azimuths
+// of all elevation segments are counted through from 0.
+fn check_body(body: &[u8], index: usize) -> Found
+    ensures { λ r. ⌜ BodyFinds index (now (body .entry)) r ⌝ }
 {
     match check_head(body) {
-        Step::Next(count) => match check_azimuths(&body[6..], count * AZIMUTHS) {
-            Step::Next(size) => {
-                if 6 + size < body.len() {
-                    return Step::Stop(refusal::LENGTH);
+        Step::Next(count) => {
+            let all = count * AZIMUTHS;
+            let found = find_azimuth(&body[6..], all, least(index, all));
+            let place = found.place;
+            let step = found.step;
+            match step {
+                Step::Next(size) => {
+                    if 6 + size < body.len() {
+                        return found_none(refusal::LENGTH);
+                    }
+                    Found {
+                        step: Step::Next(count),
+                        place,
+                    }
                 }
-                Step::Next(count)
+                Step::Stop(number) => found_none(number),
             }
-            Step::Stop(number) => Step::Stop(number),
-        },
-        Step::Stop(number) => Step::Stop(number),
+        }
+        Step::Stop(number) => found_none(number),
     }
 }
 
@@ -229,7 +282,9 @@ fn check_body(body: &[u8]) -> Step
 pub fn check_map(body: &[u8]) -> MapAnswer
     ensures { λ r. ⌜ tellMap r ≡ summaryOf (now (body .entry)) ⌝ }
 {
-    match check_body(body) {
+    let found = check_body(body, 0);
+    let step = found.step;
+    match step {
         Step::Next(_) => {
             let date = wire::fetch16(body, 0);
             let minutes = wire::fetch16(body, 2);
@@ -238,20 +293,6 @@ pub fn check_map(body: &[u8]) -> MapAnswer
         }
         Step::Stop(number) => MapAnswer::Refused(number),
     }
-}
-
-// How many bytes the first azimuths of a checked part take.
-fn pass_azimuths(part: &[u8], count: usize) -> usize
-    requires { ⌜ runSize azimuthPart count (now part) ≤ length (now part) ⌝ }
-    ensures { λ r. ⌜ r ≡ runSize azimuthPart count (now (part .entry)) ⌝ }
-{
-    let mut left = count;
-    let mut at: usize = 0;
-    while 0 < left {
-        at += 2 + 4 * wide(wire::fetch16(&part[at..], 0));
-        left -= 1;
-    }
-    at
 }
 
 // The code at a kilometre of the azimuth that a checked part begins with: that of the first zone that does not end before it.
@@ -272,20 +313,30 @@ fn zone_code(part: &[u8], kilometre: usize) -> u16
     0
 }
 
-// The code at a kilometre of an azimuth of a checked part, where the azimuths of all elevation segments are counted through from 0.
-fn azimuth_code(part: &[u8], index: usize, kilometre: usize) -> u16
-    requires { ⌜ PassFits index (now part) ⌝ }
-    ensures { λ r. ⌜ r ≡ codeThere index kilometre (now (part .entry)) ⌝ }
+// The azimuth asked for, counted through from 0, or 0 where no map has one.
+fn index_of(elevation: usize, azimuth: usize) -> usize
+    ensures { λ r. ⌜ r ≡ indexOf elevation azimuth ⌝ }
 {
-    let at = pass_azimuths(part, index);
-    zone_code(&part[at..], kilometre)
+    if elevation == 0 {
+        return 0;
+    }
+    if wide(MOST_ELEVATIONS) < elevation {
+        return 0;
+    }
+    if AZIMUTHS <= azimuth {
+        return 0;
+    }
+    (elevation - 1) * AZIMUTHS + azimuth
 }
 
 // The code at an elevation segment (from 1), azimuth and kilometre of a body 15.
 pub fn code_at(body: &[u8], elevation: usize, azimuth: usize, kilometre: usize) -> CodeAnswer
     ensures { λ r. ⌜ tellCode r ≡ codeOf (now (body .entry)) elevation azimuth kilometre ⌝ }
 {
-    match check_body(body) {
+    let found = check_body(body, index_of(elevation, azimuth));
+    let place = found.place;
+    let step = found.step;
+    match step {
         Step::Next(count) => {
             if elevation == 0 {
                 return CodeAnswer::Refused(refusal::ASKED_FOR);
@@ -299,8 +350,8 @@ pub fn code_at(body: &[u8], elevation: usize, azimuth: usize, kilometre: usize) 
             if LAST_KILOMETRE < kilometre {
                 return CodeAnswer::Refused(refusal::ASKED_FOR);
             }
-            let index = (elevation - 1) * AZIMUTHS + azimuth;
-            let code = azimuth_code(&body[6..], index, kilometre);
+            let start = 6 + place;
+            let code = zone_code(&body[start..], kilometre);
             CodeAnswer::Code(code)
         }
         Step::Stop(number) => CodeAnswer::Refused(number),

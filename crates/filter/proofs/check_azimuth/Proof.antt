@@ -23,110 +23,103 @@ use Rattle.filter.proofs.zones_broken.Reads as zones-broken-reads
 use Rattle.wire.proofs.fetch16.Reads as fetch16-reads
 
 -- the zone count
-counted : (c : tie.After-fetch16) → c .fetch16 .result ≡ value (now (c .before .before .before .args .part))
-counted c = c .fetch16 .ensures ∙ fetched-value (now (c .before .before .before .args .part)) 0 (search needs)
+counted : (c : tie.After-wide) → c .wide .result ≡ value (now (c .before .before .before .before .args .part))
+counted c = c .wide .ensures ∙ c .before .fetch16 .ensures ∙ fetched-value (now (c .before .before .before .before .args .part)) 0 (search needs)
 
-some : (c : tie.Else3) → 1 ≤ value (now (c .before .before .before .before .before .args .part))
+some : (c : tie.Else3) → 1 ≤ value (now (c .before .before .before .before .before .before .args .part))
 some c = subst (λ (n : ℕ). 1 ≤ n) (counted (c .before .before)) (c .before .if2 .left)
 
-few : (c : tie.Else3) → value (now (c .before .before .before .before .before .args .part)) ≤ mostZones
+few : (c : tie.Else3) → value (now (c .before .before .before .before .before .before .args .part)) ≤ mostZones
 few c = subst (λ (n : ℕ). n ≤ mostZones) (counted (c .before .before)) (c .if3 .left)
 
 -- the zones, where they are all there
-sized : (c : tie.Else4) → c .before .wide .result ≡ value (now (c .before .before .before .before .before .before .before .args .part))
-sized c = c .before .wide .ensures ∙ counted (c .before .before .before .before)
+there : (c : tie.Else4) → 4 * value (now (c .before .before .before .before .before .before .before .args .part)) ≤ length (after (now (c .before .before .before .before .before .before .before .args .part)))
+there c = rw length-drop (omega (arith, counted (c .before .before .before), c .if4 .left))
 
-there : (c : tie.Else4) → let b = now (c .before .before .before .before .before .before .before .args .part) in 4 * value b ≤ length (after b)
-there c = rw length-drop (omega (arith, sized c, c .if4 .left))
+taken : (c : tie.Else4) → 2 + 4 * c .before .before .before .wide .result - 2 ≡ 4 * value (now (c .before .before .before .before .before .before .before .args .part))
+taken c = omega (arith, counted (c .before .before .before))
 
-taken : (c : tie.Else4) → 2 + 4 * c .before .wide .result - 2 ≡ 4 * value (now (c .before .before .before .before .before .before .before .args .part))
-taken c = omega (arith, sized c)
-
--- src/lib.rt:144:9
+-- src/lib.rt:152:9
 returns : tie.Need-returns
 returns c = azimuth-cut (now (c .before .before .args .part)) (c .if1 .taken)
 
--- src/lib.rt:146:9
+-- src/lib.rt:154:22
 fetch16-requires : tie.Need-fetch16-requires
 fetch16-requires c κs = search needs
 
--- src/lib.rt:148:9
-returns-2 : tie.Need-returns-2
-returns-2 c = azimuth-none (now (c .before .before .before .before .args .part)) (c .before .before .if1 .left) (subst (λ (n : ℕ). n < 1) (counted (c .before)) (c .if2 .taken))
-
--- src/lib.rt:151:9
-returns-3 : tie.Need-returns-3
-returns-3 c =
-    azimuth-many (now (c .before .before .before .before .before .args .part)) (c .before .before .before .if1 .left) (subst (λ (n : ℕ). 1 ≤ n) (counted (c .before .before)) (c .before .if2 .left))
-    (subst (λ (n : ℕ). mostZones < n) (counted (c .before .before)) (c .if3 .taken))
-
--- src/lib.rt:153:24
+-- src/lib.rt:154:9
 wide-requires : tie.Need-wide-requires
 wide-requires c κs = search needs
 
--- src/lib.rt:153:20
+-- src/lib.rt:156:9
+returns-2 : tie.Need-returns-2
+returns-2 c = azimuth-none (now (c .before .before .before .before .before .args .part)) (c .before .before .before .if1 .left) (subst (λ (n : ℕ). n < 1) (counted (c .before)) (c .if2 .taken))
+
+-- src/lib.rt:159:9
+returns-3 : tie.Need-returns-3
+returns-3 c =
+    azimuth-many (now (c .before .before .before .before .before .before .args .part)) (c .before .before .before .before .if1 .left) (subst (λ (n : ℕ). 1 ≤ n) (counted (c .before .before)) (c .before .if2 .left))
+    (subst (λ (n : ℕ). mostZones < n) (counted (c .before .before)) (c .if3 .taken))
+
+-- src/lib.rt:161:20
 mul-size : tie.Need-mul-size
 mul-size c = search needs
 
--- src/lib.rt:153:16
+-- src/lib.rt:161:16
 add-size : tie.Need-add-size
 add-size c = search needs
 
--- src/lib.rt:155:37
+-- src/lib.rt:163:37
 sub-cut-zones : tie.Need-sub-cut-zones
 sub-cut-zones c = search needs
 
--- src/lib.rt:155:37
+-- src/lib.rt:163:37
 part-cut-zones-start : tie.Need-part-cut-zones-start
 part-cut-zones-start c = search needs
 
--- src/lib.rt:155:37
+-- src/lib.rt:163:37
 part-cut-zones-end : tie.Need-part-cut-zones-end
 part-cut-zones-end c = search needs
 
--- src/lib.rt:155:49
-wide-requires-2 : tie.Need-wide-requires-2
-wide-requires-2 c κs = search needs
-
--- src/lib.rt:155:27
+-- src/lib.rt:163:27
 cut-zones-requires : tie.Need-cut-zones-requires
 cut-zones-requires c κs = search needs
 
--- src/lib.rt:155:9
+-- src/lib.rt:163:9
 returns-4 : tie.Need-returns-4
 returns-4 c =
-    let b = now (c .before .before .before .before .before .before .before .before .before .before .args .part) in
-    azimuth-stop b (c .before .before .before .before .before .before .before .before .if1 .left) (some (c .before .before .before .before .before)) (few (c .before .before .before .before .before)) (c .cut-zones .result)
+    let b = now (c .before .before .before .before .before .before .before .before .before .args .part) in
+    azimuth-stop b (c .before .before .before .before .before .before .before .if1 .left) (some (c .before .before .before)) (few (c .before .before .before)) (c .cut-zones .result)
     (c .cut-zones .ensures
-    ∙ ap (λ (n : ℕ). zonesStep n (take (length b - 2) (drop 2 b))) (c .before .wide2 .ensures ∙ counted (c .before .before .before .before .before .before .before))
+    ∙ ap (λ (n : ℕ). zonesStep n (take (length b - 2) (drop 2 b))) (counted (c .before .before .before .before .before))
     ∙ ap (λ (l : List ℕ). zonesStep (value b) l) (part-is b 2))
 
--- src/lib.rt:157:21
+-- src/lib.rt:165:21
 sub-zones-broken : tie.Need-sub-zones-broken
 sub-zones-broken c = search needs
 
--- src/lib.rt:157:21
+-- src/lib.rt:165:21
 part-zones-broken-start : tie.Need-part-zones-broken-start
 part-zones-broken-start c = search needs
 
--- src/lib.rt:157:21
+-- src/lib.rt:165:21
 part-zones-broken-end : tie.Need-part-zones-broken-end
 part-zones-broken-end c = search needs
 
--- src/lib.rt:157:8
+-- src/lib.rt:165:8
 zones-broken-requires : tie.Need-zones-broken-requires
 zones-broken-requires c κs = search needs
 
--- src/lib.rt:158:9
+-- src/lib.rt:166:9
 returns-5 : tie.Need-returns-5
 returns-5 c =
-    azimuth-stop (now (c .before .before .before .before .before .before .before .before .before .before .args .part)) (c .before .before .before .before .before .before .before .before .if1 .left) (some (c .before .before .before .before .before)) (few (c .before .before .before .before .before)) 24 (whole-stop (after (now (c .before .before .before .before .before .before .before .before .before .before .args .part))) (value (now (c .before .before .before .before .before .before .before .before .before .before .args .part))) (some (c .before .before .before .before .before)) (there (c .before .before .before)) (2 + 4 * c .before .before .before .before .wide .result - 2) (taken (c .before .before .before)) (c .before .zones-broken .result) (c .before .zones-broken .ensures) (c .if5 .taken))
+    azimuth-stop (now (c .before .before .before .before .before .before .before .before .before .before .args .part)) (c .before .before .before .before .before .before .before .before .if1 .left) (some (c .before .before .before .before)) (few (c .before .before .before .before)) 24 (whole-stop (after (now (c .before .before .before .before .before .before .before .before .before .before .args .part))) (value (now (c .before .before .before .before .before .before .before .before .before .before .args .part))) (some (c .before .before .before .before)) (there (c .before .before .before)) (2 + 4 * c .before .before .before .before .before .before .wide .result - 2) (taken (c .before .before .before)) (c .before .zones-broken .result) (c .before .zones-broken .ensures) (c .if5 .taken))
 
--- src/lib.rt:140:1
+-- src/lib.rt:148:1
 returns-6 : tie.Need-returns-6
 returns-6 c =
-    ap (λ (n : ℕ). Next (2 + 4 * n)) (sized (c .before .before .before))
-    ∙ azimuth-next (now (c .before .before .before .before .before .before .before .before .before .before .args .part)) (c .before .before .before .before .before .before .before .before .if1 .left) (some (c .before .before .before .before .before)) (few (c .before .before .before .before .before)) (4 * value (now (c .before .before .before .before .before .before .before .before .before .before .args .part))) (whole-next (after (now (c .before .before .before .before .before .before .before .before .before .before .args .part))) (value (now (c .before .before .before .before .before .before .before .before .before .before .args .part))) (some (c .before .before .before .before .before)) (there (c .before .before .before)) (2 + 4 * c .before .before .before .before .wide .result - 2) (taken (c .before .before .before)) (c .before .zones-broken .result) (c .before .zones-broken .ensures) (c .if5 .left))
+    ap (λ (n : ℕ). Next (2 + 4 * n)) (counted (c .before .before .before .before .before .before))
+    ∙ azimuth-next (now (c .before .before .before .before .before .before .before .before .before .before .args .part)) (c .before .before .before .before .before .before .before .before .if1 .left) (some (c .before .before .before .before)) (few (c .before .before .before .before)) (4 * value (now (c .before .before .before .before .before .before .before .before .before .before .args .part))) (whole-next (after (now (c .before .before .before .before .before .before .before .before .before .before .args .part))) (value (now (c .before .before .before .before .before .before .before .before .before .before .args .part))) (some (c .before .before .before .before)) (there (c .before .before .before)) (2 + 4 * c .before .before .before .before .before .before .wide .result - 2) (taken (c .before .before .before)) (c .before .zones-broken .result) (c .before .zones-broken .ensures) (c .if5 .left))
 
 pub check-azimuth-spec : {M : Type 1} → statement M
 check-azimuth-spec =
@@ -134,15 +127,14 @@ check-azimuth-spec =
     (tie.spec
     returns
     fetch16-requires
+    wide-requires
     returns-2
     returns-3
-    wide-requires
     mul-size
     add-size
     sub-cut-zones
     part-cut-zones-start
     part-cut-zones-end
-    wide-requires-2
     cut-zones-requires
     returns-4
     sub-zones-broken

@@ -1,18 +1,25 @@
-use Prim.Native.Nat.{ℕ, _*_, _≤_}
-use denote.Ref.{now}
-use mathlib.Core.Path.{_≡_, sym, ap, _∙_}
-use mathlib.Core.List.{List}
-use lib.ListN.{length, drop}
-use native.Mathlib.Omega.{arith}
-use Rattle.wire.proofs.ListLaws.{part-is}
+use Rattle.filter.proofs.BodyLaws.{segments-found, head-stop, head-long, head-most, segments-stop, segments-fit, body-left, body-next, least-low, body-none, body-found}
+use Rattle.filter.specs.Steps.{runStep, headStep, Finds}
 use Rattle.filter.specs.declared.Step.the-variants.{Next}
-use Rattle.filter.specs.Steps.{runStep, headStep}
+use Rattle.map.specs.Reading.{runSize, azimuthPart, elevationPart}
 use Rattle.map.specs.Map.{azimuths}
-use Rattle.map.specs.Reading.{azimuthPart, elevationPart}
-use Rattle.filter.proofs.BodyLaws.{counted-through, head-stop, head-long, head-most, segments-stop, segments-fit, body-left, body-next}
+use Rattle.wire.specs.Checks.{pick}
+use native.Mathlib.Omega.{arith}
+use lib.ListN.{length, drop}
+use lib.Dec.{ltb}
+use mathlib.Core.List.{List}
+use mathlib.Core.Path.{_≡_, refl, sym, ap, _∙_}
+use denote.Ref.{now}
+use Prim.Native.Nat.{ℕ, _+_, _*_, _≤_}
 use borrow.Author.Needs.{needs}
 use Rattle.filter.proofs.check_body.Statement.{statement}
 use Rattle.filter.proofs.check_body.Tie as tie
+use Rattle.filter.proofs.check_body.Reads as reads
+use Rattle.filter.proofs.check_body.Lts as lts
+use Rattle.filter.proofs.check_head.Reads as check-head-reads
+use Rattle.filter.proofs.find_azimuth.Reads as find-azimuth-reads
+use Rattle.filter.proofs.found_none.Reads as found-none-reads
+use Rattle.filter.proofs.least.Reads as least-reads
 
 -- the three fields passed
 headed : (c : tie.After-count) → Next (c .count .given .0 .0) ≡ headStep (now (c .before .before .before .before .args .body))
@@ -22,74 +29,92 @@ long : (c : tie.After-count) → 6 ≤ length (now (c .before .before .before .b
 long c = head-long (now (c .before .before .before .before .args .body)) (c .count .given .0 .0) (headed c)
 
 -- the elevation segments behind them
-checked : (c : tie.After-check-azimuths) → c .check-azimuths .result ≡ runStep elevationPart (c .before .before .before .count .given .0 .0) (drop 6 (now (c .before .before .before .before .before .before .before .args .body)))
-checked c =
-    let n = c .before .before .before .count .given .0 .0 in
-    let b = now (c .before .before .before .before .before .before .before .args .body) in
-    c .check-azimuths .ensures
-    ∙ ap (λ (l : List ℕ). runStep azimuthPart (n * azimuths) l) (part-is b 6)
-    ∙ counted-through n (drop 6 b)
+walked : (c : tie.After-find-azimuth) → Finds (runStep elevationPart (c .before .before .before .before .count .given .0 .0) (drop 6 (now (c .before .before .before .before .before .before .before .before .args .body)))) (runSize azimuthPart (pick (ltb (c .before .before .before .before .before .before .before .before .args .index) (c .before .before .before .before .count .given .0 .0 * azimuths)) (c .before .before .before .before .before .before .before .before .args .index) (c .before .before .before .before .count .given .0 .0 * azimuths)) (drop 6 (now (c .before .before .before .before .before .before .before .before .args .body)))) (c .find-azimuth .result)
+walked c = segments-found (now (c .before .before .before .before .before .before .before .before .args .body)) (c .before .before .before .before .count .given .0 .0) (c .before .least .result) (pick (ltb (c .before .before .before .before .before .before .before .before .args .index) (c .before .before .before .before .count .given .0 .0 * azimuths)) (c .before .before .before .before .before .before .before .before .args .index) (c .before .before .before .before .count .given .0 .0 * azimuths)) (c .find-azimuth .result) (c .before .least .ensures) (c .find-azimuth .ensures)
 
+-- src/lib.rt:258:11
 check-head-requires : tie.Need-check-head-requires
 check-head-requires c κs = search needs
 
+-- src/lib.rt:259:20
 enum-known-count : tie.Need-enum-known-count
 enum-known-count c = search needs
 
-sub-check-azimuths : tie.Need-sub-check-azimuths
-sub-check-azimuths c = omega (arith, long (c .before))
-
-part-check-azimuths-start : tie.Need-part-check-azimuths-start
-part-check-azimuths-start c = omega (arith, long (c .before))
-
-part-check-azimuths-end : tie.Need-part-check-azimuths-end
-part-check-azimuths-end c = search needs
-
-mul-check-azimuths : tie.Need-mul-check-azimuths
-mul-check-azimuths c =
-    let k = c .before .before in
-    let m = head-most (now (k .before .before .before .before .args .body)) (k .count .given .0 .0) (headed k) in
+-- src/lib.rt:260:23
+mul-all : tie.Need-mul-all
+mul-all c =
+    let m = head-most (now (c .before .before .before .before .before .args .body)) (c .before .count .given .0 .0) (headed (c .before)) in
     record { fits = omega (arith, m) }
 
-check-azimuths-requires : tie.Need-check-azimuths-requires
-check-azimuths-requires c κs = search needs
+-- src/lib.rt:261:38
+sub-find-azimuth : tie.Need-sub-find-azimuth
+sub-find-azimuth c = omega (arith, long (c .before))
 
-enum-known-size : tie.Need-enum-known-size
-enum-known-size c = search needs
+-- src/lib.rt:261:38
+part-find-azimuth-start : tie.Need-part-find-azimuth-start
+part-find-azimuth-start c = omega (arith, long (c .before))
 
+-- src/lib.rt:261:38
+part-find-azimuth-end : tie.Need-part-find-azimuth-end
+part-find-azimuth-end c = search needs
+
+-- src/lib.rt:261:55
+least-requires : tie.Need-least-requires
+least-requires c κs = search needs
+
+-- src/lib.rt:261:17
+find-azimuth-requires : tie.Need-find-azimuth-requires
+find-azimuth-requires c κs = rw (c .least .ensures) (least-low (c .before .before .before .before .before .before .before .args .index) (c .before .before .before .count .given .0 .0 * azimuths))
+
+-- src/lib.rt:265:28
+enum-known-step : tie.Need-enum-known-step
+enum-known-step c = search needs
+
+-- src/lib.rt:266:24
 add-if1 : tie.Need-add-if1
 add-if1 c =
-    let k = c .before .before .before .before .before .before in
-    let b = now (k .before .before .before .before .args .body) in
-    let f = segments-fit b (k .count .given .0 .0) (headed k) (c .before .size .given .0 .0) (sym (c .before .size .given .1) ∙ checked (c .before .before .before)) in
-    record { fits = omega (arith, k .before .before .before .before .good .0 .0, f) }
+    let f = segments-fit (now (c .before .before .before .before .before .before .before .before .before .before .before .args .body)) (c .before .before .before .before .before .before .before .count .given .0 .0) (headed (c .before .before .before .before .before .before .before)) (c .before .step .given .0 .0) (sym (c .before .step .given .1) ∙ walked (c .before .before .before) .checked) in
+    record { fits = omega (arith, c .before .before .before .before .before .before .before .before .before .before .before .good .0 .0, f) }
 
+-- src/lib.rt:267:25
+found-none-requires : tie.Need-found-none-requires
+found-none-requires c κs = search needs
+
+-- src/lib.rt:267:25
 returns : tie.Need-returns
-returns c =
-    let k = c .before .before .before .before .before .before .before in
-    let b = now (k .before .before .before .before .args .body) in
-    body-left b (k .count .given .0 .0) (headed k) (c .before .before .size .given .0 .0) (sym (c .before .before .size .given .1) ∙ checked (c .before .before .before .before)) (c .if1 .taken)
+returns c = body-none (c .before .before .before .before .before .before .before .before .before .before .before .before .before .args .index) (now (c .before .before .before .before .before .before .before .before .before .before .before .before .before .args .body)) _ 23 (c .found-none .ensures) (body-left (now (c .before .before .before .before .before .before .before .before .before .before .before .before .before .args .body)) (c .before .before .before .before .before .before .before .before .before .count .given .0 .0) (headed (c .before .before .before .before .before .before .before .before .before)) (c .before .before .before .step .given .0 .0) (sym (c .before .before .before .step .given .1) ∙ walked (c .before .before .before .before .before) .checked) (c .before .if1 .taken))
 
+-- src/lib.rt:274:28
+enum-known-step-2 : tie.Need-enum-known-step-2
+enum-known-step-2 c = search needs
+
+-- src/lib.rt:274:39
+found-none-requires-2 : tie.Need-found-none-requires-2
+found-none-requires-2 c κs = search needs
+
+-- src/lib.rt:277:20
 enum-known-number : tie.Need-enum-known-number
 enum-known-number c = search needs
 
-enum-known-number-2 : tie.Need-enum-known-number-2
-enum-known-number-2 c = search needs
+-- src/lib.rt:277:31
+found-none-requires-3 : tie.Need-found-none-requires-3
+found-none-requires-3 c κs = search needs
 
+-- src/lib.rt:255:1
 returns-2 : tie.Need-returns-2
 returns-2 c =
-    let k = c .before .before .before .before .before .before .before in
-    let b = now (k .before .before .before .before .args .body) in
-    body-next b (k .count .given .0 .0) (headed k) (c .before .before .size .given .0 .0) (sym (c .before .before .size .given .1) ∙ checked (c .before .before .before .before)) (c .if1 .left)
+    let a = c .before .before .before .before .before .before .before .before .before .before .before .before .args in
+    let m = c .before .before .before .before .before .before .before .before .count .given .0 .0 in
+    body-found (a .index) (now (a .body)) m (c .before .before .before .before .find-azimuth .result .place) (m * azimuths) (body-next (now (c .before .before .before .before .before .before .before .before .before .before .before .before .args .body)) (c .before .before .before .before .before .before .before .before .count .given .0 .0) (headed (c .before .before .before .before .before .before .before .before)) (c .before .before .step .given .0 .0) (sym (c .before .before .step .given .1) ∙ walked (c .before .before .before .before) .checked) (c .if1 .left)) refl
+    (walked (c .before .before .before .before) .placed (c .before .before .step .given .0 .0) (sym (c .before .before .step .given .1) ∙ walked (c .before .before .before .before) .checked))
 
+-- src/lib.rt:255:1
 returns-3 : tie.Need-returns-3
-returns-3 c =
-    let k = c .before .before .before .before .before .before in
-    let b = now (k .before .before .before .before .args .body) in
-    segments-stop b (k .count .given .0 .0) (headed k) (c .before .number .given .0 .0) (sym (c .before .number .given .1) ∙ checked (c .before .before .before))
+returns-3 c = body-none (c .before .before .before .before .before .before .before .before .before .before .before .before .args .index) (now (c .before .before .before .before .before .before .before .before .before .before .before .before .args .body)) _ (c .before .before .step2 .given .0 .0) (c .found-none2 .ensures) (segments-stop (now (c .before .before .before .before .before .before .before .before .before .before .before .before .args .body)) (c .before .before .before .before .before .before .before .before .count .given .0 .0) (headed (c .before .before .before .before .before .before .before .before)) (c .before .before .step2 .given .0 .0) (sym (c .before .before .step2 .given .1) ∙ walked (c .before .before .before .before) .checked))
 
+-- src/lib.rt:255:1
 returns-4 : tie.Need-returns-4
-returns-4 c = head-stop (now (c .before .before .before .before .before .args .body)) (c .before .number2 .given .0 .0) (sym (c .before .number2 .given .1) ∙ c .before .before .before .check-head .ensures)
+returns-4 c = body-none (c .before .before .before .before .before .before .args .index) (now (c .before .before .before .before .before .before .args .body)) _ (c .before .before .number .given .0 .0) (c .found-none3 .ensures) (head-stop (now (c .before .before .before .before .before .before .args .body)) (c .before .before .number .given .0 .0) (sym (c .before .before .number .given .1) ∙ c .before .before .before .before .check-head .ensures))
 
 pub check-body-spec : {M : Type 1} → statement M
 check-body-spec =
@@ -97,16 +122,20 @@ check-body-spec =
     (tie.spec
     check-head-requires
     enum-known-count
-    sub-check-azimuths
-    part-check-azimuths-start
-    part-check-azimuths-end
-    mul-check-azimuths
-    check-azimuths-requires
-    enum-known-size
+    mul-all
+    sub-find-azimuth
+    part-find-azimuth-start
+    part-find-azimuth-end
+    least-requires
+    find-azimuth-requires
+    enum-known-step
     add-if1
+    found-none-requires
     returns
+    enum-known-step-2
+    found-none-requires-2
     enum-known-number
-    enum-known-number-2
+    found-none-requires-3
     returns-2
     returns-3
     returns-4)

@@ -1,38 +1,45 @@
-use Rattle.wire.specs.Answers.{given}
 use denote.Ref.{now}
-use mathlib.Core.Path.{_≡_, sym, ap, _∙_}
-use Rattle.map.specs.Reading.{Summary}
+use mathlib.Core.Path.{sym, ap, _∙_}
 use Rattle.filter.proofs.BodyLaws.{map-stop, map-given}
 use borrow.Author.Needs.{needs}
 use Rattle.filter.proofs.check_map.Statement.{statement}
 use Rattle.filter.proofs.check_map.Tie as tie
+use Rattle.filter.proofs.check_map.Reads as reads
+use Rattle.filter.proofs.check_map.Lts as lts
+use Rattle.filter.proofs.check_body.Reads as check-body-reads
+use Rattle.wire.proofs.fetch16.Reads as fetch16-reads
 
+-- src/lib.rt:285:9
 check-body-requires : tie.Need-check-body-requires
 check-body-requires c κs = search needs
 
+-- src/lib.rt:289:17
 enum-told : tie.Need-enum-told
 enum-told c = search needs
 
+-- src/lib.rt:289:17
 fetch16-requires : tie.Need-fetch16-requires
 fetch16-requires c κs = search needs
 
+-- src/lib.rt:290:17
 fetch16-requires-2 : tie.Need-fetch16-requires-2
 fetch16-requires-2 c κs = search needs
 
+-- src/lib.rt:291:17
 fetch16-requires-3 : tie.Need-fetch16-requires-3
 fetch16-requires-3 c κs = search needs
 
-enum-known-number : tie.Need-enum-known-number
-enum-known-number c = search needs
+-- src/lib.rt:294:20
+enum-known-step : tie.Need-enum-known-step
+enum-known-step c = search needs
 
+-- src/lib.rt:282:1
 returns : tie.Need-returns
-returns c =
-    let s : _≡_ {A = Summary} (record { date = c .before .before .fetch16 .result; minutes = c .before .fetch162 .result; elevations = c .fetch163 .result }) _
-    = λ i. record { date = c .before .before .fetch16 .ensures i; minutes = c .before .fetch162 .ensures i; elevations = c .fetch163 .ensures i } in
-    ap given s ∙ map-given (now (c .before .before .before .before .before .before .before .args .body)) (c .before .before .before .enum-told .given .0 .0) (sym (c .before .before .before .enum-told .given .1) ∙ c .before .before .before .before .before .check-body .ensures)
+returns c = simp (c .fetch163 .ensures, c .before .fetch162 .ensures, c .before .before .fetch16 .ensures) (map-given (now (c .before .before .before .before .before .before .before .args .body)) (c .before .before .before .enum-told .given .0 .0) (sym (c .before .before .before .enum-told .given .1) ∙ c .before .before .before .before .before .check-body .ensures .checked))
 
+-- src/lib.rt:282:1
 returns-2 : tie.Need-returns-2
-returns-2 c = map-stop (now (c .before .before .before .before .before .args .body)) (c .before .number .given .0 .0) (sym (c .before .number .given .1) ∙ c .before .before .before .check-body .ensures)
+returns-2 c = map-stop (now (c .before .before .before .before .before .args .body)) (c .before .step .given .0 .0) (sym (c .before .step .given .1) ∙ c .before .before .before .check-body .ensures .checked)
 
 pub check-map-spec : {M : Type 1} → statement M
 check-map-spec =
@@ -43,6 +50,6 @@ check-map-spec =
     fetch16-requires
     fetch16-requires-2
     fetch16-requires-3
-    enum-known-number
+    enum-known-step
     returns
     returns-2)

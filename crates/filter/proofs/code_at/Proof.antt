@@ -1,122 +1,111 @@
-use Prim.Native.Nat.{ℕ, _+_, _*_, _-_}
-use denote.Ref.{now}
-use mathlib.Core.Path.{_≡_, sym, ap, _∙_, subst}
-use mathlib.Core.List.{List}
-use native.Mathlib.Omega.{arith}
-use Rattle.wire.specs.Answers.{given}
-use Rattle.wire.proofs.ListLaws.{part-is}
-use Rattle.map.specs.Map.{azimuths}
+use Rattle.filter.proofs.BodyLaws.{query-stop, asked-none, asked-high, asked-azimuth, asked-far, place-fits, azimuth-fits, code-given}
+use Rattle.filter.specs.Steps.{bodyStep}
 use Rattle.filter.specs.declared.Step.the-variants.{Next}
-use Rattle.filter.specs.Steps.{bodyStep, PassFits, codeThere}
-use Rattle.filter.proofs.BodyLaws.{query-stop, query-long, query-most, asked-none, asked-high, asked-azimuth, asked-far, asked-fits, asked-given}
+use Rattle.map.specs.Reading.{azimuthPart}
+use Rattle.map.specs.Map.{codeFrom}
+use Rattle.wire.proofs.ListLaws.{part-is}
+use Rattle.wire.specs.Answers.{given}
+use lib.ListN.{length}
+use native.Mathlib.Omega.{arith}
+use mathlib.Core.List.{List}
+use mathlib.Core.Path.{_≡_, sym, ap, _∙_, subst}
+use denote.Ref.{now}
+use Prim.Native.Nat.{ℕ, _+_, _≤_}
 use borrow.Author.Needs.{needs}
 use Rattle.filter.proofs.code_at.Statement.{statement}
 use Rattle.filter.proofs.code_at.Tie as tie
+use Rattle.filter.proofs.code_at.Reads as reads
+use Rattle.filter.proofs.code_at.Lts as lts
+use Rattle.filter.proofs.check_body.Reads as check-body-reads
+use Rattle.filter.proofs.index_of.Reads as index-of-reads
+use Rattle.filter.proofs.zone_code.Reads as zone-code-reads
 
 -- the body passed
-accepted : (c : tie.After-count) → Next (c .count .given .0 .0) ≡ bodyStep (now (c .before .before .before .before .args .body))
-accepted c = sym (c .count .given .1) ∙ c .before .before .check-body .ensures
+accepted : (c : tie.After-step) → Next (c .step .given .0 .0) ≡ bodyStep (now (c .before .before .before .before .before .args .body))
+accepted c = sym (c .step .given .1) ∙ c .before .before .check-body .ensures .checked
 
+-- src/lib.rt:336:34
+index-of-requires : tie.Need-index-of-requires
+index-of-requires c κs = search needs
+
+-- src/lib.rt:336:9
 check-body-requires : tie.Need-check-body-requires
 check-body-requires c κs = search needs
 
-enum-known-count : tie.Need-enum-known-count
-enum-known-count c = search needs
+-- src/lib.rt:340:20
+enum-known-step : tie.Need-enum-known-step
+enum-known-step c = search needs
 
+-- src/lib.rt:342:17
 returns : tie.Need-returns
-returns c =
-    let k = c .before .before in
-    let a = k .before .before .before .before .args in
-    asked-none (now (a .body)) (k .count .given .0 .0) (accepted k) (a .elevation) (a .azimuth) (a .kilometre) (c .if1 .taken)
+returns c = asked-none (now (c .before .before .before .before .before .before .before .args .body)) (c .before .before .step .given .0 .0) (accepted (c .before .before)) (c .before .before .before .before .before .before .before .args .elevation) (c .before .before .before .before .before .before .before .args .azimuth) (c .before .before .before .before .before .before .before .args .kilometre) (c .if1 .taken)
 
+-- src/lib.rt:345:17
 returns-2 : tie.Need-returns-2
-returns-2 c =
-    let k = c .before .before .before in
-    let a = k .before .before .before .before .args in
-    asked-high (now (a .body)) (k .count .given .0 .0) (accepted k) (a .elevation) (a .azimuth) (a .kilometre) (c .before .if1 .left) (c .if2 .taken)
+returns-2 c = asked-high (now (c .before .before .before .before .before .before .before .before .args .body)) (c .before .before .before .step .given .0 .0) (accepted (c .before .before .before)) (c .before .before .before .before .before .before .before .before .args .elevation) (c .before .before .before .before .before .before .before .before .args .azimuth) (c .before .before .before .before .before .before .before .before .args .kilometre) (c .before .if1 .left) (c .if2 .taken)
 
+-- src/lib.rt:348:17
 returns-3 : tie.Need-returns-3
-returns-3 c =
-    let k = c .before .before .before .before in
-    let a = k .before .before .before .before .args in
-    asked-azimuth (now (a .body)) (k .count .given .0 .0) (accepted k) (a .elevation) (a .azimuth) (a .kilometre) (c .before .before .if1 .left) (c .before .if2 .left) (c .if3 .taken)
+returns-3 c = asked-azimuth (now (c .before .before .before .before .before .before .before .before .before .args .body)) (c .before .before .before .before .step .given .0 .0) (accepted (c .before .before .before .before)) (c .before .before .before .before .before .before .before .before .before .args .elevation) (c .before .before .before .before .before .before .before .before .before .args .azimuth) (c .before .before .before .before .before .before .before .before .before .args .kilometre) (c .before .before .if1 .left) (c .before .if2 .left) (c .if3 .taken)
 
+-- src/lib.rt:351:17
 returns-4 : tie.Need-returns-4
-returns-4 c =
-    let k = c .before .before .before .before .before in
-    let a = k .before .before .before .before .args in
-    asked-far (now (a .body)) (k .count .given .0 .0) (accepted k) (a .elevation) (a .azimuth) (a .kilometre) (c .before .before .before .if1 .left) (c .before .before .if2 .left) (c .before .if3 .left) (c .if4 .taken)
+returns-4 c = asked-far (now (c .before .before .before .before .before .before .before .before .before .before .args .body)) (c .before .before .before .before .before .step .given .0 .0) (accepted (c .before .before .before .before .before)) (c .before .before .before .before .before .before .before .before .before .before .args .elevation) (c .before .before .before .before .before .before .before .before .before .before .args .azimuth) (c .before .before .before .before .before .before .before .before .before .before .args .kilometre) (c .before .before .before .if1 .left) (c .before .before .if2 .left) (c .before .if3 .left) (c .if4 .taken)
 
-sub-index : tie.Need-sub-index
-sub-index c = search needs
+-- src/lib.rt:353:25
+add-start : tie.Need-add-start
+add-start c = record { fits = omega (arith, place-fits (now (c .before .before .before .before .before .before .before .before .before .before .args .body)) (c .before .before .before .before .before .step .given .0 .0) (accepted (c .before .before .before .before .before)) (c .before .before .before .before .before .before .before .before .before .before .args .elevation) (c .before .before .before .before .before .before .before .before .before .before .args .azimuth) (c .before .before .before .before .before .before .before .before .before .before .args .kilometre) (c .before .before .before .if1 .left) (c .before .before .if2 .left) (c .before .if3 .left) (c .before .before .before .before .before .before .before .before .index-of .result) (c .before .before .before .before .before .before .before .check-body .result .place) (c .before .before .before .before .before .before .before .before .index-of .ensures) (c .before .before .before .before .before .before .before .check-body .ensures .placed (c .before .before .before .before .before .step .given .0 .0) (accepted (c .before .before .before .before .before))), c .before .before .before .before .before .before .before .before .before .before .good .0 .0) }
 
-mul-index : tie.Need-mul-index
-mul-index c =
-    let k = c .before .before .before .before .before in
-    let a = k .before .before .before .before .args in
-    record { fits = omega (arith, query-most (now (a .body)) (k .count .given .0 .0) (accepted k), (c .before .before .if2 .left)) }
+-- src/lib.rt:354:40
+sub-zone-code : tie.Need-sub-zone-code
+sub-zone-code c = place-fits (now (c .before .before .before .before .before .before .before .before .before .before .args .body)) (c .before .before .before .before .before .step .given .0 .0) (accepted (c .before .before .before .before .before)) (c .before .before .before .before .before .before .before .before .before .before .args .elevation) (c .before .before .before .before .before .before .before .before .before .before .args .azimuth) (c .before .before .before .before .before .before .before .before .before .before .args .kilometre) (c .before .before .before .if1 .left) (c .before .before .if2 .left) (c .before .if3 .left) (c .before .before .before .before .before .before .before .before .index-of .result) (c .before .before .before .before .before .before .before .check-body .result .place) (c .before .before .before .before .before .before .before .before .index-of .ensures) (c .before .before .before .before .before .before .before .check-body .ensures .placed (c .before .before .before .before .before .step .given .0 .0) (accepted (c .before .before .before .before .before)))
 
-add-index : tie.Need-add-index
-add-index c =
-    let k = c .before .before .before .before .before in
-    let a = k .before .before .before .before .args in
-    record { fits = omega (arith, query-most (now (a .body)) (k .count .given .0 .0) (accepted k), (c .before .before .if2 .left), (c .before .if3 .left)) }
+-- src/lib.rt:354:40
+part-zone-code-start : tie.Need-part-zone-code-start
+part-zone-code-start c = omega (arith, place-fits (now (c .before .before .before .before .before .before .before .before .before .before .args .body)) (c .before .before .before .before .before .step .given .0 .0) (accepted (c .before .before .before .before .before)) (c .before .before .before .before .before .before .before .before .before .before .args .elevation) (c .before .before .before .before .before .before .before .before .before .before .args .azimuth) (c .before .before .before .before .before .before .before .before .before .before .args .kilometre) (c .before .before .before .if1 .left) (c .before .before .if2 .left) (c .before .if3 .left) (c .before .before .before .before .before .before .before .before .index-of .result) (c .before .before .before .before .before .before .before .check-body .result .place) (c .before .before .before .before .before .before .before .before .index-of .ensures) (c .before .before .before .before .before .before .before .check-body .ensures .placed (c .before .before .before .before .before .step .given .0 .0) (accepted (c .before .before .before .before .before))))
 
-sub-azimuth-code : tie.Need-sub-azimuth-code
-sub-azimuth-code c =
-    let k = c .before .before .before .before .before in
-    let a = k .before .before .before .before .args in
-    omega (arith, query-long (now (a .body)) (k .count .given .0 .0) (accepted k))
+-- src/lib.rt:354:40
+part-zone-code-end : tie.Need-part-zone-code-end
+part-zone-code-end c = search needs
 
-part-azimuth-code-start : tie.Need-part-azimuth-code-start
-part-azimuth-code-start c =
-    let k = c .before .before .before .before .before in
-    let a = k .before .before .before .before .args in
-    omega (arith, query-long (now (a .body)) (k .count .given .0 .0) (accepted k))
+-- src/lib.rt:354:30
+zone-code-requires : tie.Need-zone-code-requires
+zone-code-requires c κs =
+    subst (λ (x : List ℕ). azimuthPart .size x ≤ length x) (sym (part-is (now (c .before .before .before .before .before .before .before .before .before .before .before .args .body)) (6 + c .before .before .before .before .before .before .before .before .check-body .result .place)))
+    (azimuth-fits (now (c .before .before .before .before .before .before .before .before .before .before .before .args .body)) (c .before .before .before .before .before .before .step .given .0 .0) (accepted (c .before .before .before .before .before .before)) (c .before .before .before .before .before .before .before .before .before .before .before .args .elevation) (c .before .before .before .before .before .before .before .before .before .before .before .args .azimuth) (c .before .before .before .before .before .before .before .before .before .before .before .args .kilometre) (c .before .before .before .before .if1 .left) (c .before .before .before .if2 .left) (c .before .before .if3 .left) (c .before .before .before .before .before .before .before .before .before .index-of .result) (c .before .before .before .before .before .before .before .before .check-body .result .place) (c .before .before .before .before .before .before .before .before .before .index-of .ensures) (c .before .before .before .before .before .before .before .before .check-body .ensures .placed (c .before .before .before .before .before .before .step .given .0 .0) (accepted (c .before .before .before .before .before .before))))
 
-part-azimuth-code-end : tie.Need-part-azimuth-code-end
-part-azimuth-code-end c = search needs
+-- src/lib.rt:356:20
+enum-known-step-2 : tie.Need-enum-known-step-2
+enum-known-step-2 c = search needs
 
-azimuth-code-requires : tie.Need-azimuth-code-requires
-azimuth-code-requires c κs =
-    let k = c .before .before .before .before .before .before in
-    let a = k .before .before .before .before .args in
-    subst (λ (x : List ℕ). PassFits ((a .elevation - 1) * azimuths + a .azimuth) x) (sym (part-is (now (a .body)) 6))
-    (asked-fits (now (a .body)) (k .count .given .0 .0) (accepted k) (a .elevation) (a .azimuth) (a .kilometre) (c .before .before .before .before .if1 .left) (c .before .before .before .if2 .left) (c .before .before .if3 .left))
-
-enum-known-number : tie.Need-enum-known-number
-enum-known-number c = search needs
-
+-- src/lib.rt:333:1
 returns-5 : tie.Need-returns-5
 returns-5 c =
-    let k = c .before .before .before .before .before .before .before in
-    let a = k .before .before .before .before .args in
-    ap given
-    (c .azimuth-code .ensures ∙ ap (λ (x : List ℕ). codeThere ((a .elevation - 1) * azimuths + a .azimuth) (a .kilometre) x) (part-is (now (a .body)) 6))
-    ∙ asked-given (now (a .body)) (k .count .given .0 .0) (accepted k) (a .elevation) (a .azimuth) (a .kilometre) (c .before .before .before .before .before .if1 .left) (c .before .before .before .before .if2 .left) (c .before .before .before .if3 .left) (c .before .before .if4 .left)
+    ap given (c .zone-code .ensures ∙ ap (λ (x : List ℕ). codeFrom 0 (azimuthPart .read x) (c .before .before .before .before .before .before .before .before .before .before .before .before .args .kilometre)) (part-is (now (c .before .before .before .before .before .before .before .before .before .before .before .before .args .body)) (6 + c .before .before .before .before .before .before .before .before .before .check-body .result .place)))
+    ∙ code-given (now (c .before .before .before .before .before .before .before .before .before .before .before .before .args .body)) (c .before .before .before .before .before .before .before .step .given .0 .0) (accepted (c .before .before .before .before .before .before .before)) (c .before .before .before .before .before .before .before .before .before .before .before .before .args .elevation) (c .before .before .before .before .before .before .before .before .before .before .before .before .args .azimuth) (c .before .before .before .before .before .before .before .before .before .before .before .before .args .kilometre) (c .before .before .before .before .before .if1 .left) (c .before .before .before .before .if2 .left) (c .before .before .before .if3 .left) (c .before .before .before .before .before .before .before .before .before .before .index-of .result) (c .before .before .before .before .before .before .before .before .before .check-body .result .place) (c .before .before .before .before .before .before .before .before .before .before .index-of .ensures) (c .before .before .before .before .before .before .before .before .before .check-body .ensures .placed (c .before .before .before .before .before .before .before .step .given .0 .0) (accepted (c .before .before .before .before .before .before .before))) (c .before .before .if4 .left)
 
+-- src/lib.rt:333:1
 returns-6 : tie.Need-returns-6
 returns-6 c =
-    let a = c .before .before .before .before .before .args in
-    query-stop (now (a .body)) (a .elevation) (a .azimuth) (a .kilometre) (c .before .number .given .0 .0) (sym (c .before .number .given .1) ∙ c .before .before .before .check-body .ensures)
+    let a = c .before .before .before .before .before .before .args in
+    query-stop (now (a .body)) (a .elevation) (a .azimuth) (a .kilometre) (c .before .step2 .given .0 .0) (sym (c .before .step2 .given .1) ∙ c .before .before .before .check-body .ensures .checked)
 
 pub code-at-spec : {M : Type 1} → statement M
 code-at-spec =
     tie.close
     (tie.spec
+    index-of-requires
     check-body-requires
-    enum-known-count
+    enum-known-step
     returns
     returns-2
     returns-3
     returns-4
-    sub-index
-    mul-index
-    add-index
-    sub-azimuth-code
-    part-azimuth-code-start
-    part-azimuth-code-end
-    azimuth-code-requires
-    enum-known-number
+    add-start
+    sub-zone-code
+    part-zone-code-start
+    part-zone-code-end
+    zone-code-requires
+    enum-known-step-2
     returns-5
     returns-6)
