@@ -1,28 +1,22 @@
 -- A walk of checked parts: a part that stops, stops the walk; after a part that passes the walk goes on behind it. Assumes nothing.
 use Prim.Native.Nat.{ℕ, zero, suc, _+_, _*_, _-_, _≤_, _<_}
 use native.Mathlib.Nat.{add-zero, zero-add, add-assoc}
-use native.Mathlib.Numerals.{add-one}
 use native.Mathlib.Omega.{arith}
 use mathlib.Core.Path.{_≡_, refl, sym, ap, _∙_}
-use mathlib.Core.Bool.{true, false}
 use mathlib.Core.Option.{none, some}
 use mathlib.Core.List.{List, _++_}
-use lib.Dec.{ltb}
 use lib.ListN.{length, drop, length-drop}
 use lib.Seq.{drop-drop}
 use borrow.Author.Tests.{lt-ltb, le-ltb}
-use Rattle.wire.specs.Numbers.{fetched}
 use Rattle.wire.specs.Checks.{Check, decide, first, AllHold}
 use Rattle.wire.proofs.CheckLaws.{never, passed, stopped, decide-append, decide-none, decide-some, all-hold}
-use Rattle.map.specs.Map.{mostCode, mostZones}
-use Rattle.map.specs.Reading.{value, after, endBroken, zoneChecks, zonesChecks, Part, runSize, runChecks, azimuthPart}
+use Rattle.map.specs.Map.{mostZones}
+use Rattle.map.specs.Reading.{value, after, zonesChecks, Part, runSize, runChecks, azimuthPart}
 use Rattle.map.proofs.Runs.{run-add, checks-add, run-long}
-use Rattle.map.proofs.Accepted.{zones-long}
 use Rattle.filter.specs.declared.Found.{Found}
 use Rattle.filter.specs.declared.Step.{Step}
 use Rattle.filter.specs.declared.Step.the-variants.{Next, Stop}
-use Rattle.filter.specs.Steps.{stepBy, zoneStep, zonesStep, partStep, runStep, Finds}
-use Rattle.filter.proofs.PartLaws.{cut-off, in-full, fetched-value, next-cut-off, next-in-full, next-value, next-rest}
+use Rattle.filter.specs.Steps.{stepBy, zonesStep, partStep, runStep, Finds}
 
 -- ---- one part
 pub step-first : (ks : List Check) (n k : ℕ) → stepBy ks n ≡ Stop k → first ks ≡ some k
@@ -39,73 +33,8 @@ module _ (ks rest : List Check) (n : ℕ) (end : Step) where
   pub part-passes : (m : ℕ) → stepBy ks n ≡ Next m → decide (ks ++ rest) Stop end ≡ decide rest Stop end
   part-passes m e = decide-append ks rest Stop end ∙ decide-none ks Stop (decide rest Stop end) (step-none ks n m e .0)
 
--- ---- one zone, by its fetches
-module _ (b : List ℕ) (p left from : ℕ) where
-  pub zone-cut : length b < p + 2 → Stop 23 ≡ zoneStep left from (drop p b)
-  zone-cut h = simp (cut-off b p h)
-
-  pub zone-code : p + 2 ≤ length b → mostCode < fetched 2 b p → Stop 24 ≡ zoneStep left from (drop p b)
-  zone-code h c =
-      let v : mostCode < value (drop p b) = rw (← fetched-value b p h) c in
-      simp (in-full b p h, lt-ltb mostCode (value (drop p b)) v)
-
-  module _ (h : p + 2 ≤ length b) (c : fetched 2 b p ≤ mostCode) where
-    code-fine : ltb mostCode (value (drop p b)) ≡ false
-    code-fine = let v : value (drop p b) ≤ mostCode = rw (← fetched-value b p h) c in le-ltb mostCode (value (drop p b)) v
-
-    pub zone-cut-end : length b < p + 4 → Stop 23 ≡ zoneStep left from (drop p b)
-    zone-cut-end k = simp (in-full b p h, code-fine, next-cut-off b p k)
-
-    pub zone-end : p + 4 ≤ length b → endBroken left from (fetched 2 b (p + 2)) ≡ true → Stop 24 ≡ zoneStep left from (drop p b)
-    zone-end k e =
-        let w : endBroken left from (value (after (drop p b))) ≡ true = rw (← next-value b p k) e in
-        simp (in-full b p h, code-fine, next-in-full b p k, w)
-
-    pub zone-next : p + 4 ≤ length b → endBroken left from (fetched 2 b (p + 2)) ≡ false
-        → Next (fetched 2 b (p + 2) + 1) ≡ zoneStep left from (drop p b)
-    zone-next k e =
-        let w : endBroken left from (value (after (drop p b))) ≡ false = rw (← next-value b p k) e in
-        let n : fetched 2 b (p + 2) + 1 ≡ suc (value (after (drop p b))) = add-one (fetched 2 b (p + 2)) ∙ ap suc (next-value b p k) in
-        simp (in-full b p h, code-fine, next-in-full b p k, w) (ap Next n)
-
--- ---- zones
-zones-turn′ : (l at from : ℕ) (b : List ℕ) (end : Step) (m : ℕ) → zoneStep l from (drop at b) ≡ Next m
-    → decide (zonesChecks (suc l) from (drop at b)) Stop end ≡ decide (zonesChecks l m (drop (at + 4) b)) Stop end
-unfolding zonesChecks
-zones-turn′ l at from b end m e =
-    let d = drop at b in
-    let v = suc (value (after d)) in
-    part-passes (zoneChecks l from d) (zonesChecks l v (after (after d))) v end m e
-    ∙ ap (λ (k : ℕ). decide (zonesChecks l k (after (after d))) Stop end) (step-none (zoneChecks l from d) v m e .1)
-    ∙ ap (λ (x : List ℕ). decide (zonesChecks l m x) Stop end) (next-rest b at)
-
-zones-stop′ : (l at from : ℕ) (b : List ℕ) (end : Step) (k : ℕ) → zoneStep l from (drop at b) ≡ Stop k
-    → decide (zonesChecks (suc l) from (drop at b)) Stop end ≡ Stop k
-unfolding zonesChecks
-zones-stop′ l at from b end k e =
-    let d = drop at b in
-    part-stops (zoneChecks l from d) (zonesChecks l (suc (value (after d))) (after (after d))) (suc (value (after d))) end k e
-
 pub less-one : (l : ℕ) → suc l - 1 ≡ l
 less-one l = omega arith
-
-pub zones-turn : (left at from : ℕ) (b : List ℕ) (end : Step) (m : ℕ) → 0 < left → Next m ≡ zoneStep (left - 1) from (drop at b)
-    → decide (zonesChecks (left - 1) m (drop (at + 4) b)) Stop end ≡ decide (zonesChecks left from (drop at b)) Stop end
-zones-turn zero at from b end m h e = absurd (omega arith)
-zones-turn (suc l) at from b end m h e =
-    let f : zoneStep l from (drop at b) ≡ Next m = sym (e ∙ ap (λ (k : ℕ). zoneStep k from (drop at b)) (less-one l)) in
-    ap (λ (k : ℕ). decide (zonesChecks k m (drop (at + 4) b)) Stop end) (less-one l) ∙ sym (zones-turn′ l at from b end m f)
-
-pub zones-stop : (left at from : ℕ) (b : List ℕ) (end : Step) (k : ℕ) → 0 < left → Stop k ≡ zoneStep (left - 1) from (drop at b)
-    → Stop k ≡ decide (zonesChecks left from (drop at b)) Stop end
-zones-stop zero at from b end k h e = absurd (omega arith)
-zones-stop (suc l) at from b end k h e =
-    sym (zones-stop′ l at from b end k (sym (e ∙ ap (λ (n : ℕ). zoneStep n from (drop at b)) (less-one l))))
-
-pub zones-done : (left from : ℕ) (b : List ℕ) (end : Step) → left ≤ 0 → end ≡ decide (zonesChecks left from b) Stop end
-unfolding zonesChecks
-zones-done zero from b end h = refl
-zones-done (suc l) from b end h = absurd (omega arith)
 
 -- ---- one azimuth
 module _ (b : List ℕ) where
@@ -180,16 +109,6 @@ module _ {A : Type 0} (part : Part A) where
       let p = step-none (part .checks d) (part .size d) m (sym e) in
       let l : part .size d ≤ length b - at = rw (← length-drop at b) (long d (all-hold (part .checks d) (p .0))) in
       omega (arith, p .1)
-
--- ---- how many bytes zones take
-pub zones-size : (count : ℕ) (b : List ℕ) (n : ℕ) → Next n ≡ zonesStep count b → n ≡ 4 * count
-zones-size count b n e = sym (step-none (zonesChecks count 0 b) (4 * count) n (sym e) .1)
-
--- zones that pass are all there
-pub zones-cut : (count : ℕ) (b : List ℕ) (n : ℕ) → length b < 4 * count → Next n ≡ zonesStep count b → ⊥
-zones-cut count b n h e =
-    let l = zones-long count 0 b (all-hold (zonesChecks count 0 b) (step-none (zonesChecks count 0 b) (4 * count) n (sym e) .0)) in
-    omega (arith, l)
 
 -- ---- a run in two parts, the second from where the first one ends
 module _ {A : Type 0} (part : Part A) (count index : ℕ) (b : List ℕ) (inside : index ≤ count) where

@@ -1,14 +1,13 @@
 -- What the inner functions answer for a part of a body: how far it reaches, or its refusal.
-use Prim.Native.Nat.{ℕ, zero, suc, _+_, _*_, _-_, _≤_}
+use Prim.Native.Nat.{ℕ, zero, suc, _+_, _*_, _-_, _≤_, _<_}
 use mathlib.Core.Path.{_≡_}
-use mathlib.Core.Bool.{Bool, not}
 use mathlib.Core.List.{List}
 use lib.Dec.{ltb, leb, eqb}
 use lib.ListN.{length, drop}
 use Rattle.wire.specs.Numbers.{num}
-use Rattle.wire.specs.Checks.{pick, either, Check, decide}
-use Rattle.map.specs.Map.{mostElevations, azimuths, mostCode, lastKilometre, codeFrom}
-use Rattle.map.specs.Reading.{value, after, zoneChecks, zonesChecks, Part, runSize, runChecks, azimuthPart, segmentsIn, headChecks, mapChecks}
+use Rattle.wire.specs.Checks.{pick, Check, decide}
+use Rattle.map.specs.Map.{mostElevations, azimuths, mostCode, codeFrom}
+use Rattle.map.specs.Reading.{value, zonesChecks, Part, runSize, runChecks, azimuthPart, segmentsIn, headChecks, mapChecks}
 use Rattle.filter.specs.declared.Found.{Found}
 use Rattle.filter.specs.declared.Step.{Step}
 use Rattle.filter.specs.declared.Step.the-variants.{Next, Stop}
@@ -16,19 +15,23 @@ use Rattle.filter.specs.declared.Step.the-variants.{Next, Stop}
 abbrev pub stepBy : List Check → ℕ → Step
 stepBy ks n = decide ks Stop (Next n)
 
--- one zone: the least end that the next one may have
-abbrev pub zoneStep : ℕ → ℕ → List ℕ → Step
-zoneStep left from b = stepBy (zoneChecks left from b) (suc (value (after b)))
-
 -- so many zones: the bytes that they take
 abbrev pub zonesStep : ℕ → List ℕ → Step
 zonesStep count b = stepBy (zonesChecks count 0 b) (4 * count)
 
--- so many zones from a place p on, all of them there: a code is above 2, an end is below `from`, which rises, or the last one is not 511
-abbrev pub notRising : ℕ → ℕ → List ℕ → ℕ → Bool
-notRising zero from b p = not (eqb from (suc lastKilometre))
-notRising (suc left) from b p =
-    either (ltb mostCode (num 2 b p)) (either (ltb (num 2 b (p + 2)) from) (notRising left (suc (num 2 b (p + 2))) b (p + 4)))
+-- so many zones from a place p on, all of them there: the least end that the next one may have, or one that no zone may have where a code is
+-- above 2 or an end is below `from`, which rises
+abbrev pub noEnd : ℕ
+noEnd = 513
+
+abbrev pub nextEnd : ℕ → ℕ → List ℕ → ℕ → ℕ
+nextEnd zero from b p = from
+nextEnd (suc left) from b p =
+    pick (ltb mostCode (num 2 b p)) noEnd (pick (ltb (num 2 b (p + 2)) from) noEnd (nextEnd left (suc (num 2 b (p + 2))) b (p + 4)))
+
+-- the number of refusal of zones of which the last are not all there, however many there are to be
+abbrev pub CutOff : List ℕ → ℕ → Type 0
+CutOff b r = (count : ℕ) → length b < 4 * count → Stop r ≡ zonesStep count b
 
 -- an azimuth or an elevation segment, and so many of them: the bytes that they take
 abbrev pub partStep : {A : Type 0} → Part A → List ℕ → Step

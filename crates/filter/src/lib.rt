@@ -1,15 +1,16 @@
 // Message 15, the clutter filter map: a body is checked in one pass, which also tells where the azimuth asked for begins.
 use wire::refusal;
 ghost use mathlib.Core.Path.{_≡_};
-ghost use Prim.Native.Nat.{_+_, _*_, _/_, _≤_, _<_};
+ghost use Prim.Native.Nat.{_+_, _*_, _/_, _≤_};
 ghost use lib.Dec.{ltb};
 ghost use lib.ListN.{length, drop};
+ghost use Rattle.wire.specs.Numbers.{fetched};
 ghost use Rattle.wire.specs.Checks.{pick};
-ghost use Rattle.map.specs.Map.{mostZones, codeFrom};
-ghost use Rattle.map.specs.Reading.{endBroken, runSize, azimuthPart, summaryOf, codeOf};
+ghost use Rattle.map.specs.Map.{mostCode, mostZones, codeFrom};
+ghost use Rattle.map.specs.Reading.{runSize, azimuthPart, summaryOf, codeOf};
 ghost use Rattle.filter.specs.Answers.{tellMap, tellCode};
 ghost use Rattle.filter.specs.declared.Step.the-variants.{Stop};
-ghost use Rattle.filter.specs.Steps.{zoneStep, zonesStep, notRising, partStep, runStep, headStep, Finds, BodyFinds, indexOf};
+ghost use Rattle.filter.specs.Steps.{nextEnd, CutOff, partStep, runStep, headStep, Finds, BodyFinds, indexOf};
 
 const MOST_MINUTES: u16 = 1440;
 
@@ -22,6 +23,9 @@ const MOST_ZONES: usize = 20;
 const MOST_CODE: u16 = 2;
 
 const LAST_KILOMETRE: usize = 511;
+
+// Above every end that a zone may have, and above the one that follows the last.
+const NO_END: usize = 513;
 
 // A checked map's date, minutes and number of elevation segments, or the number of refusal.
 pub enum MapAnswer {
@@ -47,101 +51,55 @@ struct Found {
     place: usize,
 }
 
-// Whether an end is out of range, does not rise, or is the last and not 511.
-fn end_broken(left: usize, from: usize, end: usize) -> bool
-    ensures { λ r. ⌜ r ≡ endBroken left from end ⌝ }
-{
-    if LAST_KILOMETRE < end {
-        return true;
-    }
-    if end < from {
-        return true;
-    }
-    if left == 0 {
-        return end != LAST_KILOMETRE;
-    }
-    false
-}
-
 fn wide(x: u16) -> usize
     ensures { λ r. ⌜ r ≡ x ⌝ }
 {
     x as usize
 }
 
-// The zone at a place, with so many zones left after it, whose end is to be `from` or more.
-fn check_zone(part: &[u8], at: u32, left: usize, from: usize) -> Step
-    requires { ⌜ at ≤ 4 * mostZones ⌝ }
-    ensures { λ r. ⌜ r ≡ zoneStep left from (drop at (now (part .entry))) ⌝ }
+// Whether the code at a place is out of range. One that is cut off is not.
+fn code_broken(zones: &[u8], at: u32) -> bool
+    ensures { λ r. ⌜ r ≡ ltb mostCode (fetched 2 (now (zones .entry)) at) ⌝ }
 {
-    let place = at as usize;
-    if part.len() < place + 2 {
-        return Step::Stop(refusal::LENGTH);
-    }
-    if MOST_CODE < wire::fetch16(part, at) {
-        return Step::Stop(refusal::FIELD);
-    }
-    if part.len() < place + 4 {
-        return Step::Stop(refusal::LENGTH);
-    }
-    let end = wide(wire::fetch16(part, at + 2));
-    if end_broken(left, from, end) {
-        return Step::Stop(refusal::FIELD);
-    }
-    Step::Next(end + 1)
+    MOST_CODE < wire::fetch16(zones, at)
 }
 
-// So many zones from the part's start.
-fn check_zones(part: &[u8], count: usize) -> Step
-    requires { ⌜ count ≤ mostZones ⌝ }
-    ensures { λ r. ⌜ r ≡ zonesStep count (now (part .entry)) ⌝ }
-{
-    let mut left = count;
-    let mut at: u32 = 0;
-    let mut from: usize = 0;
-    while 0 < left {
-        match check_zone(part, at, left - 1, from) {
-            Step::Next(next) => {
-                from = next;
-                at += 4;
-                left -= 1;
-            }
-            Step::Stop(number) => return Step::Stop(number),
-        }
-    }
-    Step::Next(at as usize)
-}
-
-// The number of refusal of zones of which the last are not all there.
-fn cut_zones(part: &[u8], count: usize) -> u8
-    requires { ⌜ (count ≤ mostZones) × (length (now part) < 4 * count) ⌝ }
-    ensures { λ r. ⌜ Stop r ≡ zonesStep count (now (part .entry)) ⌝ }
-{
-    match check_zones(part, count) {
-        Step::Next(_) => refusal::LENGTH,
-        Step::Stop(number) => number,
-    }
-}
-
-// Whether zones that are all there break a rule: each breach has the same number, and ends that rise to 511 are none above it.
-fn zones_broken(zones: &[u8]) -> bool
+// The least end that a zone after the zones that are all there may have, or one that no zone may have where a code is out of range or
+// an end does not rise. Ends that rise to 511 are none above it, so that is asked once, at the last.
+fn next_end(zones: &[u8]) -> usize
     requires { ⌜ length (now zones) ≤ 4 * mostZones ⌝ }
-    ensures { λ r. ⌜ r ≡ notRising (length (now (zones .entry)) / 4) 0 (now (zones .entry)) 0 ⌝ }
+    ensures { λ r. ⌜ r ≡ nextEnd (length (now (zones .entry)) / 4) 0 (now (zones .entry)) 0 ⌝ }
 {
     let mut at: u32 = 0;
     let mut from: usize = 0;
     while at as usize + 4 <= zones.len() {
-        if MOST_CODE < wire::fetch16(zones, at) {
-            return true;
+        if code_broken(zones, at) {
+            return NO_END;
         }
         let end = wide(wire::fetch16(zones, at + 2));
         if end < from {
-            return true;
+            return NO_END;
         }
         from = end + 1;
         at += 4;
     }
-    from != LAST_KILOMETRE + 1
+    from
+}
+
+// The number of refusal of zones of which the last are not all there, however many there are to be.
+fn cut_zones(zones: &[u8]) -> u8
+    requires { ⌜ length (now zones) ≤ 4 * mostZones ⌝ }
+    ensures { λ r. ⌜ CutOff (now (zones .entry)) r ⌝ }
+{
+    let cut = refusal::LENGTH;
+    if LAST_KILOMETRE + 1 < next_end(zones) {
+        return refusal::FIELD;
+    }
+    let at = zones.len() / 4 * 4;
+    if code_broken(zones, at as u32) {
+        return refusal::FIELD;
+    }
+    cut
 }
 
 // The azimuth that the part begins with: its zone count, and its zones.
@@ -160,9 +118,9 @@ fn check_azimuth(part: &[u8]) -> Step
     }
     let size = 2 + 4 * count;
     if part.len() < size {
-        return Step::Stop(cut_zones(&part[2..], count));
+        return Step::Stop(cut_zones(&part[2..]));
     }
-    if zones_broken(&part[2..size]) {
+    if next_end(&part[2..size]) != LAST_KILOMETRE + 1 {
         return Step::Stop(refusal::FIELD);
     }
     Step::Next(size)

@@ -18,8 +18,8 @@ use Rattle.filter.proofs.check_azimuth.Tie as tie
 use Rattle.filter.proofs.check_azimuth.Reads as reads
 use Rattle.filter.proofs.check_azimuth.Lts as lts
 use Rattle.filter.proofs.cut_zones.Reads as cut-zones-reads
+use Rattle.filter.proofs.next_end.Reads as next-end-reads
 use Rattle.filter.proofs.wide.Reads as wide-reads
-use Rattle.filter.proofs.zones_broken.Reads as zones-broken-reads
 use Rattle.wire.proofs.fetch16.Reads as fetch16-reads
 
 -- the zone count
@@ -39,87 +39,93 @@ there c = rw length-drop (omega (arith, counted (c .before .before .before), c .
 taken : (c : tie.Else4) → 2 + 4 * c .before .before .before .wide .result - 2 ≡ 4 * value (now (c .before .before .before .before .before .before .before .args .part))
 taken c = omega (arith, counted (c .before .before .before))
 
--- src/lib.rt:152:9
+-- and where they are not
+short : (c : tie.Then4) → length (take (length (now (c .before .before .before .before .before .before .before .args .part)) - 2) (drop 2 (now (c .before .before .before .before .before .before .before .args .part)))) < 4 * value (now (c .before .before .before .before .before .before .before .args .part))
+short c = rw (part-is (now (c .before .before .before .before .before .before .before .args .part)) 2, length-drop) (omega (arith, counted (c .before .before .before), c .if4 .taken))
+
+-- src/lib.rt:110:9
 returns : tie.Need-returns
 returns c = azimuth-cut (now (c .before .before .args .part)) (c .if1 .taken)
 
--- src/lib.rt:154:22
+-- src/lib.rt:112:22
 fetch16-requires : tie.Need-fetch16-requires
 fetch16-requires c κs = search needs
 
--- src/lib.rt:154:9
+-- src/lib.rt:112:9
 wide-requires : tie.Need-wide-requires
 wide-requires c κs = search needs
 
--- src/lib.rt:156:9
+-- src/lib.rt:114:9
 returns-2 : tie.Need-returns-2
 returns-2 c = azimuth-none (now (c .before .before .before .before .before .args .part)) (c .before .before .before .if1 .left) (subst (λ (n : ℕ). n < 1) (counted (c .before)) (c .if2 .taken))
 
--- src/lib.rt:159:9
+-- src/lib.rt:117:9
 returns-3 : tie.Need-returns-3
 returns-3 c =
     azimuth-many (now (c .before .before .before .before .before .before .args .part)) (c .before .before .before .before .if1 .left) (subst (λ (n : ℕ). 1 ≤ n) (counted (c .before .before)) (c .before .if2 .left))
     (subst (λ (n : ℕ). mostZones < n) (counted (c .before .before)) (c .if3 .taken))
 
--- src/lib.rt:161:20
+-- src/lib.rt:119:20
 mul-size : tie.Need-mul-size
 mul-size c = search needs
 
--- src/lib.rt:161:16
+-- src/lib.rt:119:16
 add-size : tie.Need-add-size
 add-size c = search needs
 
--- src/lib.rt:163:37
+-- src/lib.rt:121:37
 sub-cut-zones : tie.Need-sub-cut-zones
 sub-cut-zones c = search needs
 
--- src/lib.rt:163:37
+-- src/lib.rt:121:37
 part-cut-zones-start : tie.Need-part-cut-zones-start
 part-cut-zones-start c = search needs
 
--- src/lib.rt:163:37
+-- src/lib.rt:121:37
 part-cut-zones-end : tie.Need-part-cut-zones-end
 part-cut-zones-end c = search needs
 
--- src/lib.rt:163:27
+-- src/lib.rt:121:27
 cut-zones-requires : tie.Need-cut-zones-requires
 cut-zones-requires c κs = search needs
 
--- src/lib.rt:163:9
+-- src/lib.rt:121:9
 returns-4 : tie.Need-returns-4
 returns-4 c =
     let b = now (c .before .before .before .before .before .before .before .before .before .args .part) in
     azimuth-stop b (c .before .before .before .before .before .before .before .if1 .left) (some (c .before .before .before)) (few (c .before .before .before)) (c .cut-zones .result)
-    (c .cut-zones .ensures
-    ∙ ap (λ (n : ℕ). zonesStep n (take (length b - 2) (drop 2 b))) (counted (c .before .before .before .before .before))
-    ∙ ap (λ (l : List ℕ). zonesStep (value b) l) (part-is b 2))
+    (c .cut-zones .ensures (value b) (short (c .before .before)) ∙ ap (λ (l : List ℕ). zonesStep (value b) l) (part-is b 2))
 
--- src/lib.rt:165:21
-sub-zones-broken : tie.Need-sub-zones-broken
-sub-zones-broken c = search needs
+-- src/lib.rt:123:17
+sub-next-end : tie.Need-sub-next-end
+sub-next-end c = search needs
 
--- src/lib.rt:165:21
-part-zones-broken-start : tie.Need-part-zones-broken-start
-part-zones-broken-start c = search needs
+-- src/lib.rt:123:17
+part-next-end-start : tie.Need-part-next-end-start
+part-next-end-start c = search needs
 
--- src/lib.rt:165:21
-part-zones-broken-end : tie.Need-part-zones-broken-end
-part-zones-broken-end c = search needs
+-- src/lib.rt:123:17
+part-next-end-end : tie.Need-part-next-end-end
+part-next-end-end c = search needs
 
--- src/lib.rt:165:8
-zones-broken-requires : tie.Need-zones-broken-requires
-zones-broken-requires c κs = search needs
+-- src/lib.rt:123:8
+next-end-requires : tie.Need-next-end-requires
+next-end-requires c κs = search needs
 
--- src/lib.rt:166:9
+-- src/lib.rt:123:36
+add-if5 : tie.Need-add-if5
+add-if5 c = search needs
+
+-- src/lib.rt:124:9
 returns-5 : tie.Need-returns-5
 returns-5 c =
-    azimuth-stop (now (c .before .before .before .before .before .before .before .before .before .before .args .part)) (c .before .before .before .before .before .before .before .before .if1 .left) (some (c .before .before .before .before)) (few (c .before .before .before .before)) 24 (whole-stop (after (now (c .before .before .before .before .before .before .before .before .before .before .args .part))) (value (now (c .before .before .before .before .before .before .before .before .before .before .args .part))) (some (c .before .before .before .before)) (there (c .before .before .before)) (2 + 4 * c .before .before .before .before .before .before .wide .result - 2) (taken (c .before .before .before)) (c .before .zones-broken .result) (c .before .zones-broken .ensures) (c .if5 .taken))
+    azimuth-stop (now (c .before .before .before .before .before .before .before .before .before .before .args .part)) (c .before .before .before .before .before .before .before .before .if1 .left) (some (c .before .before .before .before)) (few (c .before .before .before .before)) 24 (whole-stop (after (now (c .before .before .before .before .before .before .before .before .before .before .args .part))) (value (now (c .before .before .before .before .before .before .before .before .before .before .args .part))) (some (c .before .before .before .before)) (there (c .before .before .before)) (2 + 4 * c .before .before .before .before .before .before .wide .result - 2) (taken (c .before .before .before)) (c .before .next-end .result) (c .before .next-end .ensures) (c .if5 .taken))
 
--- src/lib.rt:148:1
+-- src/lib.rt:106:1
 returns-6 : tie.Need-returns-6
 returns-6 c =
     ap (λ (n : ℕ). Next (2 + 4 * n)) (counted (c .before .before .before .before .before .before))
-    ∙ azimuth-next (now (c .before .before .before .before .before .before .before .before .before .before .args .part)) (c .before .before .before .before .before .before .before .before .if1 .left) (some (c .before .before .before .before)) (few (c .before .before .before .before)) (4 * value (now (c .before .before .before .before .before .before .before .before .before .before .args .part))) (whole-next (after (now (c .before .before .before .before .before .before .before .before .before .before .args .part))) (value (now (c .before .before .before .before .before .before .before .before .before .before .args .part))) (some (c .before .before .before .before)) (there (c .before .before .before)) (2 + 4 * c .before .before .before .before .before .before .wide .result - 2) (taken (c .before .before .before)) (c .before .zones-broken .result) (c .before .zones-broken .ensures) (c .if5 .left))
+    ∙ azimuth-next (now (c .before .before .before .before .before .before .before .before .before .before .args .part)) (c .before .before .before .before .before .before .before .before .if1 .left) (some (c .before .before .before .before)) (few (c .before .before .before .before)) (4 * value (now (c .before .before .before .before .before .before .before .before .before .before .args .part))) (whole-next (after (now (c .before .before .before .before .before .before .before .before .before .before .args .part))) (value (now (c .before .before .before .before .before .before .before .before .before .before .args .part))) (some (c .before .before .before .before)) (there (c .before .before .before)) (2 + 4 * c .before .before .before .before .before .before .wide .result - 2) (taken (c .before .before .before)) (c .before .next-end .result) (c .before .next-end .ensures) (c .if5 .left))
 
 pub check-azimuth-spec : {M : Type 1} → statement M
 check-azimuth-spec =
@@ -137,9 +143,10 @@ check-azimuth-spec =
     part-cut-zones-end
     cut-zones-requires
     returns-4
-    sub-zones-broken
-    part-zones-broken-start
-    part-zones-broken-end
-    zones-broken-requires
+    sub-next-end
+    part-next-end-start
+    part-next-end-end
+    next-end-requires
+    add-if5
     returns-5
     returns-6)

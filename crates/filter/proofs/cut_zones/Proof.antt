@@ -1,35 +1,57 @@
 use denote.Ref.{now}
-use mathlib.Core.Path.{sym, _∙_}
-use Rattle.filter.proofs.StepLaws.{zones-cut}
+use lib.ListN.{length}
+use mathlib.Core.Path.{refl, sym, _∙_}
+use Prim.Native.Nat.{ℕ, _*_, _/_}
+use Rattle.filter.proofs.RisingLaws.{cut-high, cut-code, cut-short}
 use borrow.Author.Needs.{needs}
 use Rattle.filter.proofs.cut_zones.Statement.{statement}
 use Rattle.filter.proofs.cut_zones.Tie as tie
 use Rattle.filter.proofs.cut_zones.Reads as reads
 use Rattle.filter.proofs.cut_zones.Lts as lts
-use Rattle.filter.proofs.check_zones.Reads as check-zones-reads
+use Rattle.filter.proofs.code_broken.Reads as code-broken-reads
+use Rattle.filter.proofs.next_end.Reads as next-end-reads
 
--- src/lib.rt:112:11
-check-zones-requires : tie.Need-check-zones-requires
-check-zones-requires c κs = search needs
+-- src/lib.rt:95:8
+add-if1 : tie.Need-add-if1
+add-if1 c = search needs
 
--- src/lib.rt:113:26
-enum-told : tie.Need-enum-told
-enum-told c = search needs
+-- src/lib.rt:95:29
+next-end-requires : tie.Need-next-end-requires
+next-end-requires c κs = search needs
 
--- src/lib.rt:114:20
-enum-known-number : tie.Need-enum-known-number
-enum-known-number c = search needs
-
--- src/lib.rt:108:1
+-- src/lib.rt:96:9
 returns : tie.Need-returns
-returns c =
-    let a = c .before .before .before .before .args in
-    absurd (zones-cut (a .count) (now (a .part)) (c .enum-told .given .0 .0) (c .before .before .before .before .pre .1) (sym (c .enum-told .given .1) ∙ c .before .before .check-zones .ensures))
+returns c = λ count short. cut-high (now (c .before .before .before .args .zones)) (c .before .next-end .result) (c .before .next-end .ensures) count short (c .if1 .taken)
 
--- src/lib.rt:108:1
+-- src/lib.rt:98:14
+mul-at : tie.Need-mul-at
+mul-at c = search needs
+
+-- src/lib.rt:99:27
+cast-code-broken : tie.Need-cast-code-broken
+cast-code-broken c = search needs
+
+-- src/lib.rt:99:8
+code-broken-requires : tie.Need-code-broken-requires
+code-broken-requires c κs = search needs
+
+-- src/lib.rt:100:9
 returns-2 : tie.Need-returns-2
-returns-2 c = sym (c .before .number .given .1) ∙ c .before .before .before .check-zones .ensures
+returns-2 c = λ count short. cut-code (now (c .before .before .before .before .before .args .zones)) (c .before .before .before .next-end .result) (c .before .before .before .next-end .ensures) count short (c .before .before .if1 .left) (length (now (c .before .before .before .before .before .args .zones)) / 4 * 4) refl (sym (c .before .code-broken .ensures) ∙ c .if2 .taken)
+
+-- src/lib.rt:90:1
+returns-3 : tie.Need-returns-3
+returns-3 c = λ count short. cut-short (now (c .before .before .before .before .before .args .zones)) (c .before .before .before .next-end .result) (c .before .before .before .next-end .ensures) count short (c .before .before .if1 .left) (length (now (c .before .before .before .before .before .args .zones)) / 4 * 4) refl (sym (c .before .code-broken .ensures) ∙ c .if2 .left)
 
 pub cut-zones-spec : {M : Type 1} → statement M
 cut-zones-spec =
-    tie.close (tie.spec check-zones-requires enum-told enum-known-number returns returns-2)
+    tie.close
+    (tie.spec
+    add-if1
+    next-end-requires
+    returns
+    mul-at
+    cast-code-broken
+    code-broken-requires
+    returns-2
+    returns-3)

@@ -1,0 +1,106 @@
+use denote.Ref.{now}
+use lib.ListN.{length}
+use mathlib.Core.Path.{_≡_, sym, ap, _∙_}
+use Prim.Native.Nat.{ℕ, _+_, _-_, _/_, _≤_}
+use Rattle.filter.specs.Steps.{nextEnd}
+use Rattle.filter.proofs.RisingLaws.{next-start, next-code, next-low, next-on, next-done}
+use borrow.Author.Needs.{needs}
+use Rattle.filter.proofs.next_end.Statement.{statement}
+use Rattle.filter.proofs.next_end.Tie as tie
+use Rattle.filter.proofs.next_end.Reads as reads
+use Rattle.filter.proofs.next_end.Lts as lts
+use Rattle.filter.proofs.code_broken.Reads as code-broken-reads
+use Rattle.filter.proofs.wide.Reads as wide-reads
+use Rattle.wire.proofs.fetch16.Reads as fetch16-reads
+
+abbrev Inv-loop : tie.InvT-loop
+Inv-loop zones at₀ from₀ at from = (at ≤ length zones) × (from ≤ 65536) × (nextEnd ((length zones - at) / 4) from zones at ≡ nextEnd (length zones / 4) 0 zones 0)
+
+abbrev μ-loop : tie.MeasureT-loop
+μ-loop zones at₀ from₀ at from = length zones - at
+
+-- src/lib.rt:75:5
+loop-holds : tie.Need-loop-holds Inv-loop μ-loop
+loop-holds c = (search needs, search needs, next-start (now (c .before .args .zones)))
+
+-- src/lib.rt:75:11
+cast-loop : tie.Need-cast-loop Inv-loop μ-loop
+cast-loop c = search needs
+
+-- src/lib.rt:75:11
+add-loop : tie.Need-add-loop Inv-loop μ-loop
+add-loop c = search needs
+
+-- src/lib.rt:76:12
+code-broken-requires : tie.Need-code-broken-requires Inv-loop μ-loop
+code-broken-requires c κs = search needs
+
+-- src/lib.rt:77:13
+returns : tie.Need-returns Inv-loop μ-loop
+returns c = next-code (now (c .before .before .before .before .before .args .zones)) (c .before .before .before .loop .at) (c .before .before .before .loop .from) (c .before .before .loop-test .taken) (sym (c .before .code-broken .ensures) ∙ c .if1 .taken) ∙ c .before .before .before .loop .inv .2
+
+-- src/lib.rt:79:45
+add-fetch16 : tie.Need-add-fetch16 Inv-loop μ-loop
+add-fetch16 c = search needs
+
+-- src/lib.rt:79:24
+fetch16-requires : tie.Need-fetch16-requires Inv-loop μ-loop
+fetch16-requires c κs = search needs
+
+-- src/lib.rt:79:13
+wide-requires : tie.Need-wide-requires Inv-loop μ-loop
+wide-requires c κs = search needs
+
+-- src/lib.rt:81:13
+returns-2 : tie.Need-returns-2 Inv-loop μ-loop
+returns-2 c =
+    let e = c .before .wide .ensures ∙ c .before .before .fetch16 .ensures in
+    next-low (now (c .before .before .before .before .before .before .before .before .args .zones)) (c .before .before .before .before .before .before .loop .at) (c .before .before .before .before .before .before .loop .from) (c .before .before .before .before .before .loop-test .taken) (sym (c .before .before .before .before .code-broken .ensures) ∙ c .before .before .before .if1 .left) (rw (← e) (c .if2 .taken)) ∙ c .before .before .before .before .before .before .loop .inv .2
+
+-- src/lib.rt:83:16
+add-from : tie.Need-add-from Inv-loop μ-loop
+add-from c = search needs
+
+-- src/lib.rt:84:9
+add-at : tie.Need-add-at Inv-loop μ-loop
+add-at c = search needs
+
+-- src/lib.rt:75:5
+loop-less : tie.Need-loop-less Inv-loop μ-loop
+loop-less c = search needs
+
+-- src/lib.rt:75:5
+loop-again : tie.Need-loop-again Inv-loop μ-loop
+loop-again c =
+    let e = c .before .wide .ensures ∙ c .before .before .fetch16 .ensures in (
+      search needs,
+      search needs,
+      ap (λ (k : ℕ). nextEnd ((length (now (c .before .before .before .before .before .before .before .before .args .zones)) - (c .before .before .before .before .before .before .loop .at + 4)) / 4) (k + 1) (now (c .before .before .before .before .before .before .before .before .args .zones)) (c .before .before .before .before .before .before .loop .at + 4)) e
+          ∙ next-on (now (c .before .before .before .before .before .before .before .before .args .zones)) (c .before .before .before .before .before .before .loop .at) (c .before .before .before .before .before .before .loop .from) (c .before .before .before .before .before .loop-test .taken) (sym (c .before .before .before .before .code-broken .ensures) ∙ c .before .before .before .if1 .left) (rw (← e) (c .if2 .left))
+          ∙ c .before .before .before .before .before .before .loop .inv .2,
+    )
+
+-- src/lib.rt:69:1
+returns-3 : tie.Need-returns-3 Inv-loop μ-loop
+returns-3 c = next-done (now (c .before .before .before .args .zones)) (c .before .loop .at) (c .before .loop .from) (c .loop-test .left) ∙ c .before .loop .inv .2
+
+pub next-end-spec : {M : Type 1} → statement M
+next-end-spec =
+    tie.close
+    (tie.spec
+    Inv-loop
+    μ-loop
+    loop-holds
+    cast-loop
+    add-loop
+    code-broken-requires
+    returns
+    add-fetch16
+    fetch16-requires
+    wide-requires
+    returns-2
+    add-from
+    add-at
+    loop-less
+    loop-again
+    returns-3)
