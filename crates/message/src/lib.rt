@@ -1,9 +1,9 @@
 // The message header: the 16 bytes that a data frame's body begins with.
 ghost use mathlib.Core.Path.{_≡_};
 ghost use mathlib.Core.Bool.{not};
+ghost use mathlib.Core.List.{[]};
 ghost use Prim.Native.Nat.{_≤_};
 ghost use lib.Dec.{eqb};
-ghost use mathlib.Core.List.{[]};
 ghost use Rattle.wire.specs.Checks.{either, someBroken};
 ghost use Rattle.message.specs.Header.{headerSize, headerIn, headerOf, headerOr0, refusalOf, notPermitted, sizeChecks, segmentChecks, timeChecks};
 ghost use Rattle.message.specs.Promises.{tellHeader};
@@ -133,7 +133,7 @@ fn breaks_size(size: Halfwords, long: usize) -> bool
     half.0 != size.0
 }
 
-// Whether a type is not one of those permitted.
+// Whether a type is not one of those permitted. Radials come first, as most messages are.
 pub fn breaks_type(kind: u8) -> bool
     ensures { λ r. ⌜ r ≡ notPermitted kind ⌝ }
 {
