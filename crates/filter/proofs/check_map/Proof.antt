@@ -1,5 +1,7 @@
 use denote.Ref.{now}
-use mathlib.Core.Path.{sym, ap, _∙_}
+use mathlib.Core.Path.{_≡_, sym, ap, _∙_}
+use Rattle.wire.specs.Answers.{given}
+use Rattle.map.specs.Reading.{Summary}
 use Rattle.filter.proofs.BodyLaws.{map-stop, map-given}
 use borrow.Author.Needs.{needs}
 use Rattle.filter.proofs.check_map.Statement.{statement}
@@ -35,7 +37,10 @@ enum-known-step c = search needs
 
 -- src/lib.rt:282:1
 returns : tie.Need-returns
-returns c = simp (c .fetch163 .ensures, c .before .fetch162 .ensures, c .before .before .fetch16 .ensures) (map-given (now (c .before .before .before .before .before .before .before .args .body)) (c .before .before .before .enum-told .given .0 .0) (sym (c .before .before .before .enum-told .given .1) ∙ c .before .before .before .before .before .check-body .ensures .checked))
+returns c =
+    let s : _≡_ {A = Summary} (record { date = c .before .before .fetch16 .result; minutes = c .before .fetch162 .result; elevations = c .fetch163 .result }) _
+    = λ i. record { date = c .before .before .fetch16 .ensures i; minutes = c .before .fetch162 .ensures i; elevations = c .fetch163 .ensures i } in
+    ap given s ∙ map-given (now (c .before .before .before .before .before .before .before .args .body)) (c .before .before .before .enum-told .given .0 .0) (sym (c .before .before .before .enum-told .given .1) ∙ c .before .before .before .before .before .check-body .ensures .checked)
 
 -- src/lib.rt:282:1
 returns-2 : tie.Need-returns-2
