@@ -1,20 +1,25 @@
 -- The laws between what the library answers of radials and the structs that C receives. Assumes nothing.
-use Prim.Native.Nat.{ℕ, _+_, _-_, _*_, _/_, _%_, _^_, _<_}
+use Prim.Native.Nat.{ℕ, _+_, _-_, _*_, _/_, _%_, _^_, _≤_, _<_}
 use mathlib.Core.Path.{_≡_, refl, sym, ap, _∙_}
 use mathlib.Core.Option.{Option, none, some}
 use mathlib.Core.List.{List, [], _∷_, _++_, append-nil}
 use native.Mathlib.Omega.{arith}
-use Rattle.wire.specs.Numbers.{num, be}
+use lib.ListN.{length, drop}
+use Rattle.wire.specs.Numbers.{num, be, Octets}
 use Rattle.wire.specs.Answers.{Answer, refused, given}
-use Rattle.wire.proofs.NumberLaws.{num-be}
+use Rattle.wire.proofs.NumberLaws.{num-be, nums-length}
 use Rattle.wire.proofs.CheckLaws.{never}
-use Rattle.description.specs.Description.{momentHead, Moment, Description, gates, wordBytes, gateBytes}
-use Rattle.description.specs.Lookups.{Lying, Asked, noSuch, lies}
-use Rattle.radial.specs.declared.Radial.{Radial}
+use Rattle.description.specs.Description.{momentHead, Moment, Description, gates}
+use Rattle.description.specs.Refusal.{momentAt}
+use Rattle.description.specs.Lookups.{momentOf, Lying, Asked, noSuch, lies}
+use Rattle.radial.specs.declared.Heading.{Heading}
 use Rattle.radial.specs.declared.MomentHead.{MomentHead}
 use Rattle.radial.specs.Shown.{headOf, shown}
+use Rattle.radial.specs.Places.{headingOf}
 use Rattle.lookup.specs.declared.Lying.{Lying as Placed}
-use Rattle.lookup.specs.Told.{Told, headShown, headIn, toldOf, blockShown}
+use Rattle.lookup.specs.Told.{Told, headIn, toldOf, blockShown}
+use Rattle.lookup.specs.Steps.{placeShown}
+use Rattle.lookup.proofs.FindLaws.{Lies, lies-at, no-place}
 use Rattle.c_radials.specs.declared.UlmRadial.{UlmRadial}
 use Rattle.c_radials.specs.declared.UlmBlock.{UlmBlock}
 use Rattle.c_radials.specs.declared.UlmGates.{UlmGates}
@@ -35,62 +40,43 @@ pub name-back : (n : ℕ) (l : List ℕ) → n < 4294967296 → l ≡ be 4 n →
 name-back n l h e =
     ap (λ (x : List ℕ). num 4 x 0) (e ∙ sym (append-nil (be 4 n))) ∙ num-be 4 n [] h
 
--- ---- a moment
-gates-of : (a : Answer Moment) (h : MomentHead) (z : ℕ) → given h ≡ headShown a → z ≡ momentHead + h .gates * (h .word / 8)
-    → record {
+-- ---- a moment's gates
+-- the moment at a place, by the numbers of its head
+pub gates-face : (b : List ℕ) (p n w scale offset first interval z : ℕ) → n ≡ num 2 (drop p b) 8 → w ≡ num 1 (drop p b) 19 → scale ≡ num 4 (drop p b) 20
+    → offset ≡ num 4 (drop p b) 24 → first ≡ num 2 (drop p b) 10 → interval ≡ num 2 (drop p b) 12 → z ≡ momentHead + n * (w / 8)
+    → record { refusal = 0; gates = n; word = w; scale = scale; offset = offset; first = first; interval = interval; start = p + 28; size = z - 28 }
+    ≡ gatesFace (given (momentAt p (drop p b)))
+gates-face b p n w scale offset first interval z en ew es eo ef ei ez =
+    let l = drop p b in
+    let counted : n ≡ gates (momentAt p l) = en ∙ sym (nums-length (num 1 l 19 / 8) l 28 (num 2 l 8)) in
+    let back : z - 28 ≡ n * (w / 8) = omega (arith, ez) in
+    λ i.
+    record {
       refusal = 0;
-      gates = h .gates;
-      word = h .word;
-      scale = h .«scale_bits»;
-      offset = h .«offset_bits»;
-      first = h .first;
-      interval = h .interval;
-      start = h .place + 28;
-      size = z - 28;
+      gates = counted i;
+      word = ew i;
+      scale = es i;
+      offset = eo i;
+      first = ef i;
+      interval = ei i;
+      start = p + 28;
+      size = (back ∙ (λ j. counted j * (ew j / 8))) i;
     }
-    ≡ gatesFace a
-gates-of (refused n) h z e s = never (cc e)
-gates-of (given m) h z e s =
-    let p : h ≡ headOf m = cc e in
-    rw p (λ i. record {
-      refusal = 0;
-      gates = gates m;
-      word = m .word;
-      scale = m .scale;
-      offset = m .offset;
-      first = m .first;
-      interval = m .interval;
-      start = m .place + 28;
-      size = back i;
-    })
-  where
-    back : z - 28 ≡ gateBytes m
-    back = let p : h ≡ headOf m = cc e in
-        let q : z ≡ momentHead + gates m * (m .word / 8) = rw p at s in
-        omega arith
 
-pub gates-given : (a : Answer Moment) (h : MomentHead) (z : ℕ) (r : UlmGates) → given h ≡ headShown a → z ≡ momentHead + h .gates * (h .word / 8)
-    → r ≡ record {
-      refusal = 0;
-      gates = h .gates;
-      word = h .word;
-      scale = h .«scale_bits»;
-      offset = h .«offset_bits»;
-      first = h .first;
-      interval = h .interval;
-      start = h .place + 28;
-      size = z - 28;
-    }
-    → r ≡ gatesFace a
-gates-given a h z r e s p = p ∙ gates-of a h z e s
+pub gates-given : (b : List ℕ) (name p : ℕ) (r : UlmGates) → Octets b → given p ≡ placeShown (momentOf b name) → r ≡ gatesFace (given (momentAt p (drop p b)))
+    → r ≡ gatesFace (momentOf b name)
+gates-given b name p r o e f =
+    let x = lies-at b name p o e in
+    f ∙ ap (λ (m : Moment). gatesFace (given m)) (x .reads) ∙ ap gatesFace (sym (x .was))
 
-pub gates-refused : (a : Answer Moment) (n : ℕ) → refused n ≡ headShown a
-    → record { refusal = n; gates = 0; word = 0; scale = 0; offset = 0; first = 0; interval = 0; start = 0; size = 0 } ≡ gatesFace a
-gates-refused (refused k) n e = let p : n ≡ k = cc e in rw p
-gates-refused (given m) n e = never (cc e)
+pub gates-inside : (b : List ℕ) (name p : ℕ) → Octets b → given p ≡ placeShown (momentOf b name) → p + 28 ≤ length b
+gates-inside b name p o e = let x = lies-at b name p o e in omega (arith, x .within, x .place)
 
--- ---- the radial's struct: what is refused and what is given
-abbrev pub radialShown : Radial → UlmRadial
+pub gates-refused : (b : List ℕ) (name n : ℕ) → refused n ≡ placeShown (momentOf b name) → gatesFace (refused n) ≡ gatesFace (momentOf b name)
+gates-refused b name n e = ap gatesFace (sym (no-place (momentOf b name) n e))
+
+-- ---- the radial's heading: what is refused and what is given
+abbrev pub radialShown : Heading → UlmRadial
 radialShown r = record {
   refusal = r .refusal;
   station = r .header .station;
@@ -109,7 +95,7 @@ radialShown r = record {
   blocks = r .count;
 }
 
-pub radial-shown : (a : Answer Description) → radialShown (shown a) ≡ radialFace a
+pub radial-shown : (a : Answer Description) → radialShown (headingOf (shown a)) ≡ radialFace a
 radial-shown (refused n) = refl
 radial-shown (given d) = refl
 

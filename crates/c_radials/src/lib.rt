@@ -1,7 +1,10 @@
 // Radials, their blocks and their gates as C receives them.
 ghost use mathlib.Core.Path.{_≡_};
+ghost use Prim.Native.Nat.{_+_, _^_, _<_, _≤_};
+ghost use lib.ListN.{length, drop};
 ghost use Rattle.wire.specs.Numbers.{be};
-ghost use Rattle.description.specs.Refusal.{radialOf};
+ghost use Rattle.wire.specs.Answers.{refused, given};
+ghost use Rattle.description.specs.Refusal.{momentAt, radialOf};
 ghost use Rattle.description.specs.Lookups.{momentOf, blockOf};
 ghost use Rattle.gate.specs.Value.{valueOf, gateOf};
 ghost use Rattle.gate.specs.Promises.{tellGate};
@@ -10,7 +13,7 @@ ghost use Rattle.c_radials.specs.Steps.{headFace};
 use gate::GateAnswer;
 use lookup::BlockAnswer;
 use lookup::Lying;
-use lookup::MomentAnswer;
+use lookup::PlaceAnswer;
 use radial::MomentHead;
 
 #[repr(C)]
@@ -74,7 +77,7 @@ pub struct UlmGate {
 pub fn radial(body: &[u8]) -> UlmRadial
     ensures { λ r. ⌜ r ≡ radialFace (radialOf (now (body .entry))) ⌝ }
 {
-    let read = radial::read_radial(body);
+    let read = radial::read_heading(body);
     let h = read.header;
     UlmRadial {
         refusal: read.refusal as u32,
@@ -175,29 +178,47 @@ fn no_block(number: u8) -> UlmBlock
 pub fn gates(body: &[u8], name: u32) -> UlmGates
     ensures { λ r. ⌜ r ≡ gatesFace (momentOf (now (body .entry)) name) ⌝ }
 {
-    match lookup::moment(body, four(name)) {
-        MomentAnswer::Moment(h) => UlmGates {
-            refusal: 0,
-            gates: h.gates as u32,
-            word: h.word as u32,
-            scale: h.scale_bits,
-            offset: h.offset_bits,
-            first: h.first as u32,
-            interval: h.interval as u32,
-            start: h.place as u64 + 28,
-            size: radial::moment_size(h.gates, h.word) as u64 - 28,
-        },
-        MomentAnswer::Refused(number) => UlmGates {
-            refusal: number as u32,
-            gates: 0,
-            word: 0,
-            scale: 0,
-            offset: 0,
-            first: 0,
-            interval: 0,
-            start: 0,
-            size: 0,
-        },
+    match lookup::asked(radial::check_radial(body), radial::moment_place(body, name)) {
+        PlaceAnswer::At(place) => gates_at(body, place as usize),
+        PlaceAnswer::Refused(number) => no_gates(number),
+    }
+}
+
+// The gates of the moment at `place`.
+fn gates_at(body: &[u8], place: usize) -> UlmGates
+    requires { ⌜ (place + 28 ≤ length (now body)) × (place < 2 ^ 32) ⌝ }
+    ensures { λ r. ⌜ r ≡ gatesFace (given (momentAt place (drop place (now (body .entry))))) ⌝ }
+{
+    let end = place + radial::MOMENT_HEAD;
+    let head = &body[place..end];
+    let gates = wire::fetch16(head, 8);
+    let word = wire::fetch8(head, 19);
+    UlmGates {
+        refusal: 0,
+        gates: gates as u32,
+        word: word as u32,
+        scale: wire::fetch32(head, 20),
+        offset: wire::fetch32(head, 24),
+        first: wire::fetch16(head, 10) as u32,
+        interval: wire::fetch16(head, 12) as u32,
+        start: end as u64,
+        size: radial::moment_size(gates, word) as u64 - 28,
+    }
+}
+
+fn no_gates(number: u8) -> UlmGates
+    ensures { λ r. ⌜ r ≡ gatesFace (refused number) ⌝ }
+{
+    UlmGates {
+        refusal: number as u32,
+        gates: 0,
+        word: 0,
+        scale: 0,
+        offset: 0,
+        first: 0,
+        interval: 0,
+        start: 0,
+        size: 0,
     }
 }
 

@@ -152,6 +152,12 @@ moment-of b name m e =
     let d : description b ≡ r .value = rule-given (radialChecks b) (description b) (r .value) (r .was) .1 in
     (r .was ∙ ap given (sym d), ap (λ (x : Description). momentNamed name (x .moments)) d ∙ r .gave)
 
+-- it is what is read at its place
+pub found-at : (b : List ℕ) (name : ℕ) (m : Moment) → momentOf b name ≡ given m → momentAt (m .place) (drop (m .place) b) ≡ m
+found-at b name m e =
+    let w = found-read b name 44 (countIn b - constants) m (moment-of b name m e .1) in
+    subst (λ (x : Moment). momentAt (x .place) (drop (x .place) b) ≡ x) (w .reads) refl
+
 pub code-at : CodeAt
 code-at b name m i e h =
     let w = found-read b name 44 (countIn b - constants) m (moment-of b name m e .1) in

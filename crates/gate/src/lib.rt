@@ -1,12 +1,14 @@
 // The value of a gate: of a radial's moment, or of a code by itself.
 ghost use mathlib.Core.Path.{_≡_};
+ghost use lib.ListN.{drop};
 ghost use Rattle.wire.specs.Numbers.{num};
 ghost use Rattle.wire.specs.Checks.{someBroken};
-ghost use Rattle.gate.specs.Value.{notFinite, valueChecks, valueOf, gateOf};
-ghost use Rattle.gate.specs.Steps.{WordThere, codeIn};
+ghost use Rattle.description.specs.Refusal.{momentAt};
+ghost use Rattle.gate.specs.Value.{notFinite, valueChecks, valueOf, gateIn, gateOf};
+ghost use Rattle.gate.specs.Steps.{MomentThere, WordThere, codeIn};
 ghost use Rattle.gate.specs.Promises.{tellGate};
-use lookup::MomentAnswer;
 use lookup::Name;
+use lookup::PlaceAnswer;
 use wire::INFINITE;
 use wire::SIGN;
 use wire::refusal;
@@ -55,31 +57,44 @@ pub fn value(code: u16, scale: u32, offset: u32) -> GateAnswer
 }
 
 // The code of a gate: the word of the block at `place` that the gate's number counts to.
-fn code_in(body: &[u8], place: u32, word: u8, gate: usize) -> u16
+fn code_in(body: &[u8], place: usize, word: u8, gate: usize) -> u16
     requires { ⌜ WordThere (now body) place word gate ⌝ }
     ensures { λ r. ⌜ r ≡ codeIn (now (body .entry)) place word gate ⌝ }
 {
-    let begin = place as usize;
-    let part = &body[begin..];
-    let i = gate as u32;
     if word == 16 {
-        return wire::fetch16(part, 28 + i * 2);
+        let at = place + (28 + gate * 2);
+        let end = at + 2;
+        return wire::fetch16(&body[at..end], 0);
     }
-    wire::fetch8(part, 28 + i) as u16
+    let at = place + (28 + gate);
+    let end = at + 1;
+    wire::fetch8(&body[at..end], 0) as u16
+}
+
+// The value of a gate of the moment at `place`.
+fn gate_at(body: &[u8], place: usize, gate: usize) -> GateAnswer
+    requires { ⌜ MomentThere (now body) place ⌝ }
+    ensures { λ r. ⌜ tellGate r ≡ gateIn (momentAt place (drop place (now (body .entry)))) gate ⌝ }
+{
+    let end = place + radial::MOMENT_HEAD;
+    let head = &body[place..end];
+    if wire::fetch16(head, 8) as usize <= gate {
+        return GateAnswer::Refused(refusal::ASKED_FOR);
+    }
+    let code = code_in(body, place, wire::fetch8(head, 19), gate);
+    value(code, wire::fetch32(head, 20), wire::fetch32(head, 24))
 }
 
 // The value of a gate, counted from 0, of the moment with a name.
 pub fn gate_value(body: &[u8], name: Name, gate: usize) -> GateAnswer
     ensures { λ r. ⌜ tellGate r ≡ gateOf (now (body .entry)) (num 4 name 0) gate ⌝ }
 {
-    match lookup::moment(body, name) {
-        MomentAnswer::Refused(number) => GateAnswer::Refused(number),
-        MomentAnswer::Moment(head) => {
-            if head.gates as usize <= gate {
-                return GateAnswer::Refused(refusal::ASKED_FOR);
-            }
-            let code = code_in(body, head.place, head.word, gate);
-            value(code, head.scale_bits, head.offset_bits)
-        }
+    let wanted = wire::fetch32(&name, 0);
+    match lookup::asked(
+        radial::check_radial(body),
+        radial::moment_place(body, wanted),
+    ) {
+        PlaceAnswer::Refused(number) => GateAnswer::Refused(number),
+        PlaceAnswer::At(place) => gate_at(body, place as usize, gate),
     }
 }

@@ -1,29 +1,124 @@
--- A list searched from the front: what is left answers as the whole. Assumes nothing.
-use Prim.Native.Nat.{ℕ, _+_, _≤_, _<_}
-use native.Mathlib.Numerals.{add-one}
-use mathlib.Core.Path.{_≡_, refl}
+-- A moment by its name: what the pointers of an accepted radial give is where the description has it. Assumes nothing.
+use Prim.Native.Nat.{ℕ, zero, suc, _+_, _-_, _*_, _≤_, _<_}
+use native.Mathlib.Nat.{add-zero}
+use native.Mathlib.Omega.{arith}
+use mathlib.Core.Path.{_≡_, refl, sym, ap, subst, _∙_}
+use mathlib.Core.Bool.{Bool, true, false}
 use mathlib.Core.List.{List}
-use lib.ListN.{length, getD, take, drop, drop-of-length-le}
-use lib.Seq.{drop-cons, getD-take, length-take-le}
-use borrow.Author.Tests.{eq-eqb, ne-eqb}
-use Rattle.wire.specs.Answers.{refused, given}
-use Rattle.radial.specs.declared.MomentHead.{MomentHead}
-use Rattle.lookup.specs.Steps.{headNamed}
+use lib.Dec.{eqb}
+use lib.ListN.{length, drop}
+use borrow.Author.Tests.{ne-eqb}
+use Rattle.wire.specs.Numbers.{fetched, Octets}
+use Rattle.wire.specs.Checks.{pick}
+use Rattle.wire.specs.Answers.{Answer, refused, given}
+use Rattle.wire.proofs.CheckLaws.{never}
+use Rattle.wire.proofs.NumberLaws.{fetched-whole, num-drop}
+use Rattle.description.specs.Description.{constants, mostGates, wordSizes, Member, Moment, Description, gates, momentEnd}
+use Rattle.description.specs.Refusal.{countIn, pointer, part, nameIn, momentAt, momentsAt, description, radialOf}
+use Rattle.description.specs.Lookups.{momentNamed, momentOf}
+use Rattle.description.proofs.Naming.{found-at, found-lies}
+use Rattle.radial.specs.Shown.{shown}
+use Rattle.radial.specs.Places.{placeFrom, placeIn}
+use Rattle.radial.proofs.HeadLaws.{Held, held}
+use Rattle.radial.proofs.HandedLaws.{refused-from, accepted-is}
+use Rattle.lookup.specs.Told.{placeAsked}
+use Rattle.lookup.specs.Steps.{placeShown}
 
-module _ (name : ℕ) (heads : List MomentHead) (count i : ℕ) (other : MomentHead) (long : count ≤ length heads) where
-  abbrev hs : List MomentHead
-  hs = take count heads
+-- the n pointers from byte q on are in the body, and so is what they point at
+record Points (b : List ℕ) (q n : ℕ) : Type 0 where
+  there : q + 4 * n ≤ length b
+  point : (i : ℕ) → i < n → (68 ≤ pointer b (q + 4 * i)) × (pointer b (q + 4 * i) + 28 ≤ length b)
 
-  left : i < count → i < length hs
-  left h = rw (length-take-le count heads long) h
+next-points : (b : List ℕ) (q n : ℕ) → Points b q (suc n) → Points b (q + 4) n
+next-points b q n p = record {
+  there = omega (arith, p .there);
+  point = λ i h.
+      let e : q + 4 * suc i ≡ q + 4 + 4 * i = omega arith in
+      subst (λ (k : ℕ). (68 ≤ pointer b k) × (pointer b k + 28 ≤ length b)) e (p .point (suc i) (omega arith));
+}
 
-  pub head-here : i < count → getD heads i other .name ≡ name → headNamed name (drop i hs) ≡ given (getD heads i other)
-  head-here h e =
-      rw (drop-cons hs i other (left h), getD-take count heads i other h) (simp (eq-eqb (getD heads i other .name) name e))
+placed-from : (b : List ℕ) (name q n : ℕ) → Points b q n
+    → pick (eqb (placeFrom b name q n) 0) (refused 21) (given (placeFrom b name q n)) ≡ placeShown (momentNamed name (momentsAt b q n))
+placed-from b name q zero h = refl
+placed-from b name q (suc n) h =
+    ap (λ (k : ℕ). pick (eqb k 0) (refused 21) (given k)) one
+    ∙ go (eqb (nameIn (part b q)) name) (placed-from b name (q + 4) n (next-points b q n h))
+  where
+    p : ℕ
+    p = pointer b q
 
-  pub head-next : i < count → (getD heads i other .name ≡ name → ⊥) → headNamed name (drop i hs) ≡ headNamed name (drop (i + 1) hs)
-  head-next h n =
-      rw (drop-cons hs i other (left h), getD-take count heads i other h, add-one) (simp (ne-eqb (getD heads i other .name) name n))
+    held-here : (68 ≤ pointer b q) × (pointer b q + 28 ≤ length b)
+    held-here = subst (λ (k : ℕ). (68 ≤ pointer b k) × (pointer b k + 28 ≤ length b)) (add-zero q) (h .point 0 (omega arith))
 
-  pub head-end : count ≤ i → headNamed name (drop i hs) ≡ refused 21
-  head-end h = let past : length hs ≤ i = rw (length-take-le count heads long) h in rw (drop-of-length-le hs past) refl
+    pointed : fetched 4 b q ≡ pointer b q
+    pointed = fetched-whole 4 b q (omega (arith, h .there))
+
+    called : fetched 4 b (fetched 4 b q) ≡ nameIn (part b q)
+    called =
+        ap (fetched 4 b) pointed
+        ∙ fetched-whole 4 b (pointer b q) (omega (arith, held-here .1))
+        ∙ sym (num-drop 4 b (pointer b q) 0 ∙ ap (pointer b) (add-zero (pointer b q)))
+
+    one : placeFrom b name q (suc n) ≡ pick (eqb (nameIn (part b q)) name) (pointer b q) (placeFrom b name (q + 4) n)
+    one = λ i. pick (eqb (called i) name) (pointed i) (placeFrom b name (q + 4) n)
+
+    go : (t : Bool) → pick (eqb (placeFrom b name (q + 4) n) 0) (refused 21) (given (placeFrom b name (q + 4) n)) ≡ placeShown (momentNamed name (momentsAt b (q + 4) n))
+        → pick (eqb (pick t (pointer b q) (placeFrom b name (q + 4) n)) 0) (refused 21) (given (pick t (pointer b q) (placeFrom b name (q + 4) n)))
+        ≡ placeShown (pick t (given (momentAt (pointer b q) (part b q))) (momentNamed name (momentsAt b (q + 4) n)))
+    go true later = simp (ne-eqb (pointer b q) 0 (λ e. omega (arith, e, held-here .0)))
+    go false later = later
+
+-- what is asked by the radial's number and its pointers is the rule's answer
+placed : (b : List ℕ) (name : ℕ) → placeAsked (shown (radialOf b) .refusal) (placeIn b name) ≡ placeShown (momentOf b name)
+unfolding momentOf
+placed b name = go (radialOf b) refl
+  where
+    go : (a : Answer Description) → radialOf b ≡ a → placeAsked (shown (radialOf b) .refusal) (placeIn b name) ≡ placeShown (momentOf b name)
+    go (refused n) q =
+        let no-zero : n ≡ 0 → ⊥ = λ z. let h = refused-from b n q in omega arith in
+        rw q (simp (ne-eqb n 0 no-zero))
+    go (given d) q =
+        let all = held b d q in
+        let count : fetched 2 b 30 ≡ countIn b = fetched-whole 2 b 30 (omega (arith, all .start .long)) in
+        let points : Points b 44 (countIn b - constants) =
+        record { there = omega (arith, all .start .long, all .start .few); point = all .moment } in
+        rw (q, accepted-is b d q)
+        (ap (λ (k : ℕ). placeAsked 0 (placeFrom b name 44 (k - constants))) count ∙ placed-from b name 44 (countIn b - constants) points)
+
+-- the same of the numbers that the code has
+pub asked-for : (b : List ℕ) (name number place wanted : ℕ) (r : Answer ℕ) → r ≡ placeAsked number place → number ≡ shown (radialOf b) .refusal → place ≡ placeIn b wanted
+    → wanted ≡ name → r ≡ placeShown (momentOf b name)
+asked-for b name number place wanted r e f g h =
+    e ∙ (λ i. placeAsked (f i) (g i)) ∙ placed b wanted ∙ ap (λ (n : ℕ). placeShown (momentOf b n)) h
+
+-- a moment that was found, by its place
+pub record Lies (b : List ℕ) (name p : ℕ) : Type 0 where
+  pub moment : Moment
+  pub was : momentOf b name ≡ given moment
+  pub reads : momentAt p (drop p b) ≡ moment
+  pub few : gates moment ≤ mostGates
+  pub sized : Member (moment .word) wordSizes
+  pub place : moment .place ≡ p
+  pub within : momentEnd moment ≤ length b
+
+pub lies-at : (b : List ℕ) (name p : ℕ) → Octets b → given p ≡ placeShown (momentOf b name) → Lies b name p
+lies-at b name p o e = go (momentOf b name) refl e
+  where
+    go : (a : Answer Moment) → momentOf b name ≡ a → given p ≡ placeShown a → Lies b name p
+    go (refused n) q f = never (cc f)
+    go (given m) q f =
+        let at : p ≡ m .place = cc f in
+        let l = found-lies b name m o q in
+        record {
+          moment = m;
+          was = q;
+          reads = ap (λ (k : ℕ). momentAt k (drop k b)) at ∙ found-at b name m q;
+          few = l .0;
+          sized = l .1;
+          place = sym at;
+          within = l .2;
+        }
+
+pub no-place : (a : Answer Moment) (n : ℕ) → refused n ≡ placeShown a → a ≡ refused n
+no-place (refused k) n e = let q : n ≡ k = cc e in ap refused (sym q)
+no-place (given m) n e = never (cc e)

@@ -13,27 +13,19 @@ use Rattle.wire.specs.Answers.{Answer, refused, given}
 use Rattle.wire.proofs.CheckLaws.{never}
 use Rattle.description.specs.Description.{RVOL, RELV, RRAD, constants, mostBlocks, momentHead, Moment, Description, blockCount}
 use Rattle.description.specs.Refusal.{radialOf}
-use Rattle.description.specs.Lookups.{momentNamed, momentOf, momentLying, blocks, Asked, noSuch, lies, blockOf, gatesOf}
+use Rattle.description.specs.Lookups.{momentOf, momentLying, blocks, Asked, noSuch, lies, blockOf, gatesOf}
 use Rattle.description.proofs.Accepted.{agreed}
 use Rattle.description.proofs.Naming.{gate-words}
 use Rattle.radial.specs.declared.MomentHead.{MomentHead}
 use Rattle.radial.specs.declared.Radial.{Radial}
 use Rattle.radial.specs.Shown.{headOf, noHead, room, shown}
-use Rattle.radial.proofs.LoopLaws.{map-length}
-use Rattle.radial.proofs.HandedLaws.{Shows, shows-given, shows-refused, heads-taken}
+use Rattle.radial.proofs.HeadLaws.{map-length, head-is}
+use Rattle.radial.proofs.HandedLaws.{Shows, shows-given, shows-refused}
+use Rattle.radial.specs.Places.{headAt}
 use Rattle.lookup.specs.declared.Located.{Located}
 use Rattle.lookup.specs.Told.{Told, headShown, toldOf, blockShown, partOf}
-use Rattle.lookup.specs.Steps.{headNamed, constantTold, momentTold, located}
-
--- ---- a moment by its name
-named-heads : (n : ℕ) (ms : List Moment) → headNamed n (map headOf ms) ≡ headShown (momentNamed n ms)
-named-heads n [] = refl
-named-heads n (m ∷ ms) = go (eqb (m .name) n) (named-heads n ms)
-  where
-    go : (t : Bool) → headNamed n (map headOf ms) ≡ headShown (momentNamed n ms)
-        → pick t (given (headOf m)) (headNamed n (map headOf ms)) ≡ headShown (pick t (given m) (momentNamed n ms))
-    go true h = refl
-    go false h = h
+use Rattle.lookup.specs.Steps.{placeShown, constantTold, momentTold, located}
+use Rattle.lookup.proofs.FindLaws.{Lies, lies-at, no-place}
 
 -- ---- the moments among the blocks
 lyings : (ms : List Moment) → length (map lies (map momentLying ms)) ≡ length ms
@@ -51,10 +43,6 @@ filled ms h = omega (arith, map-length ms, length-replicate (room - length ms) n
 
 -- the struct that the reader gave
 module _ (b : List ℕ) (r : Radial) (e : r ≡ shown (radialOf b)) where
-  pub moment-refused : (n : ℕ) → (r .refusal ≡ 0 → ⊥) → refused (r .refusal) ≡ headShown (momentOf b n)
-  unfolding momentOf
-  moment-refused n z = rw (shows-refused b r e z) refl
-
   pub block-refused : (k : ℕ) → (r .refusal ≡ 0 → ⊥) → refused (r .refusal) ≡ blockShown (blockOf b k)
   unfolding blockOf
   block-refused k z = rw (shows-refused b r e z) refl
@@ -79,14 +67,6 @@ module _ (b : List ℕ) (r : Radial) (e : r ≡ shown (radialOf b)) where
         ap (λ (x : Radial). length (x .moments)) (s .shows)
         ∙ length-append (map headOf (d .moments)) (replicate (room - length (d .moments)) noHead)
         ∙ filled (d .moments) few
-
-    pub moment-found : (n : ℕ) → headNamed n (take (r .count - constants) (r .moments)) ≡ headShown (momentOf b n)
-    unfolding momentOf
-    moment-found n =
-        rw (s .accepted)
-        (ap (λ (x : Radial). headNamed n (take (x .count - constants) (x .moments))) (s .shows)
-        ∙ ap (λ (l : List MomentHead). headNamed n l) (heads-taken d)
-        ∙ named-heads n (d .moments))
 
     -- ---- a block by its number
     abbrev asked : ℕ → Asked
@@ -121,6 +101,15 @@ module _ (b : List ℕ) (r : Radial) (e : r ≡ shown (radialOf b)) where
         (ap (λ (x : Radial). some (momentTold (getD (x .moments) (k - 4) other))) (s .shows)
         ∙ moment-at (d .moments) _ (k - 4) other inside
         ∙ ap (λ (n : ℕ). toldOf (asked n)) (sym j))
+
+-- ---- a moment's head by its place
+pub head-found : (b : List ℕ) (name p : ℕ) → Octets b → given p ≡ placeShown (momentOf b name) → given (headAt b p) ≡ headShown (momentOf b name)
+head-found b name p o e =
+    let l = lies-at b name p o e in
+    rw (l .was) (ap given (head-is b p (omega (arith, l .within, l .place)) ∙ ap headOf (l .reads)))
+
+pub head-refused : (b : List ℕ) (name n : ℕ) → refused n ≡ placeShown (momentOf b name) → refused n ≡ headShown (momentOf b name)
+head-refused b name n e = rw (no-place (momentOf b name) n e) refl
 
 -- ---- where the gates lie
 pub located-refused : (a : Answer Moment) (n : ℕ) → refused n ≡ headShown a → record { number = n; gates = 0; start = 0; size = 0 } ≡ located a

@@ -2,10 +2,8 @@
 use Prim.Native.Nat.{ℕ, _+_, _*_, _/_, _≤_}
 use mathlib.Core.Path.{_≡_}
 use mathlib.Core.Option.{none, some}
-use mathlib.Core.List.{List, [], _∷_}
-use lib.Dec.{eqb}
+use mathlib.Core.List.{List}
 use lib.ListN.{length}
-use Rattle.wire.specs.Checks.{pick}
 use Rattle.wire.specs.Answers.{Answer, refused, given}
 use Rattle.description.specs.Description.{momentHead, Moment}
 use Rattle.description.specs.Lookups.{onward, momentOf, gatesIn}
@@ -14,10 +12,10 @@ use Rattle.radial.specs.declared.Span.{Span}
 use Rattle.lookup.specs.declared.Located.{Located}
 use Rattle.lookup.specs.Told.{Told, numberOf, countOf, partOf}
 
--- the first head with a name
-abbrev pub headNamed : ℕ → List MomentHead → Answer MomentHead
-headNamed name [] = refused 21
-headNamed name (h ∷ hs) = pick (eqb (h .name) name) (given h) (headNamed name hs)
+-- where a moment begins
+abbrev pub placeShown : Answer Moment → Answer ℕ
+placeShown (refused n) = refused n
+placeShown (given m) = given (m .place)
 
 -- a block by the reader's struct
 abbrev pub constantTold : ℕ → Span → Told

@@ -3,18 +3,31 @@ use Prim.Native.Nat.{ℕ, _+_}
 use mathlib.Core.Path.{_≡_}
 use mathlib.Core.Option.{Option, none, some}
 use mathlib.Core.List.{List}
+use lib.Dec.{eqb}
 use lib.ListN.{length}
 use denote.Ref.{RefT, now}
+use Rattle.wire.specs.Checks.{pick}
 use Rattle.wire.specs.Answers.{Answer, refused, given}
 use Rattle.description.specs.Description.{Moment, gates}
 use Rattle.description.specs.Lookups.{momentOf, Asked, noSuch, lies, Part, gatesOf, bytesIn}
 use Rattle.radial.specs.declared.MomentHead.{MomentHead}
 use Rattle.radial.specs.Shown.{headOf}
+use Rattle.lookup.specs.declared.PlaceAnswer.{PlaceAnswer}
+use Rattle.lookup.specs.declared.PlaceAnswer.the-variants.{At, Refused as NoPlace}
 use Rattle.lookup.specs.declared.MomentAnswer.{MomentAnswer}
 use Rattle.lookup.specs.declared.MomentAnswer.the-variants.{Moment as Found, Refused as NotFound}
 use Rattle.lookup.specs.declared.LentGates.{LentGates}
 use Rattle.lookup.specs.declared.BlockAnswer.{BlockAnswer}
 use Rattle.lookup.specs.declared.BlockAnswer.the-variants.{Constant, Moment as MomentBlock, NoSuch, Refused as NoBlock}
+
+-- ---- where a moment begins, or the number of refusal
+abbrev pub tellPlace : PlaceAnswer → Answer ℕ
+tellPlace (At place) = given place
+tellPlace (NoPlace n) = refused n
+
+-- by the number of the radial's refusal or 0, and the place for a name that its pointers give or 0
+abbrev pub placeAsked : ℕ → ℕ → Answer ℕ
+placeAsked number place = pick (eqb number 0) (pick (eqb place 0) (refused 21) (given place)) (refused number)
 
 -- ---- a moment: its head and its place, or the number of refusal
 abbrev pub tellMoment : MomentAnswer → Answer MomentHead

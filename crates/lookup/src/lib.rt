@@ -6,7 +6,7 @@ ghost use lib.ListN.{length};
 ghost use Rattle.wire.specs.Numbers.{num, fetched};
 ghost use Rattle.wire.specs.Answers.{given};
 ghost use Rattle.description.specs.Lookups.{momentOf, blockOf, gatesOf};
-ghost use Rattle.lookup.specs.Told.{tellMoment, headShown, tellBlock, blockShown, LiesAt, partOf, Lent};
+ghost use Rattle.lookup.specs.Told.{tellPlace, placeAsked, tellMoment, headShown, tellBlock, blockShown, LiesAt, partOf, Lent};
 ghost use Rattle.lookup.specs.Steps.{constantTold, momentTold, Locates};
 use radial::MomentHead;
 use radial::Span;
@@ -14,6 +14,12 @@ use wire::refusal;
 
 // The four bytes that a moment is asked for by.
 pub type Name = [u8; 4];
+
+// Where the moment asked for begins.
+pub enum PlaceAnswer {
+    At(u32),
+    Refused(u8),
+}
 
 pub enum MomentAnswer {
     Moment(MomentHead),
@@ -43,25 +49,31 @@ struct Located {
     size: usize,
 }
 
-// The head of the moment with a name; "21 moment asked for doesn't exist".
+// By the number of a radial's checks and the place that its pointers give for a name; "21 moment asked for doesn't exist".
+pub fn asked(number: u8, place: u32) -> PlaceAnswer
+    ensures { λ r. ⌜ tellPlace r ≡ placeAsked number place ⌝ }
+{
+    if number != 0 {
+        return PlaceAnswer::Refused(number);
+    }
+    if place == 0 {
+        return PlaceAnswer::Refused(refusal::ASKED_FOR);
+    }
+    PlaceAnswer::At(place)
+}
+
+// The head of the moment with a name.
 pub fn moment(body: &[u8], name: Name) -> MomentAnswer
     ensures { λ r. ⌜ tellMoment r ≡ headShown (momentOf (now (body .entry)) (num 4 name 0)) ⌝ }
 {
     let wanted = wire::fetch32(&name, 0);
-    let read = radial::read_radial(body);
-    if read.refusal != 0 {
-        return MomentAnswer::Refused(read.refusal);
+    match asked(
+        radial::check_radial(body),
+        radial::moment_place(body, wanted),
+    ) {
+        PlaceAnswer::Refused(number) => MomentAnswer::Refused(number),
+        PlaceAnswer::At(place) => MomentAnswer::Moment(radial::head_at(body, place)),
     }
-    let count = (read.count - radial::CONSTANTS) as usize;
-    let mut i = 0;
-    while i < count {
-        let head = read.moments[i];
-        if head.name == wanted {
-            return MomentAnswer::Moment(head);
-        }
-        i += 1;
-    }
-    MomentAnswer::Refused(refusal::ASKED_FOR)
 }
 
 // One of the three constant blocks.

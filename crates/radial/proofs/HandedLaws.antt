@@ -22,7 +22,8 @@ use Rattle.radial.specs.declared.MomentHead.{MomentHead}
 use Rattle.radial.specs.declared.Radial.{Radial}
 use Rattle.radial.specs.Shown.{headOf, spanOf, noHead, room, shown}
 use Rattle.radial.specs.Handed.{blockFrom, momentFrom, handed, Handed, HandedExactly}
-use Rattle.radial.proofs.LoopLaws.{map-length}
+use Rattle.radial.proofs.HeadLaws.{map-length}
+use Rattle.radial.proofs.WholeLaws.{number}
 
 -- ---- no refusal of a radial has a number below 14
 abbrev From : ℕ → List Check → Type 0
@@ -132,7 +133,28 @@ pub refused-from : (b : List ℕ) (n : ℕ) → radialOf b ≡ refused n → 14 
 unfolding radialOf
 refused-from b n e = first-from 14 n (radialChecks b) (checks-from b) (rule-refused (radialChecks b) (description b) n e)
 
--- ---- so the struct's number tells
+-- ---- so the number tells
+-- what is accepted is what is read
+pub accepted-is : (b : List ℕ) (d : Description) → radialOf b ≡ given d → d ≡ description b
+unfolding radialOf
+accepted-is b d e = sym (rule-given (radialChecks b) (description b) d e .1)
+
+pub number-given : (b : List ℕ) (r : ℕ) → r ≡ number (radialOf b) → r ≡ 0 → radialOf b ≡ given (description b)
+number-given b r e z = go (radialOf b) refl
+  where
+    go : (a : Answer Description) → radialOf b ≡ a → radialOf b ≡ given (description b)
+    go (refused n) q =
+        let p : r ≡ n = e ∙ ap number q in
+        absurd (let h = refused-from b n q in omega arith)
+    go (given d) q = q ∙ ap given (accepted-is b d q)
+
+pub number-refused : (b : List ℕ) (r : ℕ) → r ≡ number (radialOf b) → (r ≡ 0 → ⊥) → radialOf b ≡ refused r
+number-refused b r e z = go (radialOf b) refl
+  where
+    go : (a : Answer Description) → radialOf b ≡ a → radialOf b ≡ refused r
+    go (refused n) q = q ∙ ap refused (sym (e ∙ ap number q))
+    go (given d) q = absurd (z (e ∙ ap number q))
+
 -- an accepted body, and the struct that shows it
 pub record Shows (b : List ℕ) (r : Radial) : Type 0 where
   pub what : Description
@@ -140,20 +162,12 @@ pub record Shows (b : List ℕ) (r : Radial) : Type 0 where
   pub shows : r ≡ shown (given what)
 
 pub shows-given : (b : List ℕ) (r : Radial) → r ≡ shown (radialOf b) → r .refusal ≡ 0 → Shows b r
-shows-given b r e z = go (radialOf b) refl
-  where
-    go : (a : Answer Description) → radialOf b ≡ a → Shows b r
-    go (refused n) q =
-        let p : r .refusal ≡ n = ap (λ (x : Radial). x .refusal) (e ∙ ap shown q) in
-        absurd (let h = refused-from b n q in omega arith)
-    go (given d) q = record { what = d; accepted = q; shows = e ∙ ap shown q }
+shows-given b r e z =
+    let a = number-given b (r .refusal) (ap (λ (x : Radial). x .refusal) e) z in
+    record { what = description b; accepted = a; shows = e ∙ ap shown a }
 
 pub shows-refused : (b : List ℕ) (r : Radial) → r ≡ shown (radialOf b) → (r .refusal ≡ 0 → ⊥) → radialOf b ≡ refused (r .refusal)
-shows-refused b r e z = go (radialOf b) refl
-  where
-    go : (a : Answer Description) → radialOf b ≡ a → radialOf b ≡ refused (r .refusal)
-    go (refused n) q = q ∙ ap refused (sym (ap (λ (x : Radial). x .refusal) (e ∙ ap shown q)))
-    go (given d) q = absurd (z (ap (λ (x : Radial). x .refusal) (e ∙ ap shown q)))
+shows-refused b r e z = number-refused b (r .refusal) (ap (λ (x : Radial). x .refusal) e) z
 
 -- ---- what is handed
 block-from : (b : List ℕ) (p : ℕ) → blockFrom b (spanOf (blockAt p (drop p b))) ≡ blockAt p (drop p b)
@@ -190,11 +204,6 @@ heads-taken d =
     let e : blockCount d - constants ≡ length (d .moments) = omega arith in
     ap (λ (n : ℕ). take n (shown (given d) .moments)) e
     ∙ take-at (map headOf (d .moments)) (replicate (room - length (d .moments)) noHead) (length (d .moments)) (map-length (d .moments))
-
--- what is accepted is what is read
-pub accepted-is : (b : List ℕ) (d : Description) → radialOf b ≡ given d → d ≡ description b
-unfolding radialOf
-accepted-is b d e = sym (rule-given (radialChecks b) (description b) d e .1)
 
 all-from : (b : List ℕ) → handed (shown (given (description b))) b ≡ given (description b)
 all-from b =

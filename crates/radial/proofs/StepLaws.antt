@@ -1,28 +1,18 @@
 -- What the steps of the reader say, in the rule's own checks. Assumes nothing.
-use Prim.Native.Nat.{ℕ, _+_, _≤_, _<_}
-use mathlib.Core.Path.{_≡_, refl, sym}
-use mathlib.Core.Bool.{Bool, true, false}
+use Prim.Native.Nat.{ℕ, suc, _+_, _-_, _*_, _≤_, _<_}
+use native.Mathlib.Omega.{arith}
+use mathlib.Core.Path.{_≡_, refl, sym, ap, _∙_}
+use mathlib.Core.Bool.{Bool}
 use mathlib.Core.List.{List, [], _∷_}
 use lib.Dec.{eqb}
-use lib.ListN.{length, getD, drop, drop-of-length-le}
-use lib.Seq.{drop-cons}
-use native.Mathlib.Numerals.{add-one}
+use lib.ListN.{length}
 use borrow.Author.Tests.{eq-eqb, ne-eqb}
 use Rattle.wire.specs.Numbers.{num, fetched}
+use Rattle.wire.specs.Checks.{pick}
 use Rattle.description.specs.Description.{RVOL, RELV, RRAD}
 use Rattle.description.specs.Refusal.{nameIn}
-use Rattle.wire.specs.Checks.{among}
 use Rattle.wire.proofs.NumberLaws.{fetched-whole}
-
--- ---- a list searched from the front: what is left answers as the whole
-pub among-here : (x : ℕ) (l : List ℕ) (i : ℕ) → i < length l → x ≡ getD l i 0 → among x (drop i l) ≡ true
-among-here x l i h e = rw (drop-cons l i 0 h) (simp (eq-eqb x (getD l i 0) e))
-
-pub among-next : (x : ℕ) (l : List ℕ) (i : ℕ) → i < length l → (x ≡ getD l i 0 → ⊥) → among x (drop i l) ≡ among x (drop (i + 1) l)
-among-next x l i h n = rw (drop-cons l i 0 h, add-one) (simp (ne-eqb x (getD l i 0) n))
-
-pub among-end : (x : ℕ) (l : List ℕ) (i : ℕ) → length l ≤ i → among x (drop i l) ≡ false
-among-end x l i h = rw (drop-of-length-le l h) refl
+use Rattle.radial.specs.Places.{placeFrom}
 
 -- ---- a block's name against a fixed four-byte string
 pub named-as : (l name : List ℕ) (n : ℕ) (r : Bool) → 4 ≤ length l → fetched 4 name 0 ≡ n → r ≡ eqb (fetched 4 l 0) (fetched 4 name 0) → eqb (nameIn l) n ≡ r
@@ -40,26 +30,22 @@ pub RRAD-is : fetched 4 (82 ∷ 82 ∷ 65 ∷ 68 ∷ []) 0 ≡ RRAD
 unfolding fetched num
 RRAD-is = refl
 
-pub DREF-is : fetched 4 (68 ∷ 82 ∷ 69 ∷ 70 ∷ []) 0 ≡ 0x44524546
-unfolding fetched num
-DREF-is = refl
+-- ---- the pointers searched from the first on: what is left answers as all
+module _ (b : List ℕ) (name k n : ℕ) (more : k < n) where
+  abbrev place : ℕ
+  place = fetched 4 b (32 + 4 * k)
 
-pub DVEL-is : fetched 4 (68 ∷ 86 ∷ 69 ∷ 76 ∷ []) 0 ≡ 0x4456454C
-unfolding fetched num
-DVEL-is = refl
+  one : placeFrom b name (32 + 4 * k) (n - k) ≡ pick (eqb (fetched 4 b place) name) place (placeFrom b name (32 + 4 * (k + 1)) (n - (k + 1)))
+  one =
+      let e : n - k ≡ suc (n - (k + 1)) = omega arith in
+      let f : 32 + 4 * k + 4 ≡ 32 + 4 * (k + 1) = omega arith in
+      ap (placeFrom b name (32 + 4 * k)) e ∙ ap (λ (q : ℕ). pick (eqb (fetched 4 b place) name) place (placeFrom b name q (n - (k + 1)))) f
 
-pub DSW-is : fetched 4 (68 ∷ 83 ∷ 87 ∷ 32 ∷ []) 0 ≡ 0x44535720
-unfolding fetched num
-DSW-is = refl
+  pub place-here : fetched 4 b place ≡ name → place ≡ placeFrom b name (32 + 4 * k) (n - k)
+  place-here e = sym (one ∙ simp (eq-eqb (fetched 4 b place) name e))
 
-pub DZDR-is : fetched 4 (68 ∷ 90 ∷ 68 ∷ 82 ∷ []) 0 ≡ 0x445A4452
-unfolding fetched num
-DZDR-is = refl
+  pub place-next : (fetched 4 b place ≡ name → ⊥) → placeFrom b name (32 + 4 * (k + 1)) (n - (k + 1)) ≡ placeFrom b name (32 + 4 * k) (n - k)
+  place-next e = sym (one ∙ simp (ne-eqb (fetched 4 b place) name e))
 
-pub DPHI-is : fetched 4 (68 ∷ 80 ∷ 72 ∷ 73 ∷ []) 0 ≡ 0x44504849
-unfolding fetched num
-DPHI-is = refl
-
-pub DRHO-is : fetched 4 (68 ∷ 82 ∷ 72 ∷ 79 ∷ []) 0 ≡ 0x4452484F
-unfolding fetched num
-DRHO-is = refl
+pub place-end : (b : List ℕ) (name k n : ℕ) → n ≤ k → 0 ≡ placeFrom b name (32 + 4 * k) (n - k)
+place-end b name k n h = let e : n - k ≡ 0 = omega arith in sym (ap (placeFrom b name (32 + 4 * k)) e)

@@ -1,21 +1,22 @@
 // The reader of a radial: a body of message 31 is checked block by block, and what it says is handed back by value.
 ghost use mathlib.Core.Path.{_≡_};
-ghost use Prim.Native.Nat.{_+_, _^_, _<_, _≤_};
+ghost use Prim.Native.Nat.{_+_, _-_, _^_, _<_, _≤_};
 ghost use lib.Dec.{eqb};
 ghost use lib.ListN.{length};
 ghost use Rattle.wire.specs.Numbers.{fetched};
 ghost use Rattle.wire.specs.Checks.{among};
-ghost use Rattle.wire.specs.Answers.{refused};
-ghost use Rattle.description.specs.Description.{permitted as permittedNames, wordSizes};
-ghost use Rattle.description.specs.Refusal.{nameIn, sizeIn, description, radialOf};
-ghost use Rattle.radial.specs.Shown.{room, headerOf, momentBytes, noHeader, noHead, shown};
-ghost use Rattle.radial.specs.Steps.{tellStart, tellFound, tellConstants, tellGot, tellHeads, headIn, startOf, constantIn, constantAt, constantsOf, momentIn, momentNext, momentsOf};
+ghost use Rattle.wire.specs.Answers.{refused, given};
+ghost use Rattle.description.specs.Description.{constants, permitted as permittedNames, wordSizes};
+ghost use Rattle.description.specs.Refusal.{sizeIn, countIn, pointer, momentsAt, description, radialOf};
+ghost use Rattle.radial.specs.Shown.{room, headerOf, momentBytes, noHeader, noHead, headsOf, shown};
+ghost use Rattle.radial.specs.Places.{placeIn, headAt, headingOf};
+ghost use Rattle.radial.specs.Steps.{tellStart, tellFound, tellGot, markOf, knownAs, marked, markSet, spanAt, headIn, startOf, constantIn, constantAt, constantsOf, momentIn, momentNext, momentsOf};
 use wire::refusal;
 
 // "The header takes bytes 0 to 67", and the first block begins there or later.
 const HEADER_SIZE: usize = 68;
 
-const FIRST_PLACE: u32 = 68;
+const FIRST_PLACE: usize = 68;
 
 // "The count is 4 to 9": the constant blocks, and at least one moment.
 const FEWEST_BLOCKS: u16 = 4;
@@ -28,6 +29,19 @@ pub const CONSTANTS: u16 = 3;
 pub const ROOM: usize = 6;
 
 const MOST_GATES: u16 = 1840;
+
+// "DREF", "DVEL", "DSW ", "DZDR", "DPHI" or "DRHO": a name is its four bytes as one number.
+const DREF: u32 = 0x44524546;
+
+const DVEL: u32 = 0x4456454C;
+
+const DSW: u32 = 0x44535720;
+
+const DZDR: u32 = 0x445A4452;
+
+const DPHI: u32 = 0x44504849;
+
+const DRHO: u32 = 0x4452484F;
 
 // Bytes before the rest of a constant block, and before a moment's gates.
 const CONSTANT_HEAD: usize = 6;
@@ -86,35 +100,29 @@ pub struct Radial {
     pub moments: [MomentHead; ROOM],
 }
 
+// What a body's header says, where its radial is accepted: `refusal` and all else as in `Radial`.
+pub struct Heading {
+    pub refusal: u8,
+    pub count: u16,
+    pub header: Header,
+}
+
 // The radial length and the block count.
 enum Start {
-    Checked(u32, u16),
+    Checked(usize, usize),
     Refused(u8),
 }
 
-// A constant block, and where it ends.
+// Where a constant block ends.
 enum Found {
-    Constant(Span, u32),
+    Ends(usize),
     Refused(u8),
 }
 
-// The three constant blocks, and where the last of them ends.
-enum Constants {
-    Blocks(Span, Span, Span, u32),
-    Refused(u8),
-}
-
-// A moment, and where it ends.
+// A moment's name, and where the moment ends.
 enum Got {
-    Moment(MomentHead, u32),
+    Moment(u32, usize),
     Refused(u8),
-}
-
-// The moments' heads, where none of them was refused.
-struct Heads {
-    ok: bool,
-    refusal: u8,
-    heads: [MomentHead; ROOM],
 }
 
 fn no_head() -> MomentHead
@@ -184,20 +192,28 @@ fn header_of(body: &[u8]) -> Header
     requires { ⌜ 68 ≤ length (now body) ⌝ }
     ensures { λ r. ⌜ r ≡ headerOf (description (now (body .entry))) ⌝ }
 {
+    header_in(&body[..HEADER_SIZE])
+}
+
+// The 68 bytes of the header.
+fn header_in(head: &[u8]) -> Header
+    requires { ⌜ 68 ≤ length (now head) ⌝ }
+    ensures { λ r. ⌜ r ≡ headerOf (description (now (head .entry))) ⌝ }
+{
     Header {
-        station: wire::fetch32(body, 0),
-        time: wire::fetch32(body, 4),
-        date: wire::fetch16(body, 8),
-        azimuth_number: wire::fetch16(body, 10),
-        azimuth: wire::fetch32(body, 12),
-        size: wire::fetch16(body, 18),
-        spacing: wire::fetch8(body, 20),
-        status: wire::fetch8(body, 21),
-        elevation_number: wire::fetch8(body, 22),
-        sector: wire::fetch8(body, 23),
-        elevation: wire::fetch32(body, 24),
-        spot: wire::fetch8(body, 28),
-        indexing: wire::fetch8(body, 29),
+        station: wire::fetch32(head, 0),
+        time: wire::fetch32(head, 4),
+        date: wire::fetch16(head, 8),
+        azimuth_number: wire::fetch16(head, 10),
+        azimuth: wire::fetch32(head, 12),
+        size: wire::fetch16(head, 18),
+        spacing: wire::fetch8(head, 20),
+        status: wire::fetch8(head, 21),
+        elevation_number: wire::fetch8(head, 22),
+        sector: wire::fetch8(head, 23),
+        elevation: wire::fetch32(head, 24),
+        spot: wire::fetch8(head, 28),
+        indexing: wire::fetch8(head, 29),
     }
 }
 
@@ -250,7 +266,7 @@ fn begin(body: &[u8]) -> Start
     if MOST_BLOCKS < count {
         return Start::Refused(refusal::BLOCK_COUNT);
     }
-    Start::Checked(length as u32, count)
+    Start::Checked(length as usize, count as usize)
 }
 
 // The first four bytes of a block against a fixed four-byte string.
@@ -260,105 +276,100 @@ fn named(part: &[u8], name: &[u8]) -> bool
     wire::fetch32(part, 0) == wire::fetch32(name, 0)
 }
 
+// A number below 8 for each name, for no two permitted names the same one.
+fn mark(name: u32) -> u32
+    ensures { λ r. ⌜ r ≡ markOf name ⌝ }
+{
+    (name as u64 * 98561 / 4294967296 % 8) as u32
+}
+
+// The permitted name with a mark; one of the others where none has it.
+fn known(mark: u32) -> u32
+    ensures { λ r. ⌜ r ≡ knownAs mark ⌝ }
+{
+    match mark {
+        0 => DRHO,
+        1 => DSW,
+        4 => DZDR,
+        6 => DVEL,
+        7 => DREF,
+        _ => DPHI,
+    }
+}
+
 // One of the names that a moment may have.
-fn permitted(part: &[u8]) -> bool
-    requires { ⌜ 4 ≤ length (now part) ⌝ }
-    ensures { λ r. ⌜ r ≡ among (nameIn (now (part .entry))) permittedNames ⌝ }
+fn permitted(name: u32) -> bool
+    ensures { λ r. ⌜ r ≡ among name permittedNames ⌝ }
 {
-    if named(part, b"DREF") {
-        return true;
-    }
-    if named(part, b"DVEL") {
-        return true;
-    }
-    if named(part, b"DSW ") {
-        return true;
-    }
-    if named(part, b"DZDR") {
-        return true;
-    }
-    if named(part, b"DPHI") {
-        return true;
-    }
-    named(part, b"DRHO")
+    name == known(mark(name))
 }
 
-// A name that an earlier moment had.
-fn listed(seen: &[u32], name: u32) -> bool
-    ensures { λ r. ⌜ r ≡ among name (now (seen .entry)) ⌝ }
+// A name whose mark is among those `seen`, a bit for each.
+fn repeated(seen: u32, name: u32) -> bool
+    ensures { λ r. ⌜ r ≡ marked seen name ⌝ }
 {
-    let mut i = 0;
-    while i < seen.len() {
-        if name == seen[i] {
-            return true;
-        }
-        i += 1;
-    }
-    false
+    (seen >> mark(name)) % 2 == 1
 }
 
-// A constant block, by the part of the body from its pointer to the end of the radial.
-fn constant(part: &[u8], place: u32, name: &[u8], least: usize) -> Found
-    requires { ⌜ place + length (now part) < 2 ^ 32 ⌝ }
-    ensures { λ r. ⌜ tellFound r ≡ constantIn place (now (part .entry)) (fetched 4 (now (name .entry)) 0) least ⌝ }
+fn with_mark(seen: u32, name: u32) -> u32
+    ensures { λ r. ⌜ r ≡ markSet seen name ⌝ }
 {
-    if part.len() < CONSTANT_HEAD {
-        return Found::Refused(refusal::POINTER);
-    }
-    if !named(part, name) {
+    seen | (1 << mark(name))
+}
+
+// The place that the pointer at a byte of the header says.
+fn place_at(body: &[u8], at: usize) -> usize
+    requires { ⌜ at + 4 ≤ length (now body) ⌝ }
+    ensures { λ r. ⌜ (r ≡ pointer (now (body .entry)) at) × (r < 2 ^ 32) ⌝ }
+{
+    let end = at + 4;
+    wire::fetch32(&body[at..end], 0) as usize
+}
+
+// A constant block at a place of a radial of `size` bytes, by the block's first six.
+fn constant(head: &[u8], size: usize, place: usize, name: &[u8], least: u16) -> Found
+    requires { ⌜ (6 ≤ length (now head)) × (place < 2 ^ 32) ⌝ }
+    ensures { λ r. ⌜ tellFound r ≡ constantIn size place (now (head .entry)) (fetched 4 (now (name .entry)) 0) least ⌝ }
+{
+    if !named(head, name) {
         return Found::Refused(refusal::NAME);
     }
-    let length = wire::fetch16(part, 4);
-    let size = length as usize;
-    if size < least {
+    let length = wire::fetch16(head, 4);
+    if length < least {
         return Found::Refused(refusal::BLOCK);
     }
-    if part.len() < size {
+    let end = place + length as usize;
+    if size < end {
         return Found::Refused(refusal::BLOCK);
     }
-    let span = Span {
-        place: place,
-        length: length,
-    };
-    Found::Constant(span, place + length as u32)
+    Found::Ends(end)
 }
 
-// A pointer too early or past the radial is 18. Any other lies inside, so that the block's part can be cut.
-fn constant_at(body: &[u8], size: u32, from: u32, pointer: u32, name: &[u8], least: usize) -> Found
-    requires { ⌜ (size ≤ length (now body)) × (pointer + 4 ≤ length (now body)) ⌝ }
-    ensures { λ r. ⌜ tellFound r ≡ constantAt (now (body .entry)) size from pointer (fetched 4 (now (name .entry)) 0) least ⌝ }
+// A pointer too early, or too near the end of the radial, is 18. After any other the block's first bytes can be cut.
+fn constant_at(body: &[u8], size: usize, from: usize, at: usize, name: &[u8], least: u16) -> Found
+    requires { ⌜ (size ≤ length (now body)) × (at + 4 ≤ length (now body)) ⌝ }
+    ensures { λ r. ⌜ tellFound r ≡ constantAt (now (body .entry)) size from at (fetched 4 (now (name .entry)) 0) least ⌝ }
 {
-    let place = wire::fetch32(body, pointer);
+    let place = place_at(body, at);
     if place < from {
         return Found::Refused(refusal::POINTER);
     }
-    if size < place {
+    let end = place + CONSTANT_HEAD;
+    if size < end {
         return Found::Refused(refusal::POINTER);
     }
-    let begin = place as usize;
-    let end = size as usize;
-    constant(&body[begin..end], place, name, least)
+    constant(&body[place..end], size, place, name, least)
 }
 
-fn all_constants(body: &[u8], size: u32, first: u32) -> Constants
+fn all_constants(body: &[u8], size: usize, first: usize) -> Found
     requires { ⌜ (68 ≤ length (now body)) × (size ≤ length (now body)) × (size ≡ sizeIn (now body)) ⌝ }
-    ensures { λ r. ⌜ tellConstants r ≡ constantsOf (now (body .entry)) first ⌝ }
+    ensures { λ r. ⌜ tellFound r ≡ constantsOf (now (body .entry)) first ⌝ }
 {
     match constant_at(body, size, first, 32, b"RVOL", 44) {
-        Found::Refused(number) => Constants::Refused(number),
-        Found::Constant(volume, from) => match constant_at(body, size, from, 36, b"RELV", 12) {
-            Found::Refused(number) => Constants::Refused(number),
-            Found::Constant(elevation, next) => match constant_at(
-                body,
-                size,
-                next,
-                40,
-                b"RRAD",
-                20,
-            ) {
-                Found::Refused(number) => Constants::Refused(number),
-                Found::Constant(radial, end) => Constants::Blocks(volume, elevation, radial, end),
-            },
+        Found::Refused(number) => Found::Refused(number),
+        Found::Ends(from) => match constant_at(body, size, from, 36, b"RELV", 12) {
+            Found::Refused(number) => Found::Refused(number),
+            Found::Ends(next) => constant_at(body, size, next, 40, b"RRAD", 20),
         },
     }
 }
@@ -380,83 +391,168 @@ pub fn moment_size(gates: u16, word: u8) -> u32
     28 + gates as u32 * (word as u32 / 8)
 }
 
-// A moment, by the part of the body from its pointer to the end of the radial, after moments with the names `seen`.
-fn moment_in(part: &[u8], place: u32, seen: &[u32]) -> Got
-    requires { ⌜ place + length (now part) < 2 ^ 32 ⌝ }
-    ensures { λ r. ⌜ tellGot r ≡ momentIn place (now (part .entry)) (now (seen .entry)) ⌝ }
+// A moment at a place of a radial of `size` bytes, by the moment's first 28, after moments whose marks are `seen`.
+fn moment_in(head: &[u8], size: usize, place: usize, seen: u32) -> Got
+    requires { ⌜ (28 ≤ length (now head)) × (place < 2 ^ 32) ⌝ }
+    ensures { λ r. ⌜ tellGot r ≡ momentIn size place (now (head .entry)) seen ⌝ }
 {
-    if part.len() < MOMENT_HEAD {
-        return Got::Refused(refusal::POINTER);
-    }
-    if !permitted(part) {
+    let name = wire::fetch32(head, 0);
+    if !permitted(name) {
         return Got::Refused(refusal::NAME);
     }
-    let head = head_of(part, place);
-    if listed(seen, head.name) {
+    if repeated(seen, name) {
         return Got::Refused(refusal::NAME);
     }
-    if MOST_GATES < head.gates {
+    let gates = wire::fetch16(head, 8);
+    if MOST_GATES < gates {
         return Got::Refused(refusal::BLOCK);
     }
-    if !sized(head.word) {
+    let word = wire::fetch8(head, 19);
+    if !sized(word) {
         return Got::Refused(refusal::BLOCK);
     }
-    let size = moment_size(head.gates, head.word);
-    if part.len() < size as usize {
+    let end = place + moment_size(gates, word) as usize;
+    if size < end {
         return Got::Refused(refusal::BLOCK);
     }
-    Got::Moment(head, place + size)
+    Got::Moment(name, end)
 }
 
-fn moment_at(body: &[u8], size: u32, from: u32, pointer: u32, seen: &[u32]) -> Got
-    requires { ⌜ (size ≤ length (now body)) × (pointer + 4 ≤ length (now body)) ⌝ }
-    ensures { λ r. ⌜ tellGot r ≡ momentNext (now (body .entry)) size from pointer (now (seen .entry)) ⌝ }
+fn moment_at(body: &[u8], size: usize, from: usize, at: usize, seen: u32) -> Got
+    requires { ⌜ (size ≤ length (now body)) × (at + 4 ≤ length (now body)) ⌝ }
+    ensures { λ r. ⌜ tellGot r ≡ momentNext (now (body .entry)) size from at seen ⌝ }
 {
-    let place = wire::fetch32(body, pointer);
+    let place = place_at(body, at);
     if place < from {
         return Got::Refused(refusal::POINTER);
     }
-    if size < place {
+    let end = place + MOMENT_HEAD;
+    if size < end {
         return Got::Refused(refusal::POINTER);
     }
-    let begin = place as usize;
-    let end = size as usize;
-    moment_in(&body[begin..end], place, seen)
+    moment_in(&body[place..end], size, place, seen)
 }
 
-// The moments in pointer order, each at or after the end of the block before.
-fn all_moments(body: &[u8], size: u32, first: u32, count: usize) -> Heads
+// The moments in pointer order, each at or after the end of the block before: the number that refuses one, or 0.
+fn all_moments(body: &[u8], size: usize, first: usize, count: usize) -> u8
     requires { ⌜ (68 ≤ length (now body)) × (size ≤ length (now body)) × (count ≤ room) ⌝ }
-    ensures { λ r. ⌜ tellHeads r ≡ momentsOf (now (body .entry)) size first count ⌝ }
+    ensures { λ r. ⌜ r ≡ momentsOf (now (body .entry)) size first count ⌝ }
 {
-    let none = no_head();
-    let mut names = [0u32; ROOM];
-    let mut heads = [none; ROOM];
+    let mut seen: u32 = 0;
     let mut from = first;
-    let mut pointer: u32 = 44;
     let mut i = 0;
     while i < count {
-        match moment_at(body, size, from, pointer, &names[..i]) {
+        match moment_at(body, size, from, 44 + 4 * i, seen) {
             Got::Refused(number) => {
-                return Heads {
-                    ok: false,
-                    refusal: number,
-                    heads: heads,
-                };
+                return number;
             }
-            Got::Moment(head, end) => {
-                names[i] = head.name;
-                heads[i] = head;
+            Got::Moment(name, end) => {
+                seen = with_mark(seen, name);
                 from = end;
             }
         }
-        pointer += 4;
         i += 1;
     }
-    Heads {
-        ok: true,
+    0
+}
+
+// The radial's checks: 0, or the number that refuses the body. No byte of a gate is read.
+pub fn check_radial(body: &[u8]) -> u8
+    ensures { λ r. ⌜ r ≡ shown (radialOf (now (body .entry))) .refusal ⌝ }
+{
+    match begin(body) {
+        Start::Refused(number) => number,
+        Start::Checked(size, count) => match all_constants(body, size, FIRST_PLACE) {
+            Found::Refused(number) => number,
+            Found::Ends(end) => all_moments(body, size, end, count - CONSTANTS as usize),
+        },
+    }
+}
+
+// The header of an accepted radial, and its count of blocks.
+pub fn read_heading(body: &[u8]) -> Heading
+    ensures { λ r. ⌜ r ≡ headingOf (shown (radialOf (now (body .entry)))) ⌝ }
+{
+    let number = check_radial(body);
+    if number != 0 {
+        let none = no_header();
+        return Heading {
+            refusal: number,
+            count: 0,
+            header: none,
+        };
+    }
+    let values = header_of(body);
+    Heading {
         refusal: 0,
-        heads: heads,
+        count: count_of(body),
+        header: values,
+    }
+}
+
+fn count_of(body: &[u8]) -> u16
+    requires { ⌜ 68 ≤ length (now body) ⌝ }
+    ensures { λ r. ⌜ r ≡ countIn (now (body .entry)) ⌝ }
+{
+    wire::fetch16(&body[30..32], 0)
+}
+
+// Where the first moment with a name begins, by the pointers alone; 0 where none has it.
+pub fn moment_place(body: &[u8], name: u32) -> u32
+    ensures { λ r. ⌜ r ≡ placeIn (now (body .entry)) name ⌝ }
+{
+    let count = wire::fetch16(body, 30) as u32;
+    let mut k = CONSTANTS as u32;
+    while k < count {
+        let place = wire::fetch32(body, 32 + 4 * k);
+        if wire::fetch32(body, place) == name {
+            return place;
+        }
+        k += 1;
+    }
+    0
+}
+
+// The first 28 bytes of a moment at a place of the body; nothing where they are not all there.
+pub fn head_at(body: &[u8], place: u32) -> MomentHead
+    ensures { λ r. ⌜ r ≡ headAt (now (body .entry)) place ⌝ }
+{
+    let begin = place as usize;
+    let end = begin + MOMENT_HEAD;
+    if body.len() < end {
+        return no_head();
+    }
+    head_of(&body[begin..end], place)
+}
+
+// The moments' heads of an accepted radial.
+fn all_heads(body: &[u8], count: usize) -> [MomentHead; ROOM]
+    requires { ⌜ (radialOf (now body) ≡ given (description (now body))) × (count ≡ countIn (now body) - constants) × (count ≤ room) ⌝ }
+    ensures { λ r. ⌜ r ≡ headsOf (momentsAt (now (body .entry)) 44 count) ⌝ }
+{
+    let none = no_head();
+    let mut heads = [none; ROOM];
+    let mut i = 0;
+    while i < count {
+        let place = place_at(body, 44 + 4 * i) as u32;
+        let head = head_at(body, place);
+        heads[i] = head;
+        i += 1;
+    }
+    heads
+}
+
+// Where the constant block of an accepted radial lies, by its pointer.
+fn span_of(body: &[u8], at: usize) -> Span
+    requires { ⌜ (at + 4 ≤ length (now body)) × (pointer (now body) at + 6 ≤ length (now body)) ⌝ }
+    ensures { λ r. ⌜ r ≡ spanAt (now (body .entry)) at ⌝ }
+{
+    let place = place_at(body, at);
+    let begin = place + 4;
+    let end = place + 6;
+    Span {
+        place: place as u32,
+        length: wire::fetch16(&body[begin..end], 0),
     }
 }
 
@@ -464,27 +560,22 @@ fn all_moments(body: &[u8], size: u32, first: u32, count: usize) -> Heads
 pub fn read_radial(body: &[u8]) -> Radial
     ensures { λ r. ⌜ r ≡ shown (radialOf (now (body .entry))) ⌝ }
 {
-    match begin(body) {
-        Start::Refused(number) => refuse(number),
-        Start::Checked(size, count) => match all_constants(body, size, FIRST_PLACE) {
-            Constants::Refused(number) => refuse(number),
-            Constants::Blocks(volume, elevation, radial, end) => {
-                let found = all_moments(body, size, end, (count - CONSTANTS) as usize);
-                if !found.ok {
-                    return refuse(found.refusal);
-                }
-                let header = header_of(body);
-                let heads = found.heads;
-                Radial {
-                    refusal: 0,
-                    count: count,
-                    header: header,
-                    volume: volume,
-                    elevation: elevation,
-                    radial: radial,
-                    moments: heads,
-                }
-            }
-        },
+    let read = read_heading(body);
+    if read.refusal != 0 {
+        return refuse(read.refusal);
+    }
+    let header = read.header;
+    let volume = span_of(body, 32);
+    let elevation = span_of(body, 36);
+    let radial = span_of(body, 40);
+    let heads = all_heads(body, (read.count - CONSTANTS) as usize);
+    Radial {
+        refusal: 0,
+        count: read.count,
+        header: header,
+        volume: volume,
+        elevation: elevation,
+        radial: radial,
+        moments: heads,
     }
 }

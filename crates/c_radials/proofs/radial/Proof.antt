@@ -7,11 +7,11 @@ use Rattle.c_radials.proofs.radial.Statement.{statement}
 use Rattle.c_radials.proofs.radial.Tie as tie
 use Rattle.c_radials.proofs.radial.Reads as reads
 use Rattle.c_radials.proofs.radial.Lts as lts
-use Rattle.radial.proofs.read_radial.Reads as read-radial-reads
+use Rattle.radial.proofs.read_heading.Reads as read-heading-reads
 
 -- src/lib.rt:246:9
-read-radial-requires : tie.Need-read-radial-requires
-read-radial-requires c κs = search needs
+read-heading-requires : tie.Need-read-heading-requires
+read-heading-requires c κs = search needs
 
 -- src/lib.rt:249:18
 cast-t4 : tie.Need-cast-t4
@@ -43,15 +43,15 @@ cast-t10 c = search needs
 
 -- src/lib.rt:259:17
 cast-t11 : tie.Need-cast-t11
-cast-t11 c = omega (arith, c .before .before .before .before .before .before .before .before .before .read-radial .ok)
+cast-t11 c = omega (arith, c .before .before .before .before .before .before .before .before .before .read-heading .ok)
 
 -- src/lib.rt:261:19
 cast-t12 : tie.Need-cast-t12
-cast-t12 c = omega (arith, c .before .before .before .before .before .before .before .before .before .before .read-radial .ok)
+cast-t12 c = omega (arith, c .before .before .before .before .before .before .before .before .before .before .read-heading .ok)
 
 -- src/lib.rt:262:19
 cast-t13 : tie.Need-cast-t13
-cast-t13 c = omega (arith, c .before .before .before .before .before .before .before .before .before .before .before .read-radial .ok)
+cast-t13 c = omega (arith, c .before .before .before .before .before .before .before .before .before .before .before .read-heading .ok)
 
 -- src/lib.rt:263:17
 cast-t14 : tie.Need-cast-t14
@@ -59,13 +59,13 @@ cast-t14 c = search needs
 
 -- src/lib.rt:242:1
 returns : tie.Need-returns
-returns c = simp (c .before .before .before .before .before .before .before .before .before .before .before .before .read-radial .ensures) (radial-shown (radialOf (now (c .before .before .before .before .before .before .before .before .before .before .before .before .before .before .args .body))))
+returns c = simp (c .before .before .before .before .before .before .before .before .before .before .before .before .read-heading .ensures) (radial-shown (radialOf (now (c .before .before .before .before .before .before .before .before .before .before .before .before .before .before .args .body))))
 
 pub radial-spec : {M : Type 1} → statement M
 radial-spec =
     tie.close
     (tie.spec
-    read-radial-requires
+    read-heading-requires
     cast-t4
     cast-t5
     cast-t6

@@ -56,8 +56,11 @@ returns-6 : tie.Need-returns-6
 returns-6 c =
     simp (n16 (c .before .before .before .before .before .before .before), n18 (c .before .before .before .before .before), n30 (c .before .before), le-ltb _ _ (c .before .before .before .before .before .before .before .before .if1 .left), eq-eqb _ _ (c .before .before .before .before .before .before .if2 .left), le-ltb _ _ (c .before .before .before .before .if3 .left), le-ltb _ _ (c .before .before .before .if4 .left), le-ltb _ _ (c .before .if5 .left), lt-ltb _ _ (c .if6 .taken))
 
-cast-t8 : tie.Need-cast-t8
-cast-t8 c = search needs
+cast-t4 : tie.Need-cast-t4
+cast-t4 c = search needs
+
+cast-t7 : tie.Need-cast-t7
+cast-t7 c = search needs
 
 returns-7 : tie.Need-returns-7
 returns-7 c =
@@ -78,5 +81,6 @@ begin-spec =
     fetch16-requires-2
     returns-5
     returns-6
-    cast-t8
+    cast-t4
+    cast-t7
     returns-7)

@@ -1,68 +1,67 @@
-use mathlib.Core.Path.{_≡_, refl}
-use lib.Dec.{eqb}
-use denote.Ref.{now}
-use borrow.Author.Tests.{lt-ltb, le-ltb, not-true, not-false}
-use Rattle.wire.specs.Numbers.{fetched}
-use Rattle.description.specs.Refusal.{nameIn, blockSays}
-use Rattle.wire.proofs.NumberLaws.{number-is}
 use Rattle.radial.proofs.StepLaws.{named-as}
+use Rattle.wire.proofs.NumberLaws.{number-is}
+use Rattle.description.specs.Refusal.{nameIn, blockSays}
+use Rattle.wire.specs.Numbers.{fetched}
+use borrow.Author.Tests.{lt-ltb, le-ltb, not-true, not-false}
+use denote.Ref.{now}
+use lib.Dec.{eqb}
+use mathlib.Core.Path.{_≡_, refl}
 use borrow.Author.Needs.{needs}
 use Rattle.radial.proofs.constant.Statement.{statement}
 use Rattle.radial.proofs.constant.Tie as tie
+use Rattle.radial.proofs.constant.Reads as reads
+use Rattle.radial.proofs.constant.Lts as lts
+use Rattle.radial.proofs.named.Reads as named-reads
+use Rattle.wire.proofs.fetch16.Reads as fetch16-reads
 
 -- the comparison of the names, and the block's length
-same : (c : tie.After-named) → eqb (nameIn (now (c .before .before .before .before .args .part))) (fetched 4 (now (c .before .before .before .before .args .name)) 0) ≡ c .named .result
-same c = named-as (now (c .before .before .before .before .args .part)) (now (c .before .before .before .before .args .name)) _ _ (search needs) refl (c .named .ensures)
+same : (c : tie.After-named) → eqb (nameIn (now (c .before .before .before .args .head))) (fetched 4 (now (c .before .before .before .args .name)) 0) ≡ c .named .result
+same c = named-as (now (c .before .before .before .args .head)) (now (c .before .before .before .args .name)) _ _ (search needs) refl (c .named .ensures)
 
-says : (c : tie.After-fetch16) → blockSays (now (c .before .before .before .before .before .before .args .part)) ≡ c .fetch16 .result
+says : (c : tie.After-fetch16) → blockSays (now (c .before .before .before .before .before .args .head)) ≡ c .fetch16 .result
 says c = number-is 2 _ 4 _ (c .fetch16 .ensures) (search needs)
 
-returns : tie.Need-returns
-returns c =
-    simp (lt-ltb _ _ (c .if1 .taken))
-
+-- src/lib.rt:334:9
 named-requires : tie.Need-named-requires
 named-requires c κs = search needs
 
-returns-2 : tie.Need-returns-2
-returns-2 c =
-    simp (same (c .before), le-ltb _ _ (c .before .before .if1 .left), not-true (c .before .named .result) (c .if2 .taken))
+-- src/lib.rt:335:9
+returns : tie.Need-returns
+returns c = simp (same (c .before), not-true (c .before .named .result) (c .if1 .taken))
 
+-- src/lib.rt:337:9
 fetch16-requires : tie.Need-fetch16-requires
 fetch16-requires c κs = search needs
 
-cast-size : tie.Need-cast-size
-cast-size c = search needs
+-- src/lib.rt:339:9
+returns-2 : tie.Need-returns-2
+returns-2 c = simp (same (c .before .before .before), says (c .before), not-false (c .before .before .before .named .result) (c .before .before .if1 .left), lt-ltb _ _ (c .if2 .taken))
 
+-- src/lib.rt:341:23
+cast-end : tie.Need-cast-end
+cast-end c = search needs
+
+-- src/lib.rt:341:15
+add-end : tie.Need-add-end
+add-end c = search needs
+
+-- src/lib.rt:343:9
 returns-3 : tie.Need-returns-3
-returns-3 c =
-    simp (same (c .before .before .before), says (c .before), le-ltb _ _ (c .before .before .before .before .if1 .left), not-false (c .before .before .before .named .result) (c .before .before .if2 .left), lt-ltb _ _ (c .if3 .taken))
+returns-3 c = simp (same (c .before .before .before .before), says (c .before .before), not-false (c .before .before .before .before .named .result) (c .before .before .before .if1 .left), le-ltb _ _ (c .before .if2 .left), lt-ltb _ _ (c .if3 .taken))
 
+-- src/lib.rt:330:1
 returns-4 : tie.Need-returns-4
-returns-4 c =
-    simp (same (c .before .before .before .before), says (c .before .before), le-ltb _ _ (c .before .before .before .before .before .if1 .left), not-false (c .before .before .before .before .named .result) (c .before .before .before .if2 .left), le-ltb _ _ (c .before .if3 .left), lt-ltb _ _ (c .if4 .taken))
-
-cast-t11 : tie.Need-cast-t11
-cast-t11 c = search needs
-
-add-t12 : tie.Need-add-t12
-add-t12 c = search needs
-
-returns-5 : tie.Need-returns-5
-returns-5 c =
-    simp (same (c .before .before .before .before), says (c .before .before), le-ltb _ _ (c .before .before .before .before .before .if1 .left), not-false (c .before .before .before .before .named .result) (c .before .before .before .if2 .left), le-ltb _ _ (c .before .if3 .left), le-ltb _ _ (c .if4 .left))
+returns-4 c = simp (same (c .before .before .before .before), says (c .before .before), not-false (c .before .before .before .before .named .result) (c .before .before .before .if1 .left), le-ltb _ _ (c .before .if2 .left), le-ltb _ _ (c .if3 .left))
 
 pub constant-spec : {M : Type 1} → statement M
 constant-spec =
     tie.close
     (tie.spec
-    returns
     named-requires
-    returns-2
+    returns
     fetch16-requires
-    cast-size
+    returns-2
+    cast-end
+    add-end
     returns-3
-    returns-4
-    cast-t11
-    add-t12
-    returns-5)
+    returns-4)

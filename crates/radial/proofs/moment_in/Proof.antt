@@ -1,119 +1,145 @@
-use Prim.Native.Nat.{_+_, _*_, _/_, _<_, _≤_}
-use mathlib.Core.Path.{_≡_, sym, ap, _∙_}
-use mathlib.Core.Bool.{true, false}
-use lib.Dec.{ltb}
-use lib.ListN.{length}
-use denote.Ref.{now}
-use borrow.Author.Tests.{lt-ltb, le-ltb, not-true, not-false}
-use Rattle.wire.specs.Numbers.{num}
-use Rattle.wire.specs.Checks.{among}
-use Rattle.wire.specs.Answers.{given}
-use Rattle.description.specs.Description.{permitted as permittedNames, mostGates, wordSizes, momentHead}
+use Rattle.radial.specs.Steps.{marked}
 use Rattle.description.specs.Refusal.{nameIn, momentSays}
-use Rattle.radial.specs.declared.MomentHead.{MomentHead}
+use Rattle.description.specs.Description.{permitted as permittedNames, mostGates, wordSizes, momentHead}
+use Rattle.wire.proofs.NumberLaws.{number-is}
+use Rattle.wire.specs.Answers.{given}
+use Rattle.wire.specs.Checks.{among}
+use Rattle.wire.specs.Numbers.{num}
+use borrow.Author.Tests.{lt-ltb, le-ltb, not-true, not-false}
+use denote.Ref.{now}
+use lib.Dec.{ltb}
+use mathlib.Core.Bool.{true, false}
+use mathlib.Core.Path.{_≡_, sym, ap, _∙_}
+use Prim.Native.Nat.{ℕ, _+_, _*_, _/_, _<_, _≤_}
 use borrow.Author.Needs.{needs}
 use Rattle.radial.proofs.moment_in.Statement.{statement}
 use Rattle.radial.proofs.moment_in.Tie as tie
+use Rattle.radial.proofs.moment_in.Reads as reads
+use Rattle.radial.proofs.moment_in.Lts as lts
+use Rattle.radial.proofs.moment_size.Reads as moment-size-reads
+use Rattle.radial.proofs.permitted.Reads as permitted-reads
+use Rattle.radial.proofs.repeated.Reads as repeated-reads
+use Rattle.radial.proofs.sized.Reads as sized-reads
+use Rattle.wire.proofs.fetch16.Reads as fetch16-reads
+use Rattle.wire.proofs.fetch32.Reads as fetch32-reads
+use Rattle.wire.proofs.fetch8.Reads as fetch8-reads
 
--- what the callees found, and what each test said of the part's bytes
-permits : (c : tie.After-permitted) → among (nameIn (now (c .before .before .before .before .args .part))) permittedNames ≡ c .permitted .result
-permits c = sym (c .permitted .ensures)
+-- what the fetches and the callees found, and what each test said of the head's bytes
+name-is : (c : tie.After-fetch32) → nameIn (now (c .before .before .args .head)) ≡ c .fetch32 .result
+name-is c = number-is 4 _ 0 _ (c .fetch32 .ensures) (search needs)
 
-repeats : (c : tie.After-listed) → among (nameIn (now (c .before .before .before .before .before .before .before .args .part))) (now (c .before .before .before .before .before .before .before .args .seen)) ≡ c .listed .result
-repeats c = ap (λ (h : MomentHead). among (h .name) (now (c .before .before .before .before .before .before .before .args .seen))) (sym (c .before .head-of .ensures)) ∙ sym (c .listed .ensures)
+permits : (c : tie.After-permitted) → among (nameIn (now (c .before .before .before .args .head))) permittedNames ≡ c .permitted .result
+permits c = ap (λ (n : ℕ). among n permittedNames) (name-is (c .before)) ∙ sym (c .permitted .ensures)
 
-gates-are : (c : tie.After-head-of) → num 2 (now (c .before .before .before .before .before .before .args .part)) 8 ≡ c .head-of .result .gates
-gates-are c = ap (λ (h : MomentHead). h .gates) (sym (c .head-of .ensures))
+repeats : (c : tie.After-repeated) → marked (c .before .before .before .before .before .args .seen) (nameIn (now (c .before .before .before .before .before .args .head))) ≡ c .repeated .result
+repeats c = ap (marked (c .before .before .before .before .before .args .seen)) (name-is (c .before .before .before)) ∙ sym (c .repeated .ensures)
 
-sizes : (c : tie.After-sized) → among (num 1 (now (c .before .before .before .before .before .before .before .before .before .before .before .args .part)) 19) wordSizes ≡ c .sized .result
-sizes c = ap (λ (h : MomentHead). among (h .word) wordSizes) (sym (c .before .before .before .before .before .head-of .ensures)) ∙ sym (c .sized .ensures)
+gates-are : (c : tie.After-fetch16) → num 2 (now (c .before .before .before .before .before .before .before .args .head)) 8 ≡ c .fetch16 .result
+gates-are c = number-is 2 _ 8 _ (c .fetch16 .ensures) (search needs)
 
-size-is : (c : tie.After-moment-size) → momentSays (now (c .before .before .before .before .before .before .before .before .before .before .before .before .before .args .part)) ≡ c .moment-size .result
-size-is c = ap (λ (h : MomentHead). momentHead + h .gates * (h .word / 8)) (sym (c .before .before .before .before .before .before .before .head-of .ensures)) ∙ sym (c .moment-size .ensures)
+word-is : (c : tie.After-fetch8) → num 1 (now (c .before .before .before .before .before .before .before .before .before .args .head)) 19 ≡ c .fetch8 .result
+word-is c = number-is 1 _ 19 _ (c .fetch8 .ensures) (search needs)
 
-long : (c : tie.Else1) → ltb (length (now (c .before .before .before .args .part))) momentHead ≡ false
-long c = le-ltb _ _ (c .if1 .left)
+sizes : (c : tie.After-sized) → among (num 1 (now (c .before .before .before .before .before .before .before .before .before .before .args .head)) 19) wordSizes ≡ c .sized .result
+sizes c = ap (λ (n : ℕ). among n wordSizes) (word-is (c .before)) ∙ sym (c .sized .ensures)
 
-known : (c : tie.Else2) → among (nameIn (now (c .before .before .before .before .before .args .part))) permittedNames ≡ true
-known c = permits (c .before) ∙ not-false (c .before .permitted .result) (c .if2 .left)
+size-is : (c : tie.After-moment-size) → momentSays (now (c .before .before .before .before .before .before .before .before .before .before .before .before .args .head)) ≡ c .moment-size .result
+size-is c = (λ i. momentHead + gates-are (c .before .before .before .before .before) i * (word-is (c .before .before .before) i / 8)) ∙ sym (c .moment-size .ensures)
 
-once : (c : tie.Else3) → among (nameIn (now (c .before .before .before .before .before .before .before .before .args .part))) (now (c .before .before .before .before .before .before .before .before .args .seen)) ≡ false
-once c = repeats (c .before) ∙ c .if3 .left
+known : (c : tie.Else1) → among (nameIn (now (c .before .before .before .before .args .head))) permittedNames ≡ true
+known c = permits (c .before) ∙ not-false (c .before .permitted .result) (c .if1 .left)
 
-few : (c : tie.Else4) → ltb mostGates (num 2 (now (c .before .before .before .before .before .before .before .before .before .before .args .part)) 8) ≡ false
-few c = le-ltb mostGates (num 2 (now (c .before .before .before .before .before .before .before .before .before .before .args .part)) 8) (rw (gates-are (c .before .before .before .before)) (c .if4 .left))
+once : (c : tie.Else2) → marked (c .before .before .before .before .before .before .args .seen) (nameIn (now (c .before .before .before .before .before .before .args .head))) ≡ false
+once c = repeats (c .before) ∙ c .if2 .left
 
-fitting : (c : tie.Else5) → among (num 1 (now (c .before .before .before .before .before .before .before .before .before .before .before .before .args .part)) 19) wordSizes ≡ true
-fitting c = sizes (c .before) ∙ not-false (c .before .sized .result) (c .if5 .left)
+few : (c : tie.Else3) → ltb mostGates (num 2 (now (c .before .before .before .before .before .before .before .before .args .head)) 8) ≡ false
+few c = le-ltb mostGates (num 2 (now (c .before .before .before .before .before .before .before .before .args .head)) 8) (rw (gates-are (c .before)) (c .if3 .left))
 
-returns : tie.Need-returns
-returns c =
-    simp (lt-ltb _ _ (c .if1 .taken))
+fitting : (c : tie.Else4) → among (num 1 (now (c .before .before .before .before .before .before .before .before .before .before .before .args .head)) 19) wordSizes ≡ true
+fitting c = sizes (c .before) ∙ not-false (c .before .sized .result) (c .if4 .left)
 
+-- src/lib.rt:399:9
+fetch32-requires : tie.Need-fetch32-requires
+fetch32-requires c κs = search needs
+
+-- src/lib.rt:400:9
 permitted-requires : tie.Need-permitted-requires
 permitted-requires c κs = search needs
 
+-- src/lib.rt:401:9
+returns : tie.Need-returns
+returns c = simp (permits (c .before) ∙ not-true (c .before .permitted .result) (c .if1 .taken))
+
+-- src/lib.rt:403:8
+repeated-requires : tie.Need-repeated-requires
+repeated-requires c κs = search needs
+
+-- src/lib.rt:404:9
 returns-2 : tie.Need-returns-2
-returns-2 c =
-    simp (long (c .before .before), permits (c .before) ∙ not-true (c .before .permitted .result) (c .if2 .taken))
+returns-2 c = simp (known (c .before .before), repeats (c .before) ∙ c .if2 .taken)
 
-head-of-requires : tie.Need-head-of-requires
-head-of-requires c κs = search needs
+-- src/lib.rt:406:9
+fetch16-requires : tie.Need-fetch16-requires
+fetch16-requires c κs = search needs
 
-listed-requires : tie.Need-listed-requires
-listed-requires c κs = search needs
-
+-- src/lib.rt:408:9
 returns-3 : tie.Need-returns-3
-returns-3 c =
-    simp (long (c .before .before .before .before .before), known (c .before .before .before), repeats (c .before) ∙ c .if3 .taken)
+returns-3 c = let many : mostGates < num 2 (now (c .before .before .before .before .before .before .before .before .args .head)) 8 = rw (gates-are (c .before)) (c .if3 .taken) in
+    simp (known (c .before .before .before .before), once (c .before .before), lt-ltb _ _ many)
 
-returns-4 : tie.Need-returns-4
-returns-4 c =
-    let many : mostGates < num 2 (now (c .before .before .before .before .before .before .before .before .before .before .args .part)) 8 = rw (gates-are (c .before .before .before .before)) (c .if4 .taken) in
-    simp (long (c .before .before .before .before .before .before .before), known (c .before .before .before .before .before), once (c .before .before), lt-ltb _ _ many)
+-- src/lib.rt:410:9
+fetch8-requires : tie.Need-fetch8-requires
+fetch8-requires c κs = search needs
 
+-- src/lib.rt:411:9
 sized-requires : tie.Need-sized-requires
 sized-requires c κs = search needs
 
-returns-5 : tie.Need-returns-5
-returns-5 c =
-    simp (long (c .before .before .before .before .before .before .before .before .before), known (c .before .before .before .before .before .before .before), once (c .before .before .before .before), few (c .before .before), sizes (c .before) ∙ not-true (c .before .sized .result) (c .if5 .taken))
+-- src/lib.rt:412:9
+returns-4 : tie.Need-returns-4
+returns-4 c = simp (known (c .before .before .before .before .before .before .before), once (c .before .before .before .before .before), few (c .before .before .before), sizes (c .before) ∙ not-true (c .before .sized .result) (c .if4 .taken))
 
+-- src/lib.rt:414:23
 moment-size-requires : tie.Need-moment-size-requires
 moment-size-requires c κs = search needs
 
-cast-if6 : tie.Need-cast-if6
-cast-if6 c = search needs
+-- src/lib.rt:414:23
+cast-end : tie.Need-cast-end
+cast-end c = search needs
 
+-- src/lib.rt:414:15
+add-end : tie.Need-add-end
+add-end c = search needs
+
+-- src/lib.rt:416:9
+returns-5 : tie.Need-returns-5
+returns-5 c = let a = c .before .before .before .before .before .before .before .before .before .before .before .before .before .args in
+    let over : a .size < a .place + momentSays (now (a .head)) = rw (size-is (c .before)) (c .if5 .taken) in
+    simp (known (c .before .before .before .before .before .before .before .before .before), once (c .before .before .before .before .before .before .before), few (c .before .before .before .before .before), fitting (c .before .before), lt-ltb _ _ over)
+
+-- src/lib.rt:395:1
 returns-6 : tie.Need-returns-6
-returns-6 c =
-    let over : length (now (c .before .before .before .before .before .before .before .before .before .before .before .before .before .before .args .part)) < momentSays (now (c .before .before .before .before .before .before .before .before .before .before .before .before .before .before .args .part)) = rw (size-is (c .before)) (c .if6 .taken) in
-    simp (long (c .before .before .before .before .before .before .before .before .before .before .before), known (c .before .before .before .before .before .before .before .before .before), once (c .before .before .before .before .before .before), few (c .before .before .before .before), fitting (c .before .before), lt-ltb _ _ over)
-
-add-t11 : tie.Need-add-t11
-add-t11 c = search needs
-
-returns-7 : tie.Need-returns-7
-returns-7 c =
-    let inside : momentSays (now (c .before .before .before .before .before .before .before .before .before .before .before .before .before .before .args .part)) ≤ length (now (c .before .before .before .before .before .before .before .before .before .before .before .before .before .before .args .part)) = rw (size-is (c .before)) (c .if6 .left) in
-    simp (long (c .before .before .before .before .before .before .before .before .before .before .before), known (c .before .before .before .before .before .before .before .before .before), once (c .before .before .before .before .before .before), few (c .before .before .before .before), fitting (c .before .before), le-ltb _ _ inside)
-    (λ i. given (c .before .before .before .before .before .before .before .before .head-of .ensures i, c .before .before .before .before .before .before .before .before .before .before .before .before .before .before .args .place + sym (size-is (c .before)) i))
+returns-6 c = let a = c .before .before .before .before .before .before .before .before .before .before .before .before .before .args in
+    let inside : a .place + momentSays (now (a .head)) ≤ a .size = rw (size-is (c .before)) (c .if5 .left) in
+    simp (known (c .before .before .before .before .before .before .before .before .before), once (c .before .before .before .before .before .before .before), few (c .before .before .before .before .before), fitting (c .before .before), le-ltb _ _ inside)
+    (λ i. given (sym (name-is (c .before .before .before .before .before .before .before .before .before .before .before)) i, a .place + sym (size-is (c .before)) i))
 
 pub moment-in-spec : {M : Type 1} → statement M
 moment-in-spec =
     tie.close
     (tie.spec
-    returns
+    fetch32-requires
     permitted-requires
+    returns
+    repeated-requires
     returns-2
-    head-of-requires
-    listed-requires
+    fetch16-requires
     returns-3
-    returns-4
+    fetch8-requires
     sized-requires
-    returns-5
+    returns-4
     moment-size-requires
-    cast-if6
-    returns-6
-    add-t11
-    returns-7)
+    cast-end
+    add-end
+    returns-5
+    returns-6)

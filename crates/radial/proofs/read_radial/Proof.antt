@@ -1,102 +1,89 @@
+use Prim.Native.Nat.{ℕ, _-_}
+use native.Mathlib.Omega.{arith}
 use mathlib.Core.Path.{_≡_, sym, ap, _∙_}
 use denote.Ref.{now}
-use native.Mathlib.Omega.{arith}
-use borrow.Author.Tests.{not-true, not-false}
 use Rattle.wire.specs.Answers.{given}
-use Rattle.radial.specs.Shown.{shown}
-use Rattle.radial.specs.Steps.{tellStart, tellConstants, startOf, constantsOf}
-use Rattle.radial.proofs.WholeLaws.{Started, started, heads-refused, heads-given, no-start, no-constants, no-moments, read}
+use Rattle.description.specs.Refusal.{countIn, momentsAt, description, radialOf}
+use Rattle.radial.specs.declared.Heading.{Heading}
+use Rattle.radial.specs.Shown.{headsOf, shown}
+use Rattle.radial.proofs.HeadLaws.{Held, held, count-is, read}
+use Rattle.radial.proofs.HandedLaws.{number-given, number-refused}
 use borrow.Author.Needs.{needs}
 use Rattle.radial.proofs.read_radial.Statement.{statement}
 use Rattle.radial.proofs.read_radial.Tie as tie
+use Rattle.radial.proofs.read_radial.Reads as reads
+use Rattle.radial.proofs.read_radial.Lts as lts
+use Rattle.radial.proofs.all_heads.Reads as all-heads-reads
+use Rattle.radial.proofs.read_heading.Reads as read-heading-reads
+use Rattle.radial.proofs.refuse.Reads as refuse-reads
+use Rattle.radial.proofs.span_of.Reads as span-of-reads
 
--- what the steps handed on
-start-is : (c : tie.After-known-told2) → given (c .before .size .given .0 .0, c .before .size .given .0 .1 .0) ≡ startOf (now (c .before .before .before .before .before .args .body))
-start-is c = ap tellStart (sym (c .before .size .given .1)) ∙ c .before .before .before .begin .ensures
+-- the body is accepted, and what its checks leave known
+accepted : (c : tie.After-header) → radialOf (now (c .before .before .before .before .before .args .body)) ≡ given (description (now (c .before .before .before .before .before .args .body)))
+accepted c = number-given (now (c .before .before .before .before .before .args .body)) (c .before .before .before .read-heading .result .refusal) (ap (λ (h : Heading). h .refusal) (c .before .before .before .read-heading .ensures)) (c .before .if1 .left)
 
-begun : (c : tie.After-known-told2) → Started (now (c .before .before .before .before .before .args .body)) (c .before .size .given .0 .0) (c .before .size .given .0 .1 .0)
-begun c = started (now (c .before .before .before .before .before .args .body)) (c .before .size .given .0 .0) (c .before .size .given .0 .1 .0) (start-is c)
+all : (c : tie.After-header) → Held (now (c .before .before .before .before .before .args .body))
+all c = held (now (c .before .before .before .before .before .args .body)) _ (accepted c)
 
-three : (c : tie.After-known-told4) → given (c .before .volume .given .0 .0, c .before .volume .given .0 .1 .0, c .before .volume .given .0 .1 .1 .0, c .before .volume .given .0 .1 .1 .1 .0) ≡ constantsOf (now (c .before .before .before .before .before .before .before .before .before .args .body)) 68
-three c = ap tellConstants (sym (c .before .volume .given .1)) ∙ c .before .before .before .all-constants .ensures
+counted : (c : tie.After-header) → c .before .before .before .read-heading .result .count ≡ countIn (now (c .before .before .before .before .before .args .body))
+counted c = count-is (now (c .before .before .before .before .before .args .body)) (accepted c) _ (c .before .before .before .read-heading .ensures)
 
-begin-requires : tie.Need-begin-requires
-begin-requires c κs = search needs
+-- src/lib.rt:563:9
+read-heading-requires : tie.Need-read-heading-requires
+read-heading-requires c κs = search needs
 
-enum-known-number : tie.Need-enum-known-number
-enum-known-number c = search needs
-
+-- src/lib.rt:565:9
 refuse-requires : tie.Need-refuse-requires
 refuse-requires c κs = search needs
 
-enum-known-size : tie.Need-enum-known-size
-enum-known-size c = search needs
-
-all-constants-requires : tie.Need-all-constants-requires
-all-constants-requires c κs = (begun c .long, begun c .inside, begun c .size)
-
-enum-known-number-2 : tie.Need-enum-known-number-2
-enum-known-number-2 c = search needs
-
-refuse-requires-2 : tie.Need-refuse-requires-2
-refuse-requires-2 c κs = search needs
-
-enum-known-volume : tie.Need-enum-known-volume
-enum-known-volume c = search needs
-
-sub-all-moments : tie.Need-sub-all-moments
-sub-all-moments c = let s = begun (c .before .before .before .before) in omega (arith, s .some)
-
-cast-all-moments : tie.Need-cast-all-moments
-cast-all-moments c = search needs
-
-all-moments-requires : tie.Need-all-moments-requires
-all-moments-requires c κs = let s = begun (c .before .before .before .before) in (s .long, s .inside, omega (arith, s .few))
-
-refuse-requires-3 : tie.Need-refuse-requires-3
-refuse-requires-3 c κs = search needs
-
+-- src/lib.rt:565:9
 returns : tie.Need-returns
 returns c =
-    c .refuse3 .ensures
-    ∙ ap shown
-    (no-moments (now (c .before .before .before .before .before .before .before .before .before .before .before .before .before .args .body)) _ _ (start-is (c .before .before .before .before .before .before .before .before)) (c .before .before .before .before .before .volume .given .0 .0) (c .before .before .before .before .before .volume .given .0 .1 .0) (c .before .before .before .before .before .volume .given .0 .1 .1 .0) (c .before .before .before .before .before .volume .given .0 .1 .1 .1 .0) (three (c .before .before .before .before)) _
-    (heads-refused (c .before .before .before .all-moments .result) _ (not-true (c .before .before .before .all-moments .result .ok) (c .before .if1 .taken)) (c .before .before .before .all-moments .ensures)))
+    let b = now (c .before .before .before .before .before .args .body) in
+    let h = c .before .before .before .read-heading in
+    c .refuse .ensures ∙ sym (ap shown (number-refused b (h .result .refusal) (ap (λ (x : Heading). x .refusal) (h .ensures)) (c .before .if1 .taken)))
 
-header-of-requires : tie.Need-header-of-requires
-header-of-requires c κs = begun (c .before .before .before .before .before .before .before) .long
+-- src/lib.rt:568:9
+span-of-requires : tie.Need-span-of-requires
+span-of-requires c κs = (omega (arith, all c .start .long), all c .volume .inside)
 
+-- src/lib.rt:569:9
+span-of-requires-2 : tie.Need-span-of-requires-2
+span-of-requires-2 c κs = (omega (arith, all (c .before) .start .long), all (c .before) .elevation .inside)
+
+-- src/lib.rt:570:9
+span-of-requires-3 : tie.Need-span-of-requires-3
+span-of-requires-3 c κs = (omega (arith, all (c .before .before) .start .long), all (c .before .before) .radial .inside)
+
+-- src/lib.rt:571:34
+sub-all-heads : tie.Need-sub-all-heads
+sub-all-heads c = omega (arith, counted (c .before .before .before .before), all (c .before .before .before .before) .start .some)
+
+-- src/lib.rt:571:33
+cast-all-heads : tie.Need-cast-all-heads
+cast-all-heads c = search needs
+
+-- src/lib.rt:571:9
+all-heads-requires : tie.Need-all-heads-requires
+all-heads-requires c κs = (accepted (c .before .before .before .before), ap (λ (n : ℕ). n - 3) (counted (c .before .before .before .before)), omega (arith, counted (c .before .before .before .before), all (c .before .before .before .before) .start .few))
+
+-- src/lib.rt:560:1
 returns-2 : tie.Need-returns-2
-returns-2 c = c .refuse .ensures ∙ ap shown (no-start (now (c .before .before .before .before .before .before .args .body)) _ (ap tellStart (sym (c .before .before .number .given .1)) ∙ c .before .before .before .before .begin .ensures))
-
-returns-3 : tie.Need-returns-3
-returns-3 c =
-    c .refuse2 .ensures
-    ∙ ap shown (no-constants (now (c .before .before .before .before .before .before .before .before .before .before .args .body)) _ _ (start-is (c .before .before .before .before .before)) _ (ap tellConstants (sym (c .before .before .number2 .given .1)) ∙ c .before .before .before .before .all-constants .ensures))
-
-returns-4 : tie.Need-returns-4
-returns-4 c =
-    read (now (c .before .before .before .before .before .before .before .before .before .before .before .before .before .before .args .body)) _ _ (start-is (c .before .before .before .before .before .before .before .before .before)) (c .before .before .before .before .before .before .volume .given .0 .0) (c .before .before .before .before .before .before .volume .given .0 .1 .0) (c .before .before .before .before .before .before .volume .given .0 .1 .1 .0) (c .before .before .before .before .before .before .volume .given .0 .1 .1 .1 .0) (three (c .before .before .before .before .before)) _ _ (c .before .header-of .ensures)
-    (heads-given (c .before .before .before .before .all-moments .result) _ (not-false (c .before .before .before .before .all-moments .result .ok) (c .before .before .if1 .left)) (c .before .before .before .before .all-moments .ensures))
+returns-2 c =
+    let b = now (c .before .before .before .before .before .before .before .before .before .before .args .body) in
+    read b (accepted (c .before .before .before .before .before)) _ _ _ _ _ (c .before .before .before .before .before .before .before .before .read-heading .ensures) (c .before .before .before .before .span-of .ensures) (c .before .before .before .span-of2 .ensures) (c .before .before .span-of3 .ensures) (c .all-heads .ensures ∙ ap (λ (n : ℕ). headsOf (momentsAt b 44 (n - 3))) (counted (c .before .before .before .before .before)))
 
 pub read-radial-spec : {M : Type 1} → statement M
 read-radial-spec =
     tie.close
     (tie.spec
-    begin-requires
-    enum-known-number
+    read-heading-requires
     refuse-requires
-    enum-known-size
-    all-constants-requires
-    enum-known-number-2
-    refuse-requires-2
-    enum-known-volume
-    sub-all-moments
-    cast-all-moments
-    all-moments-requires
-    refuse-requires-3
     returns
-    header-of-requires
-    returns-2
-    returns-3
-    returns-4)
+    span-of-requires
+    span-of-requires-2
+    span-of-requires-3
+    sub-all-heads
+    cast-all-heads
+    all-heads-requires
+    returns-2)
