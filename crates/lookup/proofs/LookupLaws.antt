@@ -1,27 +1,27 @@
--- What the lookups find in the reader's struct is what the rule answers. Assumes nothing.
+-- What the lookups read of an accepted radial is what the rule answers. Assumes nothing.
 use Prim.Native.Nat.{ℕ, zero, suc, _+_, _-_, _*_, _/_, _≤_, _<_}
+use native.Mathlib.Nat.{add-zero}
 use native.Mathlib.Omega.{arith}
 use mathlib.Core.Path.{_≡_, refl, sym, ap, _∙_}
-use mathlib.Core.Bool.{Bool, true, false}
 use mathlib.Core.Option.{Option, none, some}
-use mathlib.Core.List.{List, [], _∷_, _++_, map}
-use lib.Dec.{eqb}
-use lib.ListN.{length, getD, take, replicate, length-append, length-replicate, List·getD-eq-default}
-use Rattle.wire.specs.Numbers.{Octets}
-use Rattle.wire.specs.Checks.{pick}
+use mathlib.Core.List.{List, [], _∷_, map}
+use lib.ListN.{length, getD, List·getD-eq-default}
+use Rattle.wire.specs.Numbers.{fetched, Octets}
 use Rattle.wire.specs.Answers.{Answer, refused, given}
 use Rattle.wire.proofs.CheckLaws.{never}
-use Rattle.description.specs.Description.{RVOL, RELV, RRAD, constants, mostBlocks, momentHead, Moment, Description, blockCount}
-use Rattle.description.specs.Refusal.{radialOf}
+use Rattle.wire.proofs.NumberLaws.{fetched-whole}
+use Rattle.description.specs.Description.{RVOL, RELV, RRAD, constants, momentHead, Moment, Description}
+use Rattle.description.specs.Refusal.{countIn, pointer, part, momentAt, momentsAt, description, radialOf}
 use Rattle.description.specs.Lookups.{momentOf, momentLying, blocks, Asked, noSuch, lies, blockOf, gatesOf}
-use Rattle.description.proofs.Accepted.{agreed}
+use Rattle.description.proofs.Accepted.{moments-length}
 use Rattle.description.proofs.Naming.{gate-words}
 use Rattle.radial.specs.declared.MomentHead.{MomentHead}
-use Rattle.radial.specs.declared.Radial.{Radial}
-use Rattle.radial.specs.Shown.{headOf, noHead, room, shown}
-use Rattle.radial.proofs.HeadLaws.{map-length, head-is}
-use Rattle.radial.proofs.HandedLaws.{Shows, shows-given, shows-refused}
+use Rattle.radial.specs.declared.Span.{Span}
+use Rattle.radial.specs.Shown.{headOf, shown}
 use Rattle.radial.specs.Places.{headAt}
+use Rattle.radial.specs.Steps.{spanAt}
+use Rattle.radial.proofs.HeadLaws.{Held, held, head-is, span-is}
+use Rattle.radial.proofs.HandedLaws.{number-refused}
 use Rattle.lookup.specs.declared.Located.{Located}
 use Rattle.lookup.specs.Told.{Told, headShown, toldOf, blockShown, partOf}
 use Rattle.lookup.specs.Steps.{placeShown, constantTold, momentTold, located}
@@ -32,75 +32,66 @@ lyings : (ms : List Moment) → length (map lies (map momentLying ms)) ≡ lengt
 lyings [] = refl
 lyings (m ∷ ms) = ap suc (lyings ms)
 
-moment-at : (ms : List Moment) (rest : List MomentHead) (j : ℕ) (other : MomentHead) → j < length ms
-    → some (momentTold (getD (map headOf ms ++ rest) j other)) ≡ toldOf (getD (map lies (map momentLying ms)) j noSuch)
-moment-at [] rest j other h = absurd (omega arith)
-moment-at (m ∷ ms) rest zero other h = refl
-moment-at (m ∷ ms) rest (suc j) other h = moment-at ms rest j other (omega arith)
+moment-at : (b : List ℕ) (q n j : ℕ) → j < n
+    → some (momentTold (headOf (momentAt (pointer b (q + 4 * j)) (part b (q + 4 * j))))) ≡ toldOf (getD (map lies (map momentLying (momentsAt b q n))) j noSuch)
+moment-at b q zero j h = absurd (omega arith)
+moment-at b q (suc n) zero h = ap (λ (k : ℕ). some (momentTold (headOf (momentAt (pointer b k) (part b k))))) (add-zero q)
+moment-at b q (suc n) (suc j) h =
+    let e : q + 4 * suc j ≡ q + 4 + 4 * j = omega arith in
+    ap (λ (k : ℕ). some (momentTold (headOf (momentAt (pointer b k) (part b k))))) e ∙ moment-at b (q + 4) n j (omega arith)
 
-filled : (ms : List Moment) → constants + length ms ≤ mostBlocks → length (map headOf ms) + length (replicate (room - length ms) noHead) ≡ room
-filled ms h = omega (arith, map-length ms, length-replicate (room - length ms) noHead)
+-- a refused radial has no block to tell of
+pub block-refused : (b : List ℕ) (k number : ℕ) → number ≡ shown (radialOf b) .refusal → (number ≡ 0 → ⊥) → refused number ≡ blockShown (blockOf b k)
+unfolding blockOf
+block-refused b k number e z = rw (number-refused b number e z) refl
 
--- the struct that the reader gave
-module _ (b : List ℕ) (r : Radial) (e : r ≡ shown (radialOf b)) where
-  pub block-refused : (k : ℕ) → (r .refusal ≡ 0 → ⊥) → refused (r .refusal) ≡ blockShown (blockOf b k)
+-- ---- the blocks of an accepted radial
+module _ (b : List ℕ) (accepted : radialOf b ≡ given (description b)) where
+  abbrev d : Description
+  d = description b
+
+  pub all-held : Held b
+  all-held = held b d accepted
+
+  pub counted : (n : ℕ) → n ≡ fetched 2 b 30 → n ≡ countIn b
+  counted n e = e ∙ fetched-whole 2 b 30 (omega (arith, all-held .start .long))
+
+  abbrev asked : ℕ → Asked
+  asked k = getD (noSuch ∷ map lies (blocks d)) k noSuch
+
+  block-is : (k : ℕ) (x : Option Told) → x ≡ toldOf (asked k) → given x ≡ blockShown (blockOf b k)
   unfolding blockOf
-  block-refused k z = rw (shows-refused b r e z) refl
+  block-is k x h = rw accepted (ap given h)
 
-  module _ (z : r .refusal ≡ 0) where
-    abbrev s : Shows b r
-    s = shows-given b r e z
+  pub block-none : (k : ℕ) → countIn b < k → given none ≡ blockShown (blockOf b k)
+  block-none k h =
+      let past : length (noSuch ∷ map lies (blocks d)) ≤ k = omega (arith, lyings (d .moments), moments-length b 44 (countIn b - constants), all-held .start .some) in
+      block-is k none (ap toldOf (sym (List·getD-eq-default (noSuch ∷ map lies (blocks d)) noSuch past)))
 
-    abbrev d : Description
-    d = s .what
+  pub block-zero : (k : ℕ) → k ≡ 0 → given none ≡ blockShown (blockOf b k)
+  block-zero k h = block-is k none (rw h refl)
 
-    count-is : r .count ≡ blockCount d
-    count-is = ap (λ (x : Radial). x .count) (s .shows)
+  pub block-volume : (k : ℕ) → k ≡ 1 → given (some (constantTold RVOL (spanAt b 32))) ≡ blockShown (blockOf b k)
+  block-volume k h = block-is k _ (rw h (ap (λ (s : Span). some (constantTold RVOL s)) (span-is b 32 (all-held .volume))))
 
-    pub counted : Octets b → (4 ≤ r .count) × (r .count ≤ 9)
-    counted o = let lay = agreed b d o (s .accepted) .0 in (rw count-is (lay .some), rw count-is (lay .few))
+  pub block-elevation : (k : ℕ) → k ≡ 2 → given (some (constantTold RELV (spanAt b 36))) ≡ blockShown (blockOf b k)
+  block-elevation k h = block-is k _ (rw h (ap (λ (s : Span). some (constantTold RELV s)) (span-is b 36 (all-held .elevation))))
 
-    -- the places for heads are all there
-    pub all-there : Octets b → length (r .moments) ≡ room
-    all-there o =
-        let few = agreed b d o (s .accepted) .0 .few in
-        ap (λ (x : Radial). length (x .moments)) (s .shows)
-        ∙ length-append (map headOf (d .moments)) (replicate (room - length (d .moments)) noHead)
-        ∙ filled (d .moments) few
+  pub block-radial : (k : ℕ) → k ≡ 3 → given (some (constantTold RRAD (spanAt b 40))) ≡ blockShown (blockOf b k)
+  block-radial k h = block-is k _ (rw h (ap (λ (s : Span). some (constantTold RRAD s)) (span-is b 40 (all-held .radial))))
 
-    -- ---- a block by its number
-    abbrev asked : ℕ → Asked
-    asked k = getD (noSuch ∷ map lies (blocks d)) k noSuch
-
-    block-is : (k : ℕ) (x : Option Told) → x ≡ toldOf (asked k) → given x ≡ blockShown (blockOf b k)
-    unfolding blockOf
-    block-is k x h = rw (s .accepted) (ap given h)
-
-    pub block-none : (k : ℕ) → r .count < k → given none ≡ blockShown (blockOf b k)
-    block-none k h =
-        let past : length (noSuch ∷ map lies (blocks d)) ≤ k = omega (arith, lyings (d .moments), count-is) in
-        block-is k none (ap toldOf (sym (List·getD-eq-default (noSuch ∷ map lies (blocks d)) noSuch past)))
-
-    pub block-zero : (k : ℕ) → k ≡ 0 → given none ≡ blockShown (blockOf b k)
-    block-zero k h = block-is k none (rw h refl)
-
-    pub block-volume : (k : ℕ) → k ≡ 1 → given (some (constantTold RVOL (r .volume))) ≡ blockShown (blockOf b k)
-    block-volume k h = block-is k _ (rw h (ap (λ (x : Radial). some (constantTold RVOL (x .volume))) (s .shows)))
-
-    pub block-elevation : (k : ℕ) → k ≡ 2 → given (some (constantTold RELV (r .elevation))) ≡ blockShown (blockOf b k)
-    block-elevation k h = block-is k _ (rw h (ap (λ (x : Radial). some (constantTold RELV (x .elevation))) (s .shows)))
-
-    pub block-radial : (k : ℕ) → k ≡ 3 → given (some (constantTold RRAD (r .radial))) ≡ blockShown (blockOf b k)
-    block-radial k h = block-is k _ (rw h (ap (λ (x : Radial). some (constantTold RRAD (x .radial))) (s .shows)))
-
-    pub block-moment : (k : ℕ) (other : MomentHead) → 4 ≤ k → k ≤ r .count → given (some (momentTold (getD (r .moments) (k - 4) other))) ≡ blockShown (blockOf b k)
-    block-moment k other h i =
-        let j : k ≡ suc (suc (suc (suc (k - 4)))) = omega arith in
-        let inside : k - 4 < length (d .moments) = omega (arith, count-is) in
-        block-is k _
-        (ap (λ (x : Radial). some (momentTold (getD (x .moments) (k - 4) other))) (s .shows)
-        ∙ moment-at (d .moments) _ (k - 4) other inside
-        ∙ ap (λ (n : ℕ). toldOf (asked n)) (sym j))
+  pub block-moment : (k p : ℕ) → 4 ≤ k → k ≤ countIn b → p ≡ fetched 4 b (28 + 4 * k) → given (some (momentTold (headAt b p))) ≡ blockShown (blockOf b k)
+  block-moment k p h i e =
+      let j : k ≡ suc (suc (suc (suc (k - 4)))) = omega arith in
+      let inside : k - 4 < countIn b - constants = omega arith in
+      let q : 28 + 4 * k ≡ 44 + 4 * (k - 4) = omega arith in
+      let there : p ≡ pointer b (44 + 4 * (k - 4)) =
+      e ∙ fetched-whole 4 b (28 + 4 * k) (omega (arith, all-held .start .long, all-held .start .few)) ∙ ap (pointer b) q in
+      block-is k _
+      (ap (λ (n : ℕ). some (momentTold (headAt b n))) there
+      ∙ ap (λ x. some (momentTold x)) (head-is b (pointer b (44 + 4 * (k - 4))) (all-held .moment (k - 4) inside .1))
+      ∙ moment-at b 44 (countIn b - constants) (k - 4) inside
+      ∙ ap (λ (n : ℕ). toldOf (asked n)) (sym j))
 
 -- ---- a moment's head by its place
 pub head-found : (b : List ℕ) (name p : ℕ) → Octets b → given p ≡ placeShown (momentOf b name) → given (headAt b p) ≡ headShown (momentOf b name)

@@ -5,11 +5,12 @@ ghost use mathlib.Core.Option.{some};
 ghost use lib.ListN.{length};
 ghost use Rattle.wire.specs.Numbers.{num, fetched};
 ghost use Rattle.wire.specs.Answers.{given};
+ghost use Rattle.description.specs.Refusal.{pointer};
 ghost use Rattle.description.specs.Lookups.{momentOf, blockOf, gatesOf};
+ghost use Rattle.radial.specs.Steps.{spanAt};
 ghost use Rattle.lookup.specs.Told.{tellPlace, placeAsked, tellMoment, headShown, tellBlock, blockShown, LiesAt, partOf, Lent};
 ghost use Rattle.lookup.specs.Steps.{constantTold, momentTold, Locates};
 use radial::MomentHead;
-use radial::Span;
 use wire::refusal;
 
 // The four bytes that a moment is asked for by.
@@ -76,14 +77,18 @@ pub fn moment(body: &[u8], name: Name) -> MomentAnswer
     }
 }
 
-// One of the three constant blocks.
-fn constant(name: &[u8], span: Span) -> BlockAnswer
-    ensures { λ r. ⌜ tellBlock r ≡ given (some (constantTold (fetched 4 (now (name .entry)) 0) span)) ⌝ }
+// One of the three constant blocks of an accepted radial, by its pointer.
+fn constant(body: &[u8], name: &[u8], at: u32) -> BlockAnswer
+    requires { ⌜ (at + 4 ≤ length (now body)) × (pointer (now body) at + 6 ≤ length (now body)) ⌝ }
+    ensures { λ r. ⌜ tellBlock r ≡ given (some (constantTold (fetched 4 (now (name .entry)) 0) (spanAt (now (body .entry)) at))) ⌝ }
 {
+    let place = wire::fetch32(body, at);
+    let begin = place as usize + 4;
+    let end = place as usize + 6;
     BlockAnswer::Constant(Lying {
         name: wire::fetch32(name, 0),
-        place: span.place,
-        size: span.length as u32,
+        place: place,
+        size: wire::fetch16(&body[begin..end], 0) as u32,
     })
 }
 
@@ -91,31 +96,28 @@ fn constant(name: &[u8], span: Span) -> BlockAnswer
 pub fn block(body: &[u8], k: u32) -> BlockAnswer
     ensures { λ r. ⌜ tellBlock r ≡ blockShown (blockOf (now (body .entry)) k) ⌝ }
 {
-    let read = radial::read_radial(body);
-    if read.refusal != 0 {
-        return BlockAnswer::Refused(read.refusal);
+    let number = radial::check_radial(body);
+    if number != 0 {
+        return BlockAnswer::Refused(number);
     }
-    if (read.count as u32) < k {
+    let count = wire::fetch16(body, 30) as u32;
+    if count < k {
         return BlockAnswer::NoSuch;
     }
     if k == 0 {
         return BlockAnswer::NoSuch;
     }
     if k == 1 {
-        let span = read.volume;
-        return constant(b"RVOL", span);
+        return constant(body, b"RVOL", 32);
     }
     if k == 2 {
-        let span = read.elevation;
-        return constant(b"RELV", span);
+        return constant(body, b"RELV", 36);
     }
     if k == 3 {
-        let span = read.radial;
-        return constant(b"RRAD", span);
+        return constant(body, b"RRAD", 40);
     }
-    let i = (k - 4) as usize;
-    let head = read.moments[i];
-    moment_block(head)
+    let place = wire::fetch32(body, 28 + 4 * k);
+    moment_block(radial::head_at(body, place))
 }
 
 fn moment_block(head: MomentHead) -> BlockAnswer

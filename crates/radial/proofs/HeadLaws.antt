@@ -140,7 +140,7 @@ module _ (b : List ℕ) (n : ℕ) (heads : List MomentHead) (i : ℕ) (g : Filli
 
 -- ---- all that is read of an accepted radial
 -- a constant block's length is what it says, where that is no less than its head
-span-is : (b : List ℕ) (q : ℕ) → BlockHeld b q → spanAt b q ≡ spanOf (blockAt (pointer b q) (part b q))
+pub span-is : (b : List ℕ) (q : ℕ) → BlockHeld b q → spanAt b q ≡ spanOf (blockAt (pointer b q) (part b q))
 span-is b q h =
     let l = part b q in
     let e : blockSays l ≡ 6 + length (nums 1 l 6 (blockSays l - 6)) = omega (arith, nums-length 1 l 6 (blockSays l - 6), h .says) in

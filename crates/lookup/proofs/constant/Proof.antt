@@ -1,20 +1,90 @@
-use Prim.Native.Nat.{ℕ}
-use mathlib.Core.Path.{ap}
+use Prim.Native.Nat.{ℕ, _+_, _≤_}
+use native.Mathlib.Omega.{arith}
+use mathlib.Core.Path.{_≡_, sym, ap, _∙_}
 use mathlib.Core.Option.{some}
+use denote.Ref.{now}
 use Rattle.wire.specs.Answers.{given}
+use Rattle.wire.proofs.NumberLaws.{number-is}
+use Rattle.description.specs.Refusal.{pointer}
+use Rattle.radial.specs.declared.Span.{Span}
+use Rattle.radial.proofs.PartLaws.{span-cut}
 use Rattle.lookup.specs.Steps.{constantTold}
 use borrow.Author.Needs.{needs}
 use Rattle.lookup.proofs.constant.Statement.{statement}
 use Rattle.lookup.proofs.constant.Tie as tie
+use Rattle.lookup.proofs.constant.Reads as reads
+use Rattle.lookup.proofs.constant.Lts as lts
+use Rattle.wire.proofs.fetch16.Reads as fetch16-reads
+use Rattle.wire.proofs.fetch32.Reads as fetch32-reads
 
+-- the pointer that was fetched
+place-is : (c : tie.After-fetch32) → c .fetch32 .result ≡ pointer (now (c .before .before .before .args .body)) (c .before .before .before .args .at)
+place-is c = sym (number-is 4 _ _ _ (c .fetch32 .ensures) (c .before .before .before .pre .0))
+
+-- src/lib.rt:85:9
 fetch32-requires : tie.Need-fetch32-requires
 fetch32-requires c κs = search needs
 
-cast-t4 : tie.Need-cast-t4
-cast-t4 c = search needs
+-- src/lib.rt:86:17
+cast-begin : tie.Need-cast-begin
+cast-begin c = search needs
 
+-- src/lib.rt:86:17
+add-begin : tie.Need-add-begin
+add-begin c = search needs
+
+-- src/lib.rt:87:15
+cast-end : tie.Need-cast-end
+cast-end c = search needs
+
+-- src/lib.rt:87:15
+add-end : tie.Need-add-end
+add-end c = search needs
+
+-- src/lib.rt:89:15
+fetch32-requires-2 : tie.Need-fetch32-requires-2
+fetch32-requires-2 c κs = search needs
+
+-- src/lib.rt:91:29
+sub-fetch16 : tie.Need-sub-fetch16
+sub-fetch16 c = search needs
+
+-- src/lib.rt:91:29
+part-fetch16-start : tie.Need-part-fetch16-start
+part-fetch16-start c = search needs
+
+-- src/lib.rt:91:29
+part-fetch16-end : tie.Need-part-fetch16-end
+part-fetch16-end c = omega (arith, place-is (c .before), c .before .before .before .before .pre .1)
+
+-- src/lib.rt:91:15
+fetch16-requires : tie.Need-fetch16-requires
+fetch16-requires c κs = search needs
+
+-- src/lib.rt:91:15
+cast-t13 : tie.Need-cast-t13
+cast-t13 c = search needs
+
+-- src/lib.rt:81:1
 returns : tie.Need-returns
-returns c = ap (λ (n : ℕ). given (some (constantTold n (c .before .before .before .args .span)))) (c .before .fetch32 .ensures)
+returns c =
+    let a = c .before .before .before .before .before .before .args in
+    let s = span-cut (now (a .body)) (a .at) (c .before .before .before .fetch32 .result) (c .fetch16 .result) (place-is (c .before .before .before)) (c .before .before .before .before .before .before .pre .1) (c .fetch16 .ensures) in
+    λ i. given (some (constantTold (c .before .before .fetch322 .ensures i) (s i)))
 
 pub constant-spec : {M : Type 1} → statement M
-constant-spec = tie.close (tie.spec fetch32-requires cast-t4 returns)
+constant-spec =
+    tie.close
+    (tie.spec
+    fetch32-requires
+    cast-begin
+    add-begin
+    cast-end
+    add-end
+    fetch32-requires-2
+    sub-fetch16
+    part-fetch16-start
+    part-fetch16-end
+    fetch16-requires
+    cast-t13
+    returns)
