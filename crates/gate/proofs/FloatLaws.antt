@@ -5,11 +5,12 @@ use mathlib.Core.Bool.{Bool, true, false, not, cond}
 use mathlib.Core.List.{List, [], _∷_}
 use native.Mathlib.Omega.{arith}
 use lib.Dec.{leb, ltb, eqb}
-use lib.Ieee.{Float, nan, inf, fin, binary32, odd, ofFields, ofBits, prec, low, hid, ones}
+use lib.Ieee.{Float, nan, inf, fin, binary32, odd, ofFields, ofBits, nanBits, prec, low, hid, ones}
 use lib.Ieee.Scale.{finite}
-use borrow.Author.Tests.{eqb-true, eqb-false, le-leb, lt-leb}
+use borrow.Author.Tests.{eqb-true, eqb-false, le-leb, lt-leb, leb-false}
 use Rattle.wire.specs.Checks.{either, someBroken}
-use Rattle.wire.proofs.CheckLaws.{either-false}
+use Rattle.wire.proofs.CheckLaws.{either-false, neither}
+use Rattle.wire.proofs.FloatLaws.{no-nan}
 use Rattle.gate.specs.Value.{notFinite, notAbove0, valueChecks}
 
 odd-finite : (d : ℕ) (s : Bool) (q k l : ℕ) → finite (odd d s q k l) ≡ true
@@ -50,3 +51,16 @@ tests scale offset x y z a b c =
     ap (λ (t : Bool). either t (either (notAbove0 scale) (either (notFinite offset) false))) a
     ∙ ap (λ (t : Bool). either x (either t (either (notFinite offset) false))) b
     ∙ ap (λ (t : Bool). either x (either y t)) (either-false (notFinite offset) ∙ c)
+
+-- no NaN is finite
+pub finite-no-nan : (bits : ℕ) → notFinite bits ≡ false → nanBits binary32 bits ≡ false
+finite-no-nan bits h =
+    let k = leb-false 2139095040 (bits % 2147483648) (sym (not-finite-bits bits) ∙ h) in
+    no-nan bits (omega arith)
+
+-- where no test of 22 is broken, both are finite
+pub both-finite : (scale offset : ℕ) → someBroken (valueChecks scale offset) ≡ false → (notFinite scale ≡ false) × (notFinite offset ≡ false)
+both-finite scale offset h =
+    let p = neither (notFinite scale) _ h in
+    let q = neither (notAbove0 scale) _ (p .1) in
+    (p .0, neither (notFinite offset) false (q .1) .0)

@@ -1,10 +1,11 @@
 // The value of a gate: of a radial's moment, or of a code by itself.
 ghost use mathlib.Core.Path.{_≡_};
+ghost use mathlib.Core.Bool.{false};
 ghost use lib.ListN.{drop};
 ghost use Rattle.wire.specs.Numbers.{num};
 ghost use Rattle.wire.specs.Checks.{someBroken};
 ghost use Rattle.description.specs.Refusal.{momentAt};
-ghost use Rattle.gate.specs.Value.{notFinite, valueChecks, valueOf, gateIn, gateOf};
+ghost use Rattle.gate.specs.Value.{float, notFinite, valueChecks, valueOf, gateIn, gateOf};
 ghost use Rattle.gate.specs.Steps.{MomentThere, WordThere, codeIn};
 ghost use Rattle.gate.specs.Promises.{tellGate};
 use lookup::Name;
@@ -26,6 +27,14 @@ fn not_finite(bits: u32) -> bool
     INFINITE <= bits % SIGN
 }
 
+// The float of 32 bits that are a finite one's.
+fn finite_of(bits: u32) -> f32
+    requires { ⌜ notFinite bits ≡ false ⌝ }
+    ensures { λ r. ⌜ r ≡ float bits ⌝ }
+{
+    f32::from_bits(bits)
+}
+
 fn breaks_value(scale: u32, offset: u32) -> bool
     ensures { λ r. ⌜ r ≡ someBroken (valueChecks scale offset) ⌝ }
 {
@@ -33,7 +42,7 @@ fn breaks_value(scale: u32, offset: u32) -> bool
         return true;
     }
     let zero = wire::float_of(0);
-    let above = zero < wire::float_of(scale);
+    let above = zero < finite_of(scale);
     if !above {
         return true;
     }
@@ -53,7 +62,7 @@ pub fn value(code: u16, scale: u32, offset: u32) -> GateAnswer
     if code == 1 {
         return GateAnswer::RangeFolded;
     }
-    GateAnswer::Value((code as f32 - wire::float_of(offset)) / wire::float_of(scale))
+    GateAnswer::Value((code as f32 - finite_of(offset)) / finite_of(scale))
 }
 
 // The code of a gate: the word of the block at `place` that the gate's number counts to.
