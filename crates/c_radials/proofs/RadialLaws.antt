@@ -1,8 +1,8 @@
 -- The laws between what the library answers of radials and the structs that C receives. Assumes nothing.
-use Prim.Native.Nat.{ℕ, _+_, _-_, _*_, _/_, _%_, _^_, _≤_, _<_}
+use Prim.Native.Nat.{ℕ, _+_, _-_, _*_, _/_, _%_, _≤_, _<_}
 use mathlib.Core.Path.{_≡_, refl, sym, ap, _∙_}
 use mathlib.Core.Option.{Option, none, some}
-use mathlib.Core.List.{List, [], _∷_, _++_, append-nil}
+use mathlib.Core.List.{List, [], _∷_, append-nil}
 use native.Mathlib.Omega.{arith}
 use lib.ListN.{length, drop}
 use Rattle.wire.specs.Numbers.{num, be, Octets}
@@ -17,7 +17,7 @@ use Rattle.radial.specs.declared.MomentHead.{MomentHead}
 use Rattle.radial.specs.Shown.{headOf, shown}
 use Rattle.radial.specs.Places.{headingOf}
 use Rattle.lookup.specs.declared.Lying.{Lying as Placed}
-use Rattle.lookup.specs.Told.{Told, headIn, toldOf, blockShown}
+use Rattle.lookup.specs.Told.{Told, headIn, blockShown}
 use Rattle.lookup.specs.Steps.{placeShown}
 use Rattle.lookup.proofs.FindLaws.{Lies, lies-at, no-place}
 use Rattle.c_radials.specs.declared.UlmRadial.{UlmRadial}

@@ -1,11 +1,11 @@
 -- Which 32 bits are a finite float's. Assumes nothing.
-use Prim.Native.Nat.{ℕ, zero, suc, _+_, _*_, _/_, _%_, _<_, _≤_}
+use Prim.Native.Nat.{ℕ, zero, suc, _+_, _/_, _%_, _<_}
 use mathlib.Core.Path.{_≡_, refl, sym, ap, _∙_}
 use mathlib.Core.Bool.{Bool, true, false, not, cond}
-use mathlib.Core.List.{List, [], _∷_}
+use mathlib.Core.List.{List}
 use native.Mathlib.Omega.{arith}
-use lib.Dec.{leb, ltb, eqb}
-use lib.Ieee.{Float, nan, inf, fin, binary32, odd, ofFields, ofBits, nanBits, prec, low, hid, ones}
+use lib.Dec.{leb, eqb}
+use lib.Ieee.{Float, nan, inf, binary32, odd, ofFields, ofBits, nanBits}
 use lib.Ieee.Scale.{finite}
 use borrow.Author.Tests.{eqb-true, eqb-false, le-leb, lt-leb, leb-false}
 use Rattle.wire.specs.Checks.{either, someBroken}

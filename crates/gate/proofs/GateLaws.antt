@@ -3,10 +3,13 @@ use Prim.Native.Nat.{ℕ, suc, _+_, _-_, _*_, _/_, _^_, _≤_, _<_}
 use native.Mathlib.Nat.{add-zero, suc-mul, mul-le-mul-right}
 use native.Mathlib.Omega.{arith}
 use mathlib.Core.Path.{_≡_, refl, sym, ap, subst, _∙_}
+use mathlib.Core.Bool.{Bool, true, false}
 use mathlib.Core.List.{List}
-use lib.ListN.{length, take, drop}
-use borrow.Author.Tests.{le-leb, lt-leb}
+use lib.Dec.{leb, eqb}
+use lib.ListN.{length, getD, take, drop}
+use borrow.Author.Tests.{le-leb, lt-leb, eq-eqb, ne-eqb}
 use Rattle.wire.specs.Numbers.{num, fetched, Octets}
+use Rattle.wire.specs.Checks.{pick}
 use Rattle.wire.specs.Answers.{Answer, refused, given}
 use Rattle.wire.proofs.NumberLaws.{num-drop, nums-length, nums-at}
 use Rattle.description.specs.Description.{mostGates, wordSizes, Member, Moment, gates, momentEnd}
@@ -15,9 +18,10 @@ use Rattle.description.specs.Lookups.{onward, momentOf}
 use Rattle.description.proofs.Naming.{unnamed}
 use Rattle.radial.proofs.PartLaws.{cut-is}
 use Rattle.lookup.specs.Steps.{placeShown}
-use Rattle.lookup.proofs.FindLaws.{Lies, lies-at, no-place}
+use Rattle.lookup.proofs.FindLaws.{Lies, lies-at, no-place, no-zero}
+use Rattle.gate.specs.declared.Coded.{Coded}
 use Rattle.gate.specs.Value.{Worth, valueOf, gateIn, gateOf}
-use Rattle.gate.specs.Steps.{MomentThere, WordThere, codeIn}
+use Rattle.gate.specs.Steps.{MomentThere, WordThere, codeIn, noCode, codedIn, codedOf}
 use Rattle.gate.specs.Laws.{OfItsCode, Unnamed}
 
 pub of-its-code : OfItsCode
@@ -48,7 +52,7 @@ module _ (b : List ℕ) (p i : ℕ) where
   counted : gates (momentAt p l) ≡ num 2 l 8
   counted = nums-length (num 1 l 19 / 8) l 28 (num 2 l 8)
 
-  pub no-gate : num 2 l 8 ≤ i → refused 21 ≡ gateIn (momentAt p l) i
+  pub no-gate : num 2 l 8 ≤ i → noCode 21 ≡ codedIn (momentAt p l) i
   no-gate h = let g : gates (momentAt p l) ≤ i = rw counted h in simp (le-leb (gates (momentAt p l)) i g)
 
   pub word-there : MomentThere b p → i < num 2 l 8 → WordThere b p (num 1 l 19) i
@@ -57,16 +61,16 @@ module _ (b : List ℕ) (p i : ℕ) where
       let r : suc i * w ≤ num 2 l 8 * w = mul-le-mul-right w h in
       record { sized = t .sized; few = omega (arith, t .few, h); within = omega (arith, t .within, suc-mul i w); low = t .low }
 
-  pub gate-valued : (x : ℕ) → i < num 2 l 8 → x ≡ codeIn b p (num 1 l 19) i → valueOf x (num 4 l 20) (num 4 l 24) ≡ gateIn (momentAt p l) i
-  gate-valued x h c =
+  pub gate-coded : (x scale offset : ℕ) → i < num 2 l 8 → x ≡ codeIn b p (num 1 l 19) i → scale ≡ num 4 l 20 → offset ≡ num 4 l 24
+      → record { number = 0; code = x; scale = scale; offset = offset } ≡ codedIn (momentAt p l) i
+  gate-coded x scale offset h c s o =
       let g : i < gates (momentAt p l) = rw counted h in
-      ap (λ (y : ℕ). valueOf y (num 4 l 20) (num 4 l 24)) (c ∙ sym (nums-at (num 1 l 19 / 8) l 28 (num 2 l 8) i h))
-      ∙ sym (simp (lt-leb (gates (momentAt p l)) i g))
+      let e = c ∙ sym (nums-at (num 1 l 19 / 8) l 28 (num 2 l 8) i h) in
+      (λ j. record { number = 0; code = e j; scale = s j; offset = o j }) ∙ sym (simp (lt-leb (gates (momentAt p l)) i g))
 
 -- ---- what a lookup's place says
-pub gate-refused : (b : List ℕ) (name n i : ℕ) → refused n ≡ placeShown (momentOf b name) → refused n ≡ gateOf b name i
-unfolding gateOf
-gate-refused b name n i e = sym (ap (λ (a : Answer Moment). onward a (λ m. gateIn m i)) (no-place (momentOf b name) n e))
+pub code-refused : (b : List ℕ) (name n i : ℕ) → refused n ≡ placeShown (momentOf b name) → noCode n ≡ codedOf (momentOf b name) i
+code-refused b name n i e = sym (ap (λ (a : Answer Moment). codedOf a i) (no-place (momentOf b name) n e))
 
 pub moment-there : (b : List ℕ) (name p : ℕ) → Octets b → p < 2 ^ 32 → given p ≡ placeShown (momentOf b name) → MomentThere b p
 moment-there b name p o s e =
@@ -80,8 +84,30 @@ moment-there b name p o s e =
       low = s;
     }
 
-pub gate-of : (b : List ℕ) (name p i : ℕ) → Octets b → given p ≡ placeShown (momentOf b name) → gateIn (momentAt p (drop p b)) i ≡ gateOf b name i
-unfolding gateOf
-gate-of b name p i o e =
+pub code-given : (b : List ℕ) (name p i : ℕ) → Octets b → given p ≡ placeShown (momentOf b name) → codedIn (momentAt p (drop p b)) i ≡ codedOf (momentOf b name) i
+code-given b name p i o e =
     let x = lies-at b name p o e in
-    ap (λ (m : Moment). gateIn m i) (x .reads) ∙ sym (ap (λ (a : Answer Moment). onward a (λ m. gateIn m i)) (x .was))
+    ap (λ (m : Moment). codedIn m i) (x .reads) ∙ sym (ap (λ (a : Answer Moment). codedOf a i) (x .was))
+
+-- ---- the gate's answer by its code: no refusal has the number 0
+abbrev answer : Coded → Answer Worth
+answer c = pick (eqb (c .number) 0) (valueOf (c .code) (c .scale) (c .offset)) (refused (c .number))
+
+by-code : (a : Answer Moment) (i : ℕ) → ((n : ℕ) → a ≡ refused n → n ≡ 0 → ⊥) → answer (codedOf a i) ≡ onward a (λ m. gateIn m i)
+by-code (refused n) i z = simp (ne-eqb n 0 (z n refl))
+by-code (given m) i z = go (leb (gates m) i)
+  where
+    go : (t : Bool) → answer (pick t (noCode 21) (record { number = 0; code = getD (m .codes) i 0; scale = m .scale; offset = m .offset })) ≡ pick t (refused 21) (valueOf (getD (m .codes) i 0) (m .scale) (m .offset))
+    go true = refl
+    go false = refl
+
+module _ (b : List ℕ) (name i : ℕ) (c : Coded) (e : c ≡ codedOf (momentOf b name) i) where
+  answered : answer c ≡ gateOf b name i
+  unfolding gateOf
+  answered = ap answer e ∙ by-code (momentOf b name) i (λ n q. no-zero b name n q)
+
+  pub gate-refused : (c .number ≡ 0 → ⊥) → refused (c .number) ≡ gateOf b name i
+  gate-refused z = sym (simp (ne-eqb (c .number) 0 z)) ∙ answered
+
+  pub gate-valued : c .number ≡ 0 → valueOf (c .code) (c .scale) (c .offset) ≡ gateOf b name i
+  gate-valued z = sym (simp (eq-eqb (c .number) 0 z)) ∙ answered

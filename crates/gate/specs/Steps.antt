@@ -1,10 +1,14 @@
 -- What the private functions promise each other. No public promise cites this file.
 use Prim.Native.Nat.{ℕ, _+_, _*_, _/_, _^_, _≤_, _<_}
 use mathlib.Core.List.{List}
-use lib.ListN.{length, drop}
+use lib.Dec.{leb}
+use lib.ListN.{length, getD, drop}
 use Rattle.wire.specs.Numbers.{num}
-use Rattle.description.specs.Description.{mostGates, wordSizes, momentHead, Member}
+use Rattle.wire.specs.Checks.{pick}
+use Rattle.wire.specs.Answers.{Answer, refused, given}
+use Rattle.description.specs.Description.{mostGates, wordSizes, momentHead, Member, Moment, gates}
 use Rattle.description.specs.Refusal.{momentSays}
+use Rattle.gate.specs.declared.Coded.{Coded}
 
 -- a moment that a radial was accepted with begins at this place
 pub record MomentThere (b : List ℕ) (place : ℕ) : Type 0 where
@@ -23,3 +27,14 @@ pub record WordThere (b : List ℕ) (place word gate : ℕ) : Type 0 where
 -- the number in it
 abbrev pub codeIn : List ℕ → ℕ → ℕ → ℕ → ℕ
 codeIn b place word gate = num (word / 8) (drop place b) (momentHead + gate * (word / 8))
+
+-- ---- a gate by its code
+abbrev pub noCode : ℕ → Coded
+noCode n = record { number = n; code = 0; scale = 0; offset = 0 }
+
+abbrev pub codedIn : Moment → ℕ → Coded
+codedIn m gate = pick (leb (gates m) gate) (noCode 21) (record { number = 0; code = getD (m .codes) gate 0; scale = m .scale; offset = m .offset })
+
+abbrev pub codedOf : Answer Moment → ℕ → Coded
+codedOf (refused n) gate = noCode n
+codedOf (given m) gate = codedIn m gate

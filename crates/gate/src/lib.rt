@@ -5,8 +5,9 @@ ghost use lib.ListN.{drop};
 ghost use Rattle.wire.specs.Numbers.{num};
 ghost use Rattle.wire.specs.Checks.{someBroken};
 ghost use Rattle.description.specs.Refusal.{momentAt};
-ghost use Rattle.gate.specs.Value.{float, notFinite, valueChecks, valueOf, gateIn, gateOf};
-ghost use Rattle.gate.specs.Steps.{MomentThere, WordThere, codeIn};
+ghost use Rattle.description.specs.Lookups.{momentOf};
+ghost use Rattle.gate.specs.Value.{float, notFinite, valueChecks, valueOf, gateOf};
+ghost use Rattle.gate.specs.Steps.{MomentThere, WordThere, codeIn, noCode, codedIn, codedOf};
 ghost use Rattle.gate.specs.Promises.{tellGate};
 use lookup::Name;
 use lookup::PlaceAnswer;
@@ -19,6 +20,14 @@ pub enum GateAnswer {
     BelowThreshold,
     RangeFolded,
     Refused(u8),
+}
+
+// A refusal's number or 0, the code of a gate, and the bits of its moment's scale and offset.
+struct Coded {
+    number: u8,
+    code: u16,
+    scale: u32,
+    offset: u32,
 }
 
 fn not_finite(bits: u32) -> bool
@@ -80,30 +89,57 @@ fn code_in(body: &[u8], place: usize, word: u8, gate: usize) -> u16
     wire::fetch8(&body[at..end], 0) as u16
 }
 
-// The value of a gate of the moment at `place`.
-fn gate_at(body: &[u8], place: usize, gate: usize) -> GateAnswer
+// A refusal: its number, and all else 0.
+fn no_code(number: u8) -> Coded
+    ensures { λ r. ⌜ r ≡ noCode number ⌝ }
+{
+    Coded {
+        number: number,
+        code: 0,
+        scale: 0,
+        offset: 0,
+    }
+}
+
+// A gate of the moment at `place`.
+fn coded_at(body: &[u8], place: usize, gate: usize) -> Coded
     requires { ⌜ MomentThere (now body) place ⌝ }
-    ensures { λ r. ⌜ tellGate r ≡ gateIn (momentAt place (drop place (now (body .entry)))) gate ⌝ }
+    ensures { λ r. ⌜ r ≡ codedIn (momentAt place (drop place (now (body .entry)))) gate ⌝ }
 {
     let end = place + radial::MOMENT_HEAD;
     let head = &body[place..end];
     if wire::fetch16(head, 8) as usize <= gate {
-        return GateAnswer::Refused(refusal::ASKED_FOR);
+        return no_code(refusal::ASKED_FOR);
     }
-    let code = code_in(body, place, wire::fetch8(head, 19), gate);
-    value(code, wire::fetch32(head, 20), wire::fetch32(head, 24))
+    Coded {
+        number: 0,
+        code: code_in(body, place, wire::fetch8(head, 19), gate),
+        scale: wire::fetch32(head, 20),
+        offset: wire::fetch32(head, 24),
+    }
 }
 
-// The value of a gate, counted from 0, of the moment with a name.
-pub fn gate_value(body: &[u8], name: Name, gate: usize) -> GateAnswer
-    ensures { λ r. ⌜ tellGate r ≡ gateOf (now (body .entry)) (num 4 name 0) gate ⌝ }
+// A gate of the moment with a name.
+fn code_of(body: &[u8], name: Name, gate: usize) -> Coded
+    ensures { λ r. ⌜ r ≡ codedOf (momentOf (now (body .entry)) (num 4 name 0)) gate ⌝ }
 {
     let wanted = wire::fetch32(&name, 0);
     match lookup::asked(
         radial::check_radial(body),
         radial::moment_place(body, wanted),
     ) {
-        PlaceAnswer::Refused(number) => GateAnswer::Refused(number),
-        PlaceAnswer::At(place) => gate_at(body, place as usize, gate),
+        PlaceAnswer::Refused(number) => no_code(number),
+        PlaceAnswer::At(place) => coded_at(body, place as usize, gate),
     }
+}
+
+// The value of a gate, counted from 0, of the moment with a name.
+pub fn gate_value(body: &[u8], name: Name, gate: usize) -> GateAnswer
+    ensures { λ r. ⌜ tellGate r ≡ gateOf (now (body .entry)) (num 4 name 0) gate ⌝ }
+{
+    let found = code_of(body, name, gate);
+    if found.number != 0 {
+        return GateAnswer::Refused(found.number);
+    }
+    value(found.code, found.scale, found.offset)
 }

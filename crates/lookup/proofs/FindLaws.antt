@@ -4,10 +4,10 @@ use native.Mathlib.Nat.{add-zero}
 use native.Mathlib.Omega.{arith}
 use mathlib.Core.Path.{_≡_, refl, sym, ap, subst, _∙_}
 use mathlib.Core.Bool.{Bool, true, false}
-use mathlib.Core.List.{List}
+use mathlib.Core.List.{List, [], _∷_}
 use lib.Dec.{eqb}
 use lib.ListN.{length, drop}
-use borrow.Author.Tests.{ne-eqb}
+use borrow.Author.Tests.{le-ltb, ne-eqb}
 use Rattle.wire.specs.Numbers.{fetched, Octets}
 use Rattle.wire.specs.Checks.{pick}
 use Rattle.wire.specs.Answers.{Answer, refused, given}
@@ -24,18 +24,14 @@ use Rattle.radial.proofs.HandedLaws.{refused-from, accepted-is}
 use Rattle.lookup.specs.Told.{placeAsked}
 use Rattle.lookup.specs.Steps.{placeShown}
 
--- the n pointers from byte q on are in the body, and so is what they point at
-record Points (b : List ℕ) (q n : ℕ) : Type 0 where
-  there : q + 4 * n ≤ length b
-  point : (i : ℕ) → i < n → (68 ≤ pointer b (q + 4 * i)) × (pointer b (q + 4 * i) + 28 ≤ length b)
+-- what the n pointers from byte q on point at is in the body, after the header
+abbrev Points : List ℕ → ℕ → ℕ → Type 0
+Points b q n = (i : ℕ) → i < n → (68 ≤ pointer b (q + 4 * i)) × (pointer b (q + 4 * i) + 28 ≤ length b)
 
 next-points : (b : List ℕ) (q n : ℕ) → Points b q (suc n) → Points b (q + 4) n
-next-points b q n p = record {
-  there = omega (arith, p .there);
-  point = λ i h.
-      let e : q + 4 * suc i ≡ q + 4 + 4 * i = omega arith in
-      subst (λ (k : ℕ). (68 ≤ pointer b k) × (pointer b k + 28 ≤ length b)) e (p .point (suc i) (omega arith));
-}
+next-points b q n p i h =
+    let e : q + 4 * suc i ≡ q + 4 + 4 * i = omega arith in
+    subst (λ (k : ℕ). (68 ≤ pointer b k) × (pointer b k + 28 ≤ length b)) e (p (suc i) (omega arith))
 
 placed-from : (b : List ℕ) (name q n : ℕ) → Points b q n
     → pick (eqb (placeFrom b name q n) 0) (refused 21) (given (placeFrom b name q n)) ≡ placeShown (momentNamed name (momentsAt b q n))
@@ -44,23 +40,16 @@ placed-from b name q (suc n) h =
     ap (λ (k : ℕ). pick (eqb k 0) (refused 21) (given k)) one
     ∙ go (eqb (nameIn (part b q)) name) (placed-from b name (q + 4) n (next-points b q n h))
   where
-    p : ℕ
-    p = pointer b q
-
     held-here : (68 ≤ pointer b q) × (pointer b q + 28 ≤ length b)
-    held-here = subst (λ (k : ℕ). (68 ≤ pointer b k) × (pointer b k + 28 ≤ length b)) (add-zero q) (h .point 0 (omega arith))
+    held-here = subst (λ (k : ℕ). (68 ≤ pointer b k) × (pointer b k + 28 ≤ length b)) (add-zero q) (h 0 (omega arith))
 
-    pointed : fetched 4 b q ≡ pointer b q
-    pointed = fetched-whole 4 b q (omega (arith, h .there))
-
-    called : fetched 4 b (fetched 4 b q) ≡ nameIn (part b q)
+    called : fetched 4 b (pointer b q) ≡ nameIn (part b q)
     called =
-        ap (fetched 4 b) pointed
-        ∙ fetched-whole 4 b (pointer b q) (omega (arith, held-here .1))
+        fetched-whole 4 b (pointer b q) (omega (arith, held-here .1))
         ∙ sym (num-drop 4 b (pointer b q) 0 ∙ ap (pointer b) (add-zero (pointer b q)))
 
     one : placeFrom b name q (suc n) ≡ pick (eqb (nameIn (part b q)) name) (pointer b q) (placeFrom b name (q + 4) n)
-    one = λ i. pick (eqb (called i) name) (pointed i) (placeFrom b name (q + 4) n)
+    one = ap (λ (k : ℕ). pick (eqb k name) (pointer b q) (placeFrom b name (q + 4) n)) called
 
     go : (t : Bool) → pick (eqb (placeFrom b name (q + 4) n) 0) (refused 21) (given (placeFrom b name (q + 4) n)) ≡ placeShown (momentNamed name (momentsAt b (q + 4) n))
         → pick (eqb (pick t (pointer b q) (placeFrom b name (q + 4) n)) 0) (refused 21) (given (pick t (pointer b q) (placeFrom b name (q + 4) n)))
@@ -79,11 +68,10 @@ placed b name = go (radialOf b) refl
         rw q (simp (ne-eqb n 0 no-zero))
     go (given d) q =
         let all = held b d q in
-        let count : fetched 2 b 30 ≡ countIn b = fetched-whole 2 b 30 (omega (arith, all .start .long)) in
-        let points : Points b 44 (countIn b - constants) =
-        record { there = omega (arith, all .start .long, all .start .few); point = all .moment } in
-        rw (q, accepted-is b d q)
-        (ap (λ (k : ℕ). placeAsked 0 (placeFrom b name 44 (k - constants))) count ∙ placed-from b name 44 (countIn b - constants) points)
+        let here : placeIn b name ≡ placeFrom b name 44 (countIn b - constants) =
+        simp (le-ltb (length b) 68 (all .start .long), le-ltb 9 (countIn b) (all .start .few))
+        in
+        rw (q, accepted-is b d q) (ap (placeAsked 0) here ∙ placed-from b name 44 (countIn b - constants) (all .moment))
 
 -- the same of the numbers that the code has
 pub asked-for : (b : List ℕ) (name number place wanted : ℕ) (r : Answer ℕ) → r ≡ placeAsked number place → number ≡ shown (radialOf b) .refusal → place ≡ placeIn b wanted
@@ -122,3 +110,20 @@ lies-at b name p o e = go (momentOf b name) refl e
 pub no-place : (a : Answer Moment) (n : ℕ) → refused n ≡ placeShown a → a ≡ refused n
 no-place (refused k) n e = let q : n ≡ k = cc e in ap refused (sym q)
 no-place (given m) n e = never (cc e)
+
+-- no refusal of a moment has the number 0
+named-refused : (name n : ℕ) (ms : List Moment) → momentNamed name ms ≡ refused n → n ≡ 21
+named-refused name n [] e = cc e
+named-refused name n (m ∷ ms) e = go (eqb (m .name) name) e (λ q. named-refused name n ms q)
+  where
+    go : (t : Bool) → pick t (given m) (momentNamed name ms) ≡ refused n → (momentNamed name ms ≡ refused n → n ≡ 21) → n ≡ 21
+    go true q later = never (cc q)
+    go false q later = later q
+
+pub no-zero : (b : List ℕ) (name n : ℕ) → momentOf b name ≡ refused n → n ≡ 0 → ⊥
+unfolding momentOf
+no-zero b name n e z = go (radialOf b) refl
+  where
+    go : (a : Answer Description) → radialOf b ≡ a → ⊥
+    go (refused m) q = let p : refused m ≡ refused n = sym (rw q refl) ∙ e in let k : m ≡ n = cc p in let h = refused-from b m q in omega arith
+    go (given d) q = let k = named-refused name n (d .moments) (sym (rw q refl) ∙ e) in omega arith

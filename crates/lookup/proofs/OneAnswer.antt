@@ -8,13 +8,24 @@ use Rattle.wire.proofs.CheckLaws.{never}
 use Rattle.wire.proofs.AnswerLaws.{only-answer}
 use Rattle.description.specs.Lookups.{momentOf, blockOf, Part, gatesOf}
 use Rattle.radial.specs.declared.MomentHead.{MomentHead}
+use Rattle.lookup.specs.declared.PlaceAnswer.{PlaceAnswer}
+use Rattle.lookup.specs.declared.PlaceAnswer.the-variants.{At, Refused as NoPlace}
 use Rattle.lookup.specs.declared.MomentAnswer.{MomentAnswer}
 use Rattle.lookup.specs.declared.MomentAnswer.the-variants.{Moment as Found, Refused as NotFound}
 use Rattle.lookup.specs.declared.Lying.{Lying}
 use Rattle.lookup.specs.declared.BlockAnswer.{BlockAnswer}
 use Rattle.lookup.specs.declared.BlockAnswer.the-variants.{Constant, Moment as MomentBlock, NoSuch, Refused as NoBlock}
 use Rattle.lookup.specs.declared.LentGates.{LentGates}
-use Rattle.lookup.specs.Told.{tellMoment, headShown, Told, tellBlock, blockShown, partOf, LiesAt, Lent}
+use Rattle.lookup.specs.Told.{tellPlace, placeAsked, tellMoment, headShown, Told, tellBlock, blockShown, partOf, LiesAt, Lent}
+
+place-apart : (a b : PlaceAnswer) → tellPlace a ≡ tellPlace b → a ≡ b
+place-apart (At p) (At q) e = cc e
+place-apart (At p) (NoPlace n) e = never (cc e)
+place-apart (NoPlace n) (At p) e = never (cc e)
+place-apart (NoPlace n) (NoPlace m) e = cc e
+
+pub only-place : (number place : ℕ) (r₁ r₂ : PlaceAnswer) → tellPlace r₁ ≡ placeAsked number place → tellPlace r₂ ≡ placeAsked number place → r₁ ≡ r₂
+only-place number place = only-answer tellPlace place-apart (placeAsked number place)
 
 moment-apart : (a b : MomentAnswer) → tellMoment a ≡ tellMoment b → a ≡ b
 moment-apart (Found h) (Found k) e = cc e

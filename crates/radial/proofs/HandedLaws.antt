@@ -155,20 +155,6 @@ number-refused b r e z = go (radialOf b) refl
     go (refused n) q = q ∙ ap refused (sym (e ∙ ap number q))
     go (given d) q = absurd (z (e ∙ ap number q))
 
--- an accepted body, and the struct that shows it
-pub record Shows (b : List ℕ) (r : Radial) : Type 0 where
-  pub what : Description
-  pub accepted : radialOf b ≡ given what
-  pub shows : r ≡ shown (given what)
-
-pub shows-given : (b : List ℕ) (r : Radial) → r ≡ shown (radialOf b) → r .refusal ≡ 0 → Shows b r
-shows-given b r e z =
-    let a = number-given b (r .refusal) (ap (λ (x : Radial). x .refusal) e) z in
-    record { what = description b; accepted = a; shows = e ∙ ap shown a }
-
-pub shows-refused : (b : List ℕ) (r : Radial) → r ≡ shown (radialOf b) → (r .refusal ≡ 0 → ⊥) → radialOf b ≡ refused (r .refusal)
-shows-refused b r e z = number-refused b (r .refusal) (ap (λ (x : Radial). x .refusal) e) z
-
 -- ---- what is handed
 block-from : (b : List ℕ) (p : ℕ) → blockFrom b (spanOf (blockAt p (drop p b))) ≡ blockAt p (drop p b)
 block-from b p =

@@ -10,7 +10,7 @@ use borrow.Author.Tests.{eq-eqb, ne-eqb}
 use Rattle.wire.specs.Numbers.{num, fetched}
 use Rattle.wire.specs.Checks.{pick}
 use Rattle.description.specs.Description.{RVOL, RELV, RRAD}
-use Rattle.description.specs.Refusal.{nameIn}
+use Rattle.description.specs.Refusal.{pointer, nameIn}
 use Rattle.wire.proofs.NumberLaws.{fetched-whole}
 use Rattle.radial.specs.Places.{placeFrom}
 
@@ -33,7 +33,7 @@ RRAD-is = refl
 -- ---- the pointers searched from the first on: what is left answers as all
 module _ (b : List ℕ) (name k n : ℕ) (more : k < n) where
   abbrev place : ℕ
-  place = fetched 4 b (32 + 4 * k)
+  place = pointer b (32 + 4 * k)
 
   one : placeFrom b name (32 + 4 * k) (n - k) ≡ pick (eqb (fetched 4 b place) name) place (placeFrom b name (32 + 4 * (k + 1)) (n - (k + 1)))
   one =

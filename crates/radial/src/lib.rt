@@ -497,14 +497,21 @@ fn count_of(body: &[u8]) -> u16
     wire::fetch16(&body[30..32], 0)
 }
 
-// Where the first moment with a name begins, by the pointers alone; 0 where none has it.
+// Where the first moment with a name begins, by the pointers alone; 0 where none has it, or more are counted than may be.
 pub fn moment_place(body: &[u8], name: u32) -> u32
     ensures { λ r. ⌜ r ≡ placeIn (now (body .entry)) name ⌝ }
 {
-    let count = wire::fetch16(body, 30) as u32;
-    let mut k = CONSTANTS as u32;
-    while k < count {
-        let place = wire::fetch32(body, 32 + 4 * k);
+    if body.len() < HEADER_SIZE {
+        return 0;
+    }
+    let count = count_of(body);
+    if MOST_BLOCKS < count {
+        return 0;
+    }
+    let end = count as usize;
+    let mut k = CONSTANTS as usize;
+    while k < end {
+        let place = place_at(body, 32 + 4 * k) as u32;
         if wire::fetch32(body, place) == name {
             return place;
         }

@@ -9,13 +9,6 @@ use Rattle.c_radials.proofs.RadialLaws.{gates-given, gates-inside, gate
 use borrow.Author.Needs.{needs}
 use Rattle.c_radials.proofs.gates.Statement.{statement}
 use Rattle.c_radials.proofs.gates.Tie as tie
-use Rattle.c_radials.proofs.gates.Reads as reads
-use Rattle.c_radials.proofs.gates.Lts as lts
-use Rattle.c_radials.proofs.gates_at.Reads as gates-at-reads
-use Rattle.c_radials.proofs.no_gates.Reads as no-gates-reads
-use Rattle.lookup.proofs.asked.Reads as asked-reads
-use Rattle.radial.proofs.check_radial.Reads as check-radial-reads
-use Rattle.radial.proofs.moment_place.Reads as moment-place-reads
 
 -- where the moment begins
 found : (c : tie.After-asked) → tellPlace (c .asked .result) ≡ placeShown (momentOf (now (c .before .before .before .before .args .body)) (c .before .before .before .before .args .name))
@@ -24,43 +17,33 @@ found c = asked-for (now (c .before .before .before .before .args .body)) (c .be
 placed : (c : tie.After-known-told) → given (c .before .place .given .0 .0) ≡ placeShown (momentOf (now (c .before .before .before .before .before .before .before .args .body)) (c .before .before .before .before .before .before .before .args .name))
 placed c = ap tellPlace (sym (c .before .place .given .1)) ∙ found (c .before .before .before)
 
--- src/lib.rt:181:25
 check-radial-requires : tie.Need-check-radial-requires
 check-radial-requires c κs = search needs
 
--- src/lib.rt:181:53
 moment-place-requires : tie.Need-moment-place-requires
 moment-place-requires c κs = search needs
 
--- src/lib.rt:181:11
 asked-requires : tie.Need-asked-requires
 asked-requires c κs = search needs
 
--- src/lib.rt:182:25
 enum-known-place : tie.Need-enum-known-place
 enum-known-place c = search needs
 
--- src/lib.rt:182:50
 cast-gates-at : tie.Need-cast-gates-at
 cast-gates-at c = search needs
 
--- src/lib.rt:182:35
 gates-at-requires : tie.Need-gates-at-requires
 gates-at-requires c κs = (gates-inside (now (c .before .before .before .before .before .before .before .args .body)) (c .before .before .before .before .before .before .before .args .name) _ (λ i. (c .before .before .before .before .before .before .shared-slice-known .given i) .fits) (placed c), search needs)
 
--- src/lib.rt:183:30
 enum-known-number : tie.Need-enum-known-number
 enum-known-number c = search needs
 
--- src/lib.rt:183:41
 no-gates-requires : tie.Need-no-gates-requires
 no-gates-requires c κs = search needs
 
--- src/lib.rt:178:1
 returns : tie.Need-returns
 returns c = gates-given (now (c .before .before .before .before .before .before .before .before .args .body)) (c .before .before .before .before .before .before .before .before .args .name) _ _ (λ i. (c .before .before .before .before .before .before .before .shared-slice-known .given i) .fits) (placed (c .before)) (c .gates-at .ensures)
 
--- src/lib.rt:178:1
 returns-2 : tie.Need-returns-2
 returns-2 c = c .no-gates .ensures ∙ gates-refused (now (c .before .before .before .before .before .before .before .before .args .body)) (c .before .before .before .before .before .before .before .before .args .name) _ (ap tellPlace (sym (c .before .before .number .given .1)) ∙ found (c .before .before .before .before))
 

@@ -5,82 +5,58 @@ use Rattle.c_radials.proofs.RadialLaws.{gates-face}
 use borrow.Author.Needs.{needs}
 use Rattle.c_radials.proofs.gates_at.Statement.{statement}
 use Rattle.c_radials.proofs.gates_at.Tie as tie
-use Rattle.c_radials.proofs.gates_at.Reads as reads
-use Rattle.c_radials.proofs.gates_at.Lts as lts
-use Rattle.radial.proofs.moment_size.Reads as moment-size-reads
-use Rattle.wire.proofs.fetch16.Reads as fetch16-reads
-use Rattle.wire.proofs.fetch32.Reads as fetch32-reads
-use Rattle.wire.proofs.fetch8.Reads as fetch8-reads
 
--- src/lib.rt:192:15
 add-end : tie.Need-add-end
 add-end c = search needs
 
--- src/lib.rt:193:16
 sub-head : tie.Need-sub-head
 sub-head c = search needs
 
--- src/lib.rt:193:16
 part-head-start : tie.Need-part-head-start
 part-head-start c = search needs
 
--- src/lib.rt:193:16
 part-head-end : tie.Need-part-head-end
 part-head-end c = search needs
 
--- src/lib.rt:194:9
 fetch16-requires : tie.Need-fetch16-requires
 fetch16-requires c κs = search needs
 
--- src/lib.rt:195:9
 fetch8-requires : tie.Need-fetch8-requires
 fetch8-requires c κs = search needs
 
--- src/lib.rt:198:16
 cast-t10 : tie.Need-cast-t10
 cast-t10 c = search needs
 
--- src/lib.rt:199:15
 cast-t11 : tie.Need-cast-t11
 cast-t11 c = search needs
 
--- src/lib.rt:200:16
 fetch32-requires : tie.Need-fetch32-requires
 fetch32-requires c κs = search needs
 
--- src/lib.rt:201:17
 fetch32-requires-2 : tie.Need-fetch32-requires-2
 fetch32-requires-2 c κs = search needs
 
--- src/lib.rt:202:16
 fetch16-requires-2 : tie.Need-fetch16-requires-2
 fetch16-requires-2 c κs = search needs
 
--- src/lib.rt:202:16
 cast-t15 : tie.Need-cast-t15
 cast-t15 c = search needs
 
--- src/lib.rt:203:19
 fetch16-requires-3 : tie.Need-fetch16-requires-3
 fetch16-requires-3 c κs = search needs
 
--- src/lib.rt:203:19
 cast-t17 : tie.Need-cast-t17
 cast-t17 c = search needs
 
--- src/lib.rt:205:15
 moment-size-requires : tie.Need-moment-size-requires
 moment-size-requires c κs = search needs
 
--- src/lib.rt:205:15
 cast-t20 : tie.Need-cast-t20
 cast-t20 c = search needs
 
--- src/lib.rt:205:15
 sub-t21 : tie.Need-sub-t21
 sub-t21 c = search needs
 
--- src/lib.rt:188:1
 returns : tie.Need-returns
 returns c =
     let b = now (c .before .before .before .before .before .before .before .before .before .args .body) in

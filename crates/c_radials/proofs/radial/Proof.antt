@@ -5,59 +5,43 @@ use native.Mathlib.Omega.{arith}
 use borrow.Author.Needs.{needs}
 use Rattle.c_radials.proofs.radial.Statement.{statement}
 use Rattle.c_radials.proofs.radial.Tie as tie
-use Rattle.c_radials.proofs.radial.Reads as reads
-use Rattle.c_radials.proofs.radial.Lts as lts
-use Rattle.radial.proofs.read_heading.Reads as read-heading-reads
 
--- src/lib.rt:246:9
 read-heading-requires : tie.Need-read-heading-requires
 read-heading-requires c κs = search needs
 
--- src/lib.rt:249:18
 cast-t4 : tie.Need-cast-t4
 cast-t4 c = search needs
 
--- src/lib.rt:252:15
 cast-t5 : tie.Need-cast-t5
 cast-t5 c = search needs
 
--- src/lib.rt:253:25
 cast-t6 : tie.Need-cast-t6
 cast-t6 c = search needs
 
--- src/lib.rt:255:24
 cast-t7 : tie.Need-cast-t7
 cast-t7 c = search needs
 
--- src/lib.rt:256:18
 cast-t8 : tie.Need-cast-t8
 cast-t8 c = search needs
 
--- src/lib.rt:257:17
 cast-t9 : tie.Need-cast-t9
 cast-t9 c = search needs
 
--- src/lib.rt:258:27
 cast-t10 : tie.Need-cast-t10
 cast-t10 c = search needs
 
--- src/lib.rt:259:17
 cast-t11 : tie.Need-cast-t11
 cast-t11 c = omega (arith, c .before .before .before .before .before .before .before .before .before .read-heading .ok)
 
--- src/lib.rt:261:19
 cast-t12 : tie.Need-cast-t12
 cast-t12 c = omega (arith, c .before .before .before .before .before .before .before .before .before .before .read-heading .ok)
 
--- src/lib.rt:262:19
 cast-t13 : tie.Need-cast-t13
 cast-t13 c = omega (arith, c .before .before .before .before .before .before .before .before .before .before .before .read-heading .ok)
 
--- src/lib.rt:263:17
 cast-t14 : tie.Need-cast-t14
 cast-t14 c = search needs
 
--- src/lib.rt:242:1
 returns : tie.Need-returns
 returns c = simp (c .before .before .before .before .before .before .before .before .before .before .before .before .read-heading .ensures) (radial-shown (radialOf (now (c .before .before .before .before .before .before .before .before .before .before .before .before .before .before .args .body))))
 

@@ -5,40 +5,28 @@ use Rattle.gate.proofs.FloatLaws.{tests}
 use borrow.Author.Needs.{needs}
 use Rattle.gate.proofs.breaks_value.Statement.{statement}
 use Rattle.gate.proofs.breaks_value.Tie as tie
-use Rattle.gate.proofs.breaks_value.Reads as reads
-use Rattle.gate.proofs.breaks_value.Lts as lts
-use Rattle.gate.proofs.finite_of.Reads as finite-of-reads
-use Rattle.gate.proofs.not_finite.Reads as not-finite-reads
-use Rattle.wire.proofs.float_of.Reads as float-of-reads
 
--- src/lib.rt:41:8
 not-finite-requires : tie.Need-not-finite-requires
 not-finite-requires c κs = search needs
 
--- src/lib.rt:42:9
 returns : tie.Need-returns
 returns c = sym (tests (c .before .before .args .scale) (c .before .before .args .offset) true _ _ (sym (c .before .not-finite .ensures) ∙ c .if1 .taken) refl refl)
 
--- src/lib.rt:44:9
 float-of-requires : tie.Need-float-of-requires
 float-of-requires c κs = search needs
 
--- src/lib.rt:45:24
 finite-of-requires : tie.Need-finite-of-requires
 finite-of-requires c κs = sym (c .before .before .not-finite .ensures) ∙ c .before .if1 .left
 
--- src/lib.rt:47:9
 returns-2 : tie.Need-returns-2
 returns-2 c =
     let a = c .before .before .before .before .before .args in
     let above : notAbove0 (a .scale) ≡ true = simp (← c .before .finite-of .ensures, ← c .before .before .float-of .ensures) (c .if2 .taken) in
     sym (tests (a .scale) (a .offset) false true _ (sym (c .before .before .before .before .not-finite .ensures) ∙ c .before .before .before .if1 .left) above refl)
 
--- src/lib.rt:49:5
 not-finite-requires-2 : tie.Need-not-finite-requires-2
 not-finite-requires-2 c κs = search needs
 
--- src/lib.rt:38:1
 returns-3 : tie.Need-returns-3
 returns-3 c =
     let a = c .before .before .before .before .before .before .args in

@@ -2,95 +2,73 @@ use Prim.Native.Nat.{ℕ, _/_, _+_, _*_}
 use native.Mathlib.Nat.{mul-one}
 use native.Mathlib.Omega.{arith}
 use mathlib.Core.Logic.{⊎-elim}
-use mathlib.Core.Path.{_≡_, refl, ap, sym, _∙_}
+use mathlib.Core.Path.{_≡_, refl, ap, sym}
 use denote.Ref.{now}
 use Rattle.gate.proofs.GateLaws.{fetched-code}
 use borrow.Author.Needs.{needs}
 use Rattle.gate.proofs.code_in.Statement.{statement}
 use Rattle.gate.proofs.code_in.Tie as tie
-use Rattle.gate.proofs.code_in.Reads as reads
-use Rattle.gate.proofs.code_in.Lts as lts
-use Rattle.wire.proofs.fetch16.Reads as fetch16-reads
-use Rattle.wire.proofs.fetch8.Reads as fetch8-reads
 
--- src/lib.rt:65:32
 mul-at : tie.Need-mul-at
 mul-at c = search needs
 
--- src/lib.rt:65:27
 add-at : tie.Need-add-at
 add-at c = search needs
 
--- src/lib.rt:65:18
 add-at-2 : tie.Need-add-at-2
 add-at-2 c = search needs
 
--- src/lib.rt:66:19
 add-end : tie.Need-add-end
 add-end c = search needs
 
--- src/lib.rt:67:30
 sub-fetch16 : tie.Need-sub-fetch16
 sub-fetch16 c = search needs
 
--- src/lib.rt:67:30
 part-fetch16-start : tie.Need-part-fetch16-start
 part-fetch16-start c = search needs
 
--- src/lib.rt:67:30
 part-fetch16-end : tie.Need-part-fetch16-end
 part-fetch16-end c =
     let a = c .before .before .args in
     let e : a .word / 8 ≡ 2 = ap (λ (x : ℕ). x / 8) (c .if1 .taken) in
     omega (arith, rw e at (c .before .before .pre .within))
 
--- src/lib.rt:67:9
 fetch16-requires : tie.Need-fetch16-requires
 fetch16-requires c κs = search needs
 
--- src/lib.rt:67:9
 returns : tie.Need-returns
 returns c =
     let a = c .before .before .before .before .args in
     let e : a .word / 8 ≡ 2 = ap (λ (x : ℕ). x / 8) (c .before .before .if1 .taken) in
     fetched-code 2 (now (a .body)) (a .place) (a .word) (a .gate) (a .place + (28 + a .gate * 2)) _ e refl (rw e at (c .before .before .before .before .pre .within)) (c .fetch16 .ensures)
 
--- src/lib.rt:69:23
 add-at-3 : tie.Need-add-at-3
 add-at-3 c = search needs
 
--- src/lib.rt:69:14
 add-at-4 : tie.Need-add-at-4
 add-at-4 c = search needs
 
--- src/lib.rt:70:15
 add-end-2 : tie.Need-add-end-2
 add-end-2 c = search needs
 
--- src/lib.rt:71:18
 sub-fetch8 : tie.Need-sub-fetch8
 sub-fetch8 c = search needs
 
--- src/lib.rt:71:18
 part-fetch8-start : tie.Need-part-fetch8-start
 part-fetch8-start c = search needs
 
--- src/lib.rt:71:18
 part-fetch8-end : tie.Need-part-fetch8-end
 part-fetch8-end c =
     let a = c .before .before .args in
     let e : a .word / 8 ≡ 1 = ap (λ (x : ℕ). x / 8) (⊎-elim (λ p. p) (λ p. ⊎-elim (λ q. absurd (c .if1 .left q)) (λ q. absurd q) p) (c .before .before .pre .sized)) in
     omega (arith, rw e at (c .before .before .pre .within))
 
--- src/lib.rt:71:5
 fetch8-requires : tie.Need-fetch8-requires
 fetch8-requires c κs = search needs
 
--- src/lib.rt:71:5
 cast-result : tie.Need-cast-result
 cast-result c = search needs
 
--- src/lib.rt:60:1
 returns-2 : tie.Need-returns-2
 returns-2 c =
     let a = c .before .before .before .before .args in

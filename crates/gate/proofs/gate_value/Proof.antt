@@ -1,92 +1,22 @@
-use Prim.Native.Nat.{ℕ}
-use native.Mathlib.Omega.{arith}
-use mathlib.Core.Path.{_≡_, sym, ap, _∙_}
-use lib.ListN.{length}
+use mathlib.Core.Path.{_∙_}
 use denote.Ref.{now}
 use Rattle.wire.specs.Numbers.{num}
-use Rattle.wire.proofs.NumberLaws.{fetched-whole}
-use Rattle.description.specs.Lookups.{momentOf}
-use Rattle.lookup.specs.Told.{tellPlace}
-use Rattle.lookup.specs.Steps.{placeShown}
-use Rattle.lookup.proofs.FindLaws.{asked-for}
-use Rattle.gate.proofs.GateLaws.{gate-refused, moment-there, gate-of}
+use Rattle.gate.proofs.GateLaws.{gate-refused, gate-valued}
 use borrow.Author.Needs.{needs}
 use Rattle.gate.proofs.gate_value.Statement.{statement}
 use Rattle.gate.proofs.gate_value.Tie as tie
-use Rattle.gate.proofs.gate_value.Reads as reads
-use Rattle.gate.proofs.gate_value.Lts as lts
-use Rattle.gate.proofs.gate_at.Reads as gate-at-reads
-use Rattle.lookup.proofs.asked.Reads as asked-reads
-use Rattle.radial.proofs.check_radial.Reads as check-radial-reads
-use Rattle.radial.proofs.moment_place.Reads as moment-place-reads
-use Rattle.wire.proofs.fetch32.Reads as fetch32-reads
 
--- what was asked for, and where it begins
-four : (c : tie.After-name) → length (c .before .before .args .t2) ≡ 4
-four c = search needs
+code-of-requires : tie.Need-code-of-requires
+code-of-requires c κs = search needs
 
-wanted : (c : tie.After-fetch32) → c .fetch32 .result ≡ num 4 (c .before .before .before .args .t2) 0
-wanted c = let wide = four (c .before) in c .fetch32 .ensures ∙ fetched-whole 4 (c .before .before .before .args .t2) 0 (omega arith)
-
-found : (c : tie.After-asked) → tellPlace (c .asked .result) ≡ placeShown (momentOf (now (c .before .before .before .before .before .before .args .body)) (num 4 (c .before .before .before .before .before .before .args .t2) 0))
-found c = asked-for (now (c .before .before .before .before .before .before .args .body)) _ _ _ _ _ (c .asked .ensures) (c .before .before .check-radial .ensures) (c .before .moment-place .ensures) (wanted (c .before .before .before))
-
--- src/lib.rt:92:32
-slice-aggregate-fetch32 : tie.Need-slice-aggregate-fetch32
-slice-aggregate-fetch32 c = search needs
-
--- src/lib.rt:92:9
-fetch32-requires : tie.Need-fetch32-requires
-fetch32-requires c κs = search needs
-
--- src/lib.rt:93:25
-check-radial-requires : tie.Need-check-radial-requires
-check-radial-requires c κs = search needs
-
--- src/lib.rt:93:53
-moment-place-requires : tie.Need-moment-place-requires
-moment-place-requires c κs = search needs
-
--- src/lib.rt:93:11
-asked-requires : tie.Need-asked-requires
-asked-requires c κs = search needs
-
--- src/lib.rt:94:30
-enum-known-number : tie.Need-enum-known-number
-enum-known-number c = search needs
-
--- src/lib.rt:95:25
-enum-known-place : tie.Need-enum-known-place
-enum-known-place c = search needs
-
--- src/lib.rt:95:49
-cast-gate-at : tie.Need-cast-gate-at
-cast-gate-at c = search needs
-
--- src/lib.rt:95:35
-gate-at-requires : tie.Need-gate-at-requires
-gate-at-requires c κs = moment-there (now (c .before .before .before .before .before .before .before .before .before .args .body)) (num 4 (c .before .before .before .before .before .before .before .before .before .args .t2) 0) _ (λ i. (c .before .before .before .before .before .before .before .before .shared-slice-known .given i) .fits) (search needs) (ap tellPlace (sym (c .before .place .given .1)) ∙ found (c .before .before .before))
-
--- src/lib.rt:89:1
 returns : tie.Need-returns
-returns c = gate-refused (now (c .before .before .before .before .before .before .before .before .before .args .body)) (num 4 (c .before .before .before .before .before .before .before .before .before .args .t2) 0) _ (c .before .before .before .before .before .before .before .before .before .args .gate) (ap tellPlace (sym (c .before .number .given .1)) ∙ found (c .before .before .before))
+returns c = gate-refused (now (c .before .before .before .before .args .body)) (num 4 (c .before .before .before .before .args .name) 0) (c .before .before .before .before .args .gate) (c .before .before .code-of .result) (c .before .before .code-of .ensures) (c .if1 .taken)
 
--- src/lib.rt:89:1
+value-requires : tie.Need-value-requires
+value-requires c κs = search needs
+
 returns-2 : tie.Need-returns-2
-returns-2 c = c .gate-at .ensures ∙ gate-of (now (c .before .before .before .before .before .before .before .before .before .before .args .body)) (num 4 (c .before .before .before .before .before .before .before .before .before .before .args .t2) 0) _ (c .before .before .before .before .before .before .before .before .before .before .args .gate) (λ i. (c .before .before .before .before .before .before .before .before .before .shared-slice-known .given i) .fits) (ap tellPlace (sym (c .before .before .place .given .1)) ∙ found (c .before .before .before .before))
+returns-2 c = c .value .ensures ∙ gate-valued (now (c .before .before .before .before .before .args .body)) (num 4 (c .before .before .before .before .before .args .name) 0) (c .before .before .before .before .before .args .gate) (c .before .before .before .code-of .result) (c .before .before .before .code-of .ensures) (c .before .if1 .left)
 
 pub gate-value-spec : {M : Type 1} → statement M
-gate-value-spec =
-    tie.close
-    (tie.spec
-    slice-aggregate-fetch32
-    fetch32-requires
-    check-radial-requires
-    moment-place-requires
-    asked-requires
-    enum-known-number
-    enum-known-place
-    cast-gate-at
-    gate-at-requires
-    returns
-    returns-2)
+gate-value-spec = tie.close (tie.spec code-of-requires returns value-requires returns-2)

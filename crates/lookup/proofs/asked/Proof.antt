@@ -1,19 +1,13 @@
 use borrow.Author.Tests.{eq-eqb, ne-eqb}
-use borrow.Author.Needs.{needs}
 use Rattle.lookup.proofs.asked.Statement.{statement}
 use Rattle.lookup.proofs.asked.Tie as tie
-use Rattle.lookup.proofs.asked.Reads as reads
-use Rattle.lookup.proofs.asked.Lts as lts
 
--- src/lib.rt:57:9
 returns : tie.Need-returns
 returns c = simp (ne-eqb _ _ (c .if1 .taken))
 
--- src/lib.rt:60:9
 returns-2 : tie.Need-returns-2
 returns-2 c = simp (eq-eqb _ _ (c .before .if1 .left), eq-eqb _ _ (c .if2 .taken))
 
--- src/lib.rt:53:1
 returns-3 : tie.Need-returns-3
 returns-3 c = simp (eq-eqb _ _ (c .before .if1 .left), ne-eqb _ _ (c .if2 .left))
 

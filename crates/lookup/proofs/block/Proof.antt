@@ -1,6 +1,6 @@
-use Prim.Native.Nat.{ℕ, _+_, _*_, _≤_}
+use Prim.Native.Nat.{ℕ, _≤_}
 use native.Mathlib.Omega.{arith}
-use mathlib.Core.Path.{_≡_, sym, ap, _∙_}
+use mathlib.Core.Path.{_≡_, ap, _∙_}
 use mathlib.Core.Option.{some}
 use mathlib.Core.List.{List}
 use denote.Ref.{now}
@@ -18,14 +18,6 @@ use Rattle.lookup.proofs.LookupLaws.{all-held, counted, block-refused, 
 use borrow.Author.Needs.{needs}
 use Rattle.lookup.proofs.block.Statement.{statement}
 use Rattle.lookup.proofs.block.Tie as tie
-use Rattle.lookup.proofs.block.Reads as reads
-use Rattle.lookup.proofs.block.Lts as lts
-use Rattle.lookup.proofs.constant.Reads as constant-reads
-use Rattle.lookup.proofs.moment_block.Reads as moment-block-reads
-use Rattle.radial.proofs.check_radial.Reads as check-radial-reads
-use Rattle.radial.proofs.head_at.Reads as head-at-reads
-use Rattle.wire.proofs.fetch16.Reads as fetch16-reads
-use Rattle.wire.proofs.fetch32.Reads as fetch32-reads
 
 -- the body is accepted, and its count of blocks
 accepted : (c : tie.Else1) → radialOf (now (c .before .before .before .args .body)) ≡ given (description (now (c .before .before .before .args .body)))
@@ -41,87 +33,66 @@ count-is c = counted (now (c .before .before .before .before .args .body)) (acce
 told : (b name : List ℕ) (n q : ℕ) → fetched 4 name 0 ≡ n → given (some (constantTold (fetched 4 name 0) (spanAt b q))) ≡ given (some (constantTold n (spanAt b q)))
 told b name n q e = ap (λ (k : ℕ). given (some (constantTold k (spanAt b q)))) e
 
--- src/lib.rt:99:9
 check-radial-requires : tie.Need-check-radial-requires
 check-radial-requires c κs = search needs
 
--- src/lib.rt:101:9
 returns : tie.Need-returns
 returns c = block-refused (now (c .before .before .before .args .body)) (c .before .before .before .args .k) _ (c .before .check-radial .ensures) (c .if1 .taken)
 
--- src/lib.rt:103:17
 fetch16-requires : tie.Need-fetch16-requires
 fetch16-requires c κs = search needs
 
--- src/lib.rt:103:17
 cast-count : tie.Need-cast-count
 cast-count c = search needs
 
--- src/lib.rt:105:9
 returns-2 : tie.Need-returns-2
 returns-2 c = block-none (now (c .before .before .before .before .before .args .body)) (accepted (c .before .before)) (c .before .before .before .before .before .args .k) (rw (← count-is (c .before)) (c .if2 .taken))
 
--- src/lib.rt:108:9
 returns-3 : tie.Need-returns-3
 returns-3 c = block-zero (now (c .before .before .before .before .before .before .args .body)) (accepted (c .before .before .before)) (c .before .before .before .before .before .before .args .k) (c .if3 .taken)
 
--- src/lib.rt:111:31
 slice-aggregate-constant : tie.Need-slice-aggregate-constant
 slice-aggregate-constant c = search needs
 
--- src/lib.rt:111:9
 constant-requires : tie.Need-constant-requires
 constant-requires c κs = (omega (arith, all (c .before .before .before .before .before) .start .long), all (c .before .before .before .before .before) .volume .inside)
 
--- src/lib.rt:111:9
 returns-4 : tie.Need-returns-4
 returns-4 c = c .constant .ensures ∙ told (now (c .before .before .before .before .before .before .before .before .before .args .body)) _ RVOL 32 RVOL-is ∙ block-volume (now (c .before .before .before .before .before .before .before .before .before .args .body)) (accepted (c .before .before .before .before .before .before)) (c .before .before .before .before .before .before .before .before .before .args .k) (c .before .before .if4 .taken)
 
--- src/lib.rt:114:31
 slice-aggregate-constant-2 : tie.Need-slice-aggregate-constant-2
 slice-aggregate-constant-2 c = search needs
 
--- src/lib.rt:114:9
 constant-requires-2 : tie.Need-constant-requires-2
 constant-requires-2 c κs = (omega (arith, all (c .before .before .before .before .before .before) .start .long), all (c .before .before .before .before .before .before) .elevation .inside)
 
--- src/lib.rt:114:9
 returns-5 : tie.Need-returns-5
 returns-5 c = c .constant2 .ensures ∙ told (now (c .before .before .before .before .before .before .before .before .before .before .args .body)) _ RELV 36 RELV-is ∙ block-elevation (now (c .before .before .before .before .before .before .before .before .before .before .args .body)) (accepted (c .before .before .before .before .before .before .before)) (c .before .before .before .before .before .before .before .before .before .before .args .k) (c .before .before .if5 .taken)
 
--- src/lib.rt:117:31
 slice-aggregate-constant-3 : tie.Need-slice-aggregate-constant-3
 slice-aggregate-constant-3 c = search needs
 
--- src/lib.rt:117:9
 constant-requires-3 : tie.Need-constant-requires-3
 constant-requires-3 c κs = (omega (arith, all (c .before .before .before .before .before .before .before) .start .long), all (c .before .before .before .before .before .before .before) .radial .inside)
 
--- src/lib.rt:117:9
 returns-6 : tie.Need-returns-6
 returns-6 c = c .constant3 .ensures ∙ told (now (c .before .before .before .before .before .before .before .before .before .before .before .args .body)) _ RRAD 40 RRAD-is ∙ block-radial (now (c .before .before .before .before .before .before .before .before .before .before .before .args .body)) (accepted (c .before .before .before .before .before .before .before .before)) (c .before .before .before .before .before .before .before .before .before .before .before .args .k) (c .before .before .if6 .taken)
 
--- src/lib.rt:119:42
 mul-fetch32 : tie.Need-mul-fetch32
 mul-fetch32 c = search needs
 
--- src/lib.rt:119:37
 add-fetch32 : tie.Need-add-fetch32
 add-fetch32 c = search needs
 
--- src/lib.rt:119:9
 fetch32-requires : tie.Need-fetch32-requires
 fetch32-requires c κs = search needs
 
--- src/lib.rt:120:18
 head-at-requires : tie.Need-head-at-requires
 head-at-requires c κs = search needs
 
--- src/lib.rt:120:5
 moment-block-requires : tie.Need-moment-block-requires
 moment-block-requires c κs = search needs
 
--- src/lib.rt:96:1
 returns-7 : tie.Need-returns-7
 returns-7 c =
     let a = c .before .before .before .before .before .before .before .before .before .before .before .before .args in

@@ -1,6 +1,6 @@
-use Prim.Native.Nat.{ℕ, _+_, _≤_}
+use Prim.Native.Nat.{ℕ}
 use native.Mathlib.Omega.{arith}
-use mathlib.Core.Path.{_≡_, sym, ap, _∙_}
+use mathlib.Core.Path.{_≡_, sym}
 use mathlib.Core.Option.{some}
 use denote.Ref.{now}
 use Rattle.wire.specs.Answers.{given}
@@ -12,60 +12,44 @@ use Rattle.lookup.specs.Steps.{constantTold}
 use borrow.Author.Needs.{needs}
 use Rattle.lookup.proofs.constant.Statement.{statement}
 use Rattle.lookup.proofs.constant.Tie as tie
-use Rattle.lookup.proofs.constant.Reads as reads
-use Rattle.lookup.proofs.constant.Lts as lts
-use Rattle.wire.proofs.fetch16.Reads as fetch16-reads
-use Rattle.wire.proofs.fetch32.Reads as fetch32-reads
 
 -- the pointer that was fetched
 place-is : (c : tie.After-fetch32) → c .fetch32 .result ≡ pointer (now (c .before .before .before .args .body)) (c .before .before .before .args .at)
 place-is c = sym (number-is 4 _ _ _ (c .fetch32 .ensures) (c .before .before .before .pre .0))
 
--- src/lib.rt:85:9
 fetch32-requires : tie.Need-fetch32-requires
 fetch32-requires c κs = search needs
 
--- src/lib.rt:86:17
 cast-begin : tie.Need-cast-begin
 cast-begin c = search needs
 
--- src/lib.rt:86:17
 add-begin : tie.Need-add-begin
 add-begin c = search needs
 
--- src/lib.rt:87:15
 cast-end : tie.Need-cast-end
 cast-end c = search needs
 
--- src/lib.rt:87:15
 add-end : tie.Need-add-end
 add-end c = search needs
 
--- src/lib.rt:89:15
 fetch32-requires-2 : tie.Need-fetch32-requires-2
 fetch32-requires-2 c κs = search needs
 
--- src/lib.rt:91:29
 sub-fetch16 : tie.Need-sub-fetch16
 sub-fetch16 c = search needs
 
--- src/lib.rt:91:29
 part-fetch16-start : tie.Need-part-fetch16-start
 part-fetch16-start c = search needs
 
--- src/lib.rt:91:29
 part-fetch16-end : tie.Need-part-fetch16-end
 part-fetch16-end c = omega (arith, place-is (c .before), c .before .before .before .before .pre .1)
 
--- src/lib.rt:91:15
 fetch16-requires : tie.Need-fetch16-requires
 fetch16-requires c κs = search needs
 
--- src/lib.rt:91:15
 cast-t13 : tie.Need-cast-t13
 cast-t13 c = search needs
 
--- src/lib.rt:81:1
 returns : tie.Need-returns
 returns c =
     let a = c .before .before .before .before .before .before .args in

@@ -14,13 +14,6 @@ use Rattle.lookup.proofs.LookupLaws.{head-found, head-refused}
 use borrow.Author.Needs.{needs}
 use Rattle.lookup.proofs.moment.Statement.{statement}
 use Rattle.lookup.proofs.moment.Tie as tie
-use Rattle.lookup.proofs.moment.Reads as reads
-use Rattle.lookup.proofs.moment.Lts as lts
-use Rattle.lookup.proofs.asked.Reads as asked-reads
-use Rattle.radial.proofs.check_radial.Reads as check-radial-reads
-use Rattle.radial.proofs.head_at.Reads as head-at-reads
-use Rattle.radial.proofs.moment_place.Reads as moment-place-reads
-use Rattle.wire.proofs.fetch32.Reads as fetch32-reads
 
 -- what was asked for, and where it begins
 four : (c : tie.After-name) → length (c .before .before .args .t2) ≡ 4
@@ -32,43 +25,33 @@ wanted c = let wide = four (c .before) in c .fetch32 .ensures ∙ fetched-whole 
 found : (c : tie.After-asked) → tellPlace (c .asked .result) ≡ placeShown (momentOf (now (c .before .before .before .before .before .before .args .body)) (num 4 (c .before .before .before .before .before .before .args .t2) 0))
 found c = asked-for (now (c .before .before .before .before .before .before .args .body)) _ _ _ _ _ (c .asked .ensures) (c .before .before .check-radial .ensures) (c .before .moment-place .ensures) (wanted (c .before .before .before))
 
--- src/lib.rt:69:32
 slice-aggregate-fetch32 : tie.Need-slice-aggregate-fetch32
 slice-aggregate-fetch32 c = search needs
 
--- src/lib.rt:69:9
 fetch32-requires : tie.Need-fetch32-requires
 fetch32-requires c κs = search needs
 
--- src/lib.rt:70:17
 check-radial-requires : tie.Need-check-radial-requires
 check-radial-requires c κs = search needs
 
--- src/lib.rt:70:45
 moment-place-requires : tie.Need-moment-place-requires
 moment-place-requires c κs = search needs
 
--- src/lib.rt:70:11
 asked-requires : tie.Need-asked-requires
 asked-requires c κs = search needs
 
--- src/lib.rt:71:30
 enum-known-number : tie.Need-enum-known-number
 enum-known-number c = search needs
 
--- src/lib.rt:72:25
 enum-known-place : tie.Need-enum-known-place
 enum-known-place c = search needs
 
--- src/lib.rt:72:56
 head-at-requires : tie.Need-head-at-requires
 head-at-requires c κs = search needs
 
--- src/lib.rt:66:1
 returns : tie.Need-returns
 returns c = head-refused (now (c .before .before .before .before .before .before .before .before .before .args .body)) (num 4 (c .before .before .before .before .before .before .before .before .before .args .t2) 0) _ (ap tellPlace (sym (c .before .number .given .1)) ∙ found (c .before .before .before))
 
--- src/lib.rt:66:1
 returns-2 : tie.Need-returns-2
 returns-2 c = ap given (c .head-at .ensures) ∙ head-found (now (c .before .before .before .before .before .before .before .before .before .before .args .body)) (num 4 (c .before .before .before .before .before .before .before .before .before .before .args .t2) 0) _ (λ i. (c .before .before .before .before .before .before .before .before .before .shared-slice-known .given i) .fits) (ap tellPlace (sym (c .before .before .place .given .1)) ∙ found (c .before .before .before .before))
 

@@ -8,9 +8,6 @@ use mathlib.Core.Path.{_≡_, sym, ap, _∙_}
 use borrow.Author.Needs.{needs}
 use Rattle.radial.proofs.all_constants.Statement.{statement}
 use Rattle.radial.proofs.all_constants.Tie as tie
-use Rattle.radial.proofs.all_constants.Reads as reads
-use Rattle.radial.proofs.all_constants.Lts as lts
-use Rattle.radial.proofs.constant_at.Reads as constant-at-reads
 
 -- what each step answered
 first : (c : tie.After-constant-at) → tellFound (c .constant-at .result) ≡ constantAt (now (c .before .before .before .args .body)) (sizeIn (now (c .before .before .before .args .body))) (c .before .before .before .args .first) 32 RVOL volumeLeast
@@ -22,55 +19,42 @@ second c = c .constant-at2 .ensures ∙ constant-named (now (c .before .before .
 third : (c : tie.After-constant-at3) → tellFound (c .constant-at3 .result) ≡ constantAt (now (c .before .before .before .before .before .before .before .before .before .before .before .before .before .args .body)) (sizeIn (now (c .before .before .before .before .before .before .before .before .before .before .before .before .before .args .body))) (c .before .before .before .next .given .0 .0) 40 RRAD radialLeast
 third c = c .constant-at3 .ensures ∙ constant-named (now (c .before .before .before .before .before .before .before .before .before .before .before .before .before .args .body)) _ (c .before .before .before .next .given .0 .0) 40 _ RRAD 20 (c .before .before .before .before .before .before .before .before .before .before .before .before .before .pre .2) RRAD-is
 
--- src/lib.rt:368:46
 slice-aggregate-constant-at : tie.Need-slice-aggregate-constant-at
 slice-aggregate-constant-at c = search needs
 
--- src/lib.rt:368:11
 constant-at-requires : tie.Need-constant-at-requires
 constant-at-requires c κs = search needs
 
--- src/lib.rt:369:24
 enum-known-number : tie.Need-enum-known-number
 enum-known-number c = search needs
 
--- src/lib.rt:370:21
 enum-known-from : tie.Need-enum-known-from
 enum-known-from c = search needs
 
--- src/lib.rt:370:70
 slice-aggregate-constant-at-2 : tie.Need-slice-aggregate-constant-at-2
 slice-aggregate-constant-at-2 c = search needs
 
--- src/lib.rt:370:36
 constant-at-requires-2 : tie.Need-constant-at-requires-2
 constant-at-requires-2 c κs = search needs
 
--- src/lib.rt:371:28
 enum-known-number-2 : tie.Need-enum-known-number-2
 enum-known-number-2 c = search needs
 
--- src/lib.rt:372:25
 enum-known-next : tie.Need-enum-known-next
 enum-known-next c = search needs
 
--- src/lib.rt:372:68
 slice-aggregate-constant-at-3 : tie.Need-slice-aggregate-constant-at-3
 slice-aggregate-constant-at-3 c = search needs
 
--- src/lib.rt:372:34
 constant-at-requires-3 : tie.Need-constant-at-requires-3
 constant-at-requires-3 c κs = search needs
 
--- src/lib.rt:364:1
 returns : tie.Need-returns
 returns c = no-volume (now (c .before .before .before .before .before .before .args .body)) (c .before .before .before .before .before .before .args .first) _ (ap tellFound (sym (c .before .number .given .1)) ∙ first (c .before .before .before))
 
--- src/lib.rt:364:1
 returns-2 : tie.Need-returns-2
 returns-2 c = no-elevation (now (c .before .before .before .before .before .before .before .before .before .before .before .args .body)) (c .before .before .before .before .before .before .before .before .before .before .before .args .first) (c .before .before .before .before .before .before .from .given .0 .0) (ap tellFound (sym (c .before .before .before .before .before .before .from .given .1)) ∙ first (c .before .before .before .before .before .before .before .before)) _ (ap tellFound (sym (c .before .number2 .given .1)) ∙ second (c .before .before .before))
 
--- src/lib.rt:364:1
 returns-3 : tie.Need-returns-3
 returns-3 c = the-third (now (c .before .before .before .before .before .before .before .before .before .before .before .before .before .args .body)) (c .before .before .before .before .before .before .before .before .before .before .before .before .before .args .first) (c .before .before .before .before .before .before .before .before .from .given .0 .0) (ap tellFound (sym (c .before .before .before .before .before .before .before .before .from .given .1)) ∙ first (c .before .before .before .before .before .before .before .before .before .before)) (c .before .before .before .next .given .0 .0) (ap tellFound (sym (c .before .before .before .next .given .1)) ∙ second (c .before .before .before .before .before)) (third c)
 

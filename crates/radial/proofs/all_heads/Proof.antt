@@ -1,20 +1,13 @@
-use Prim.Native.Nat.{ℕ, _+_, _-_, _*_, _<_, _≤_}
+use Prim.Native.Nat.{ℕ, _+_, _-_, _*_}
 use native.Mathlib.Omega.{arith}
-use mathlib.Core.Path.{_≡_, sym, ap, _∙_}
-use lib.ListN.{length, drop}
+use mathlib.Core.Path.{ap, _∙_}
 use denote.Ref.{now}
-use Rattle.description.specs.Refusal.{pointer, momentAt}
-use Rattle.radial.specs.Shown.{headOf}
+use Rattle.description.specs.Refusal.{pointer}
 use Rattle.radial.specs.Places.{headAt}
 use Rattle.radial.proofs.HeadLaws.{Held, held, head-is, Filling, fill-begins, fill-turns, fill-ends}
 use borrow.Author.Needs.{needs}
 use Rattle.radial.proofs.all_heads.Statement.{statement}
 use Rattle.radial.proofs.all_heads.Tie as tie
-use Rattle.radial.proofs.all_heads.Reads as reads
-use Rattle.radial.proofs.all_heads.Lts as lts
-use Rattle.radial.proofs.head_at.Reads as head-at-reads
-use Rattle.radial.proofs.no_head.Reads as no-head-reads
-use Rattle.radial.proofs.place_at.Reads as place-at-reads
 
 abbrev Inv-loop : tie.InvT-loop
 Inv-loop body count heads₀ i₀ heads i = Filling body count heads i
@@ -22,53 +15,41 @@ Inv-loop body count heads₀ i₀ heads i = Filling body count heads i
 abbrev μ-loop : tie.MeasureT-loop
 μ-loop body count heads₀ i₀ heads i = count - i
 
--- src/lib.rt:533:9
 no-head-requires : tie.Need-no-head-requires Inv-loop μ-loop
 no-head-requires c κs = search needs
 
--- src/lib.rt:536:5
 loop-holds : tie.Need-loop-holds Inv-loop μ-loop
 loop-holds c = rw (c .no-head .ensures) (fill-begins (now (c .before .before .args .body)) (c .before .before .args .count) (c .before .before .pre .2))
 
--- src/lib.rt:537:41
 mul-place-at : tie.Need-mul-place-at Inv-loop μ-loop
 mul-place-at c = search needs
 
--- src/lib.rt:537:36
 add-place-at : tie.Need-add-place-at Inv-loop μ-loop
 add-place-at c = search needs
 
--- src/lib.rt:537:21
 place-at-requires : tie.Need-place-at-requires Inv-loop μ-loop
 place-at-requires c κs =
     let long = held (now (c .before .before .before .before .args .body)) _ (c .before .before .before .before .pre .0) .start .long in
     omega (arith, long, c .loop-test .taken, c .before .before .before .before .pre .2)
 
--- src/lib.rt:537:21
 cast-place : tie.Need-cast-place Inv-loop μ-loop
 cast-place c = search needs
 
--- src/lib.rt:538:13
 head-at-requires : tie.Need-head-at-requires Inv-loop μ-loop
 head-at-requires c κs = search needs
 
--- src/lib.rt:539:9
 mul-heads : tie.Need-mul-heads Inv-loop μ-loop
 mul-heads c = search needs
 
--- src/lib.rt:539:9
 array-set-from-heads : tie.Need-array-set-from-heads Inv-loop μ-loop
 array-set-from-heads c = search needs
 
--- src/lib.rt:540:9
 add-i : tie.Need-add-i Inv-loop μ-loop
 add-i c = search needs
 
--- src/lib.rt:536:5
 loop-less : tie.Need-loop-less Inv-loop μ-loop
 loop-less c = search needs
 
--- src/lib.rt:536:5
 loop-again : tie.Need-loop-again Inv-loop μ-loop
 loop-again c =
     let a = c .before .before .before .before .before .before .args in
@@ -79,7 +60,6 @@ loop-again c =
     fill-turns b (a .count) (l .heads) (l .i) (l .inv) (c .head-at .result) (c .before .before .loop-test .taken)
     (c .head-at .ensures ∙ ap (λ (k : ℕ). headAt b k) p ∙ head-is b (pointer b (44 + 4 * l .i)) inside)
 
--- src/lib.rt:529:1
 returns : tie.Need-returns Inv-loop μ-loop
 returns c =
     let a = c .before .before .before .before .args in

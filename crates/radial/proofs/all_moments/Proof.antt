@@ -1,5 +1,4 @@
 use Prim.Native.Nat.{_-_}
-use native.Mathlib.Omega.{arith}
 use mathlib.Core.Path.{sym, ap, _∙_}
 use denote.Ref.{now}
 use Rattle.radial.specs.Steps.{tellGot}
@@ -7,10 +6,6 @@ use Rattle.radial.proofs.LoopLaws.{Going, begins, refuses, turns, ends}
 use borrow.Author.Needs.{needs}
 use Rattle.radial.proofs.all_moments.Statement.{statement}
 use Rattle.radial.proofs.all_moments.Tie as tie
-use Rattle.radial.proofs.all_moments.Reads as reads
-use Rattle.radial.proofs.all_moments.Lts as lts
-use Rattle.radial.proofs.moment_at.Reads as moment-at-reads
-use Rattle.radial.proofs.with_mark.Reads as with-mark-reads
 
 abbrev Inv-loop : tie.InvT-loop
 Inv-loop body size first count seen₀ from₀ i₀ seen from i = Going body size first count seen from i
@@ -18,57 +13,45 @@ Inv-loop body size first count seen₀ from₀ i₀ seen from i = Going body siz
 abbrev μ-loop : tie.MeasureT-loop
 μ-loop body size first count seen₀ from₀ i₀ seen from i = count - i
 
--- src/lib.rt:444:5
 loop-holds : tie.Need-loop-holds Inv-loop μ-loop
 loop-holds c = begins (now (c .before .args .body)) (c .before .args .size) (c .before .args .first) (c .before .args .count) (c .before .pre .2)
 
--- src/lib.rt:445:48
 mul-moment-at : tie.Need-mul-moment-at Inv-loop μ-loop
 mul-moment-at c = search needs
 
--- src/lib.rt:445:43
 add-moment-at : tie.Need-add-moment-at Inv-loop μ-loop
 add-moment-at c = search needs
 
--- src/lib.rt:445:15
 moment-at-requires : tie.Need-moment-at-requires Inv-loop μ-loop
 moment-at-requires c κs = search needs
 
--- src/lib.rt:446:26
 enum-known-number : tie.Need-enum-known-number Inv-loop μ-loop
 enum-known-number c = search needs
 
--- src/lib.rt:447:17
 returns : tie.Need-returns Inv-loop μ-loop
 returns c =
     let a = c .before .before .before .before .before .before .before .args in
     let l = c .before .before .before .before .before .loop in
     refuses (now (a .body)) (a .size) (a .first) (a .count) (l .seen) (l .from) (l .i) (l .inv) (c .before .before .before .before .loop-test .taken) _ (ap tellGot (sym (c .before .number .given .1)) ∙ c .before .before .before .moment-at .ensures)
 
--- src/lib.rt:449:25
 enum-known-name : tie.Need-enum-known-name Inv-loop μ-loop
 enum-known-name c = search needs
 
--- src/lib.rt:450:17
 with-mark-requires : tie.Need-with-mark-requires Inv-loop μ-loop
 with-mark-requires c κs = search needs
 
--- src/lib.rt:454:9
 add-i : tie.Need-add-i Inv-loop μ-loop
 add-i c = search needs
 
--- src/lib.rt:444:5
 loop-less : tie.Need-loop-less Inv-loop μ-loop
 loop-less c = search needs
 
--- src/lib.rt:444:5
 loop-again : tie.Need-loop-again Inv-loop μ-loop
 loop-again c =
     let a = c .before .before .before .before .before .before .before .before .args in
     let l = c .before .before .before .before .before .before .loop in
     rw (c .with-mark .ensures) (turns (now (a .body)) (a .size) (a .first) (a .count) (l .seen) (l .from) (l .i) (l .inv) (c .before .before .before .before .before .loop-test .taken) _ _ (ap tellGot (sym (c .before .before .name .given .1)) ∙ c .before .before .before .before .moment-at .ensures))
 
--- src/lib.rt:437:1
 returns-2 : tie.Need-returns-2 Inv-loop μ-loop
 returns-2 c =
     let a = c .before .before .before .args in

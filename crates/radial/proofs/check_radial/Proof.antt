@@ -7,11 +7,6 @@ use Rattle.radial.proofs.WholeLaws.{Started, started, no-start, no-cons
 use borrow.Author.Needs.{needs}
 use Rattle.radial.proofs.check_radial.Statement.{statement}
 use Rattle.radial.proofs.check_radial.Tie as tie
-use Rattle.radial.proofs.check_radial.Reads as reads
-use Rattle.radial.proofs.check_radial.Lts as lts
-use Rattle.radial.proofs.all_constants.Reads as all-constants-reads
-use Rattle.radial.proofs.all_moments.Reads as all-moments-reads
-use Rattle.radial.proofs.begin.Reads as begin-reads
 
 -- what the steps handed on
 start-is : (c : tie.After-known-told2) → given (c .before .size .given .0 .0, c .before .size .given .0 .1 .0) ≡ startOf (now (c .before .before .before .before .before .args .body))
@@ -23,51 +18,39 @@ begun c = started (now (c .before .before .before .before .before .args .body)) 
 three : (c : tie.After-known-told4) → given (c .before .end .given .0 .0) ≡ constantsOf (now (c .before .before .before .before .before .before .before .before .before .args .body)) 68
 three c = ap tellFound (sym (c .before .end .given .1)) ∙ c .before .before .before .all-constants .ensures
 
--- src/lib.rt:463:11
 begin-requires : tie.Need-begin-requires
 begin-requires c κs = search needs
 
--- src/lib.rt:464:24
 enum-known-number : tie.Need-enum-known-number
 enum-known-number c = search needs
 
--- src/lib.rt:465:24
 enum-known-size : tie.Need-enum-known-size
 enum-known-size c = search needs
 
--- src/lib.rt:465:46
 all-constants-requires : tie.Need-all-constants-requires
 all-constants-requires c κs = (begun c .long, begun c .inside, begun c .size)
 
--- src/lib.rt:466:28
 enum-known-number-2 : tie.Need-enum-known-number-2
 enum-known-number-2 c = search needs
 
--- src/lib.rt:467:25
 enum-known-end : tie.Need-enum-known-end
 enum-known-end c = search needs
 
--- src/lib.rt:467:70
 cast-all-moments : tie.Need-cast-all-moments
 cast-all-moments c = search needs
 
--- src/lib.rt:467:62
 sub-all-moments : tie.Need-sub-all-moments
 sub-all-moments c = omega (arith, begun (c .before .before .before .before) .some)
 
--- src/lib.rt:467:33
 all-moments-requires : tie.Need-all-moments-requires
 all-moments-requires c κs = (begun (c .before .before .before .before) .long, begun (c .before .before .before .before) .inside, omega (arith, begun (c .before .before .before .before) .few))
 
--- src/lib.rt:460:1
 returns : tie.Need-returns
 returns c = no-start (now (c .before .before .before .before .before .args .body)) _ (ap tellStart (sym (c .before .number .given .1)) ∙ c .before .before .before .begin .ensures)
 
--- src/lib.rt:460:1
 returns-2 : tie.Need-returns-2
 returns-2 c = no-constants (now (c .before .before .before .before .before .before .before .before .before .args .body)) _ _ (start-is (c .before .before .before .before)) _ (ap tellFound (sym (c .before .number2 .given .1)) ∙ c .before .before .before .all-constants .ensures)
 
--- src/lib.rt:460:1
 returns-3 : tie.Need-returns-3
 returns-3 c = the-moments (now (c .before .before .before .before .before .before .before .before .before .before .args .body)) _ _ (start-is (c .before .before .before .before .before)) _ _ (three (c .before)) (c .all-moments .ensures)
 

@@ -9,10 +9,6 @@ use mathlib.Core.Path.{_≡_, refl}
 use borrow.Author.Needs.{needs}
 use Rattle.radial.proofs.constant.Statement.{statement}
 use Rattle.radial.proofs.constant.Tie as tie
-use Rattle.radial.proofs.constant.Reads as reads
-use Rattle.radial.proofs.constant.Lts as lts
-use Rattle.radial.proofs.named.Reads as named-reads
-use Rattle.wire.proofs.fetch16.Reads as fetch16-reads
 
 -- the comparison of the names, and the block's length
 same : (c : tie.After-named) → eqb (nameIn (now (c .before .before .before .args .head))) (fetched 4 (now (c .before .before .before .args .name)) 0) ≡ c .named .result
@@ -21,35 +17,27 @@ same c = named-as (now (c .before .before .before .args .head)) (now (c .before 
 says : (c : tie.After-fetch16) → blockSays (now (c .before .before .before .before .before .args .head)) ≡ c .fetch16 .result
 says c = number-is 2 _ 4 _ (c .fetch16 .ensures) (search needs)
 
--- src/lib.rt:334:9
 named-requires : tie.Need-named-requires
 named-requires c κs = search needs
 
--- src/lib.rt:335:9
 returns : tie.Need-returns
 returns c = simp (same (c .before), not-true (c .before .named .result) (c .if1 .taken))
 
--- src/lib.rt:337:9
 fetch16-requires : tie.Need-fetch16-requires
 fetch16-requires c κs = search needs
 
--- src/lib.rt:339:9
 returns-2 : tie.Need-returns-2
 returns-2 c = simp (same (c .before .before .before), says (c .before), not-false (c .before .before .before .named .result) (c .before .before .if1 .left), lt-ltb _ _ (c .if2 .taken))
 
--- src/lib.rt:341:23
 cast-end : tie.Need-cast-end
 cast-end c = search needs
 
--- src/lib.rt:341:15
 add-end : tie.Need-add-end
 add-end c = search needs
 
--- src/lib.rt:343:9
 returns-3 : tie.Need-returns-3
 returns-3 c = simp (same (c .before .before .before .before), says (c .before .before), not-false (c .before .before .before .before .named .result) (c .before .before .before .if1 .left), le-ltb _ _ (c .before .if2 .left), lt-ltb _ _ (c .if3 .taken))
 
--- src/lib.rt:330:1
 returns-4 : tie.Need-returns-4
 returns-4 c = simp (same (c .before .before .before .before), says (c .before .before), not-false (c .before .before .before .before .named .result) (c .before .before .before .if1 .left), le-ltb _ _ (c .before .if2 .left), le-ltb _ _ (c .if3 .left))
 

@@ -1,33 +1,24 @@
 use Rattle.radial.specs.Steps.{knownAs}
 use borrow.Author.Tests.{ne-eqb}
 use mathlib.Core.Path.{sym, ap}
-use borrow.Author.Needs.{needs}
 use Rattle.radial.proofs.known.Statement.{statement}
 use Rattle.radial.proofs.known.Tie as tie
-use Rattle.radial.proofs.known.Reads as reads
-use Rattle.radial.proofs.known.Lts as lts
 
--- src/lib.rt:287:1
 returns : tie.Need-returns
 returns c = sym (ap knownAs (c .match .keys1))
 
--- src/lib.rt:287:1
 returns-2 : tie.Need-returns-2
 returns-2 c = sym (ap knownAs (c .match .keys2))
 
--- src/lib.rt:287:1
 returns-3 : tie.Need-returns-3
 returns-3 c = sym (ap knownAs (c .match .keys3))
 
--- src/lib.rt:287:1
 returns-4 : tie.Need-returns-4
 returns-4 c = sym (ap knownAs (c .match .keys4))
 
--- src/lib.rt:287:1
 returns-5 : tie.Need-returns-5
 returns-5 c = sym (ap knownAs (c .match .keys5))
 
--- src/lib.rt:287:1
 returns-6 : tie.Need-returns-6
 returns-6 c = simp (ne-eqb _ _ (c .match .rest .1), ne-eqb _ _ (c .match .rest .0 .1), ne-eqb _ _ (c .match .rest .0 .0 .1), ne-eqb _ _ (c .match .rest .0 .0 .0 .1), ne-eqb _ _ (c .match .rest .0 .0 .0 .0 .1))
 

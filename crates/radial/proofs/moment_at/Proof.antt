@@ -1,52 +1,39 @@
 use Rattle.radial.proofs.PartLaws.{moment-early, moment-late, moment-there}
 use denote.Ref.{now}
 use lib.ListN.{drop}
-use mathlib.Core.Path.{sym, _∙_}
+use mathlib.Core.Path.{_∙_}
 use borrow.Author.Needs.{needs}
 use Rattle.radial.proofs.moment_at.Statement.{statement}
 use Rattle.radial.proofs.moment_at.Tie as tie
-use Rattle.radial.proofs.moment_at.Reads as reads
-use Rattle.radial.proofs.moment_at.Lts as lts
-use Rattle.radial.proofs.moment_in.Reads as moment-in-reads
-use Rattle.radial.proofs.place_at.Reads as place-at-reads
 
--- src/lib.rt:425:9
 place-at-requires : tie.Need-place-at-requires
 place-at-requires c κs = search needs
 
--- src/lib.rt:427:9
 returns : tie.Need-returns
 returns c = let a = c .before .before .before .args in
     let p = c .before .place-at .result in
     rw (← c .before .place-at .ensures .0) (moment-early (a .size) (a .from) p (drop p (now (a .body))) (a .seen) (c .if1 .taken))
 
--- src/lib.rt:429:15
 add-end : tie.Need-add-end
 add-end c = search needs
 
--- src/lib.rt:431:9
 returns-2 : tie.Need-returns-2
 returns-2 c = let a = c .before .before .before .before .args in
     let p = c .before .before .place-at .result in
     rw (← c .before .before .place-at .ensures .0) (moment-late (a .size) (a .from) p (drop p (now (a .body))) (a .seen) (c .before .if1 .left) (c .if2 .taken))
 
--- src/lib.rt:433:15
 sub-moment-in : tie.Need-sub-moment-in
 sub-moment-in c = search needs
 
--- src/lib.rt:433:15
 part-moment-in-start : tie.Need-part-moment-in-start
 part-moment-in-start c = search needs
 
--- src/lib.rt:433:15
 part-moment-in-end : tie.Need-part-moment-in-end
 part-moment-in-end c = search needs
 
--- src/lib.rt:433:5
 moment-in-requires : tie.Need-moment-in-requires
 moment-in-requires c κs = search needs
 
--- src/lib.rt:421:1
 returns-3 : tie.Need-returns-3
 returns-3 c = let a = c .before .before .before .before .before .before .args in
     let p = c .before .before .before .before .place-at .result in

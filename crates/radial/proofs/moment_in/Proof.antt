@@ -14,15 +14,6 @@ use Prim.Native.Nat.{ℕ, _+_, _*_, _/_, _<_, _≤_}
 use borrow.Author.Needs.{needs}
 use Rattle.radial.proofs.moment_in.Statement.{statement}
 use Rattle.radial.proofs.moment_in.Tie as tie
-use Rattle.radial.proofs.moment_in.Reads as reads
-use Rattle.radial.proofs.moment_in.Lts as lts
-use Rattle.radial.proofs.moment_size.Reads as moment-size-reads
-use Rattle.radial.proofs.permitted.Reads as permitted-reads
-use Rattle.radial.proofs.repeated.Reads as repeated-reads
-use Rattle.radial.proofs.sized.Reads as sized-reads
-use Rattle.wire.proofs.fetch16.Reads as fetch16-reads
-use Rattle.wire.proofs.fetch32.Reads as fetch32-reads
-use Rattle.wire.proofs.fetch8.Reads as fetch8-reads
 
 -- what the fetches and the callees found, and what each test said of the head's bytes
 name-is : (c : tie.After-fetch32) → nameIn (now (c .before .before .args .head)) ≡ c .fetch32 .result
@@ -58,66 +49,51 @@ few c = le-ltb mostGates (num 2 (now (c .before .before .before .before .before 
 fitting : (c : tie.Else4) → among (num 1 (now (c .before .before .before .before .before .before .before .before .before .before .before .args .head)) 19) wordSizes ≡ true
 fitting c = sizes (c .before) ∙ not-false (c .before .sized .result) (c .if4 .left)
 
--- src/lib.rt:399:9
 fetch32-requires : tie.Need-fetch32-requires
 fetch32-requires c κs = search needs
 
--- src/lib.rt:400:9
 permitted-requires : tie.Need-permitted-requires
 permitted-requires c κs = search needs
 
--- src/lib.rt:401:9
 returns : tie.Need-returns
 returns c = simp (permits (c .before) ∙ not-true (c .before .permitted .result) (c .if1 .taken))
 
--- src/lib.rt:403:8
 repeated-requires : tie.Need-repeated-requires
 repeated-requires c κs = search needs
 
--- src/lib.rt:404:9
 returns-2 : tie.Need-returns-2
 returns-2 c = simp (known (c .before .before), repeats (c .before) ∙ c .if2 .taken)
 
--- src/lib.rt:406:9
 fetch16-requires : tie.Need-fetch16-requires
 fetch16-requires c κs = search needs
 
--- src/lib.rt:408:9
 returns-3 : tie.Need-returns-3
 returns-3 c = let many : mostGates < num 2 (now (c .before .before .before .before .before .before .before .before .args .head)) 8 = rw (gates-are (c .before)) (c .if3 .taken) in
     simp (known (c .before .before .before .before), once (c .before .before), lt-ltb _ _ many)
 
--- src/lib.rt:410:9
 fetch8-requires : tie.Need-fetch8-requires
 fetch8-requires c κs = search needs
 
--- src/lib.rt:411:9
 sized-requires : tie.Need-sized-requires
 sized-requires c κs = search needs
 
--- src/lib.rt:412:9
 returns-4 : tie.Need-returns-4
 returns-4 c = simp (known (c .before .before .before .before .before .before .before), once (c .before .before .before .before .before), few (c .before .before .before), sizes (c .before) ∙ not-true (c .before .sized .result) (c .if4 .taken))
 
--- src/lib.rt:414:23
 moment-size-requires : tie.Need-moment-size-requires
 moment-size-requires c κs = search needs
 
--- src/lib.rt:414:23
 cast-end : tie.Need-cast-end
 cast-end c = search needs
 
--- src/lib.rt:414:15
 add-end : tie.Need-add-end
 add-end c = search needs
 
--- src/lib.rt:416:9
 returns-5 : tie.Need-returns-5
 returns-5 c = let a = c .before .before .before .before .before .before .before .before .before .before .before .before .before .args in
     let over : a .size < a .place + momentSays (now (a .head)) = rw (size-is (c .before)) (c .if5 .taken) in
     simp (known (c .before .before .before .before .before .before .before .before .before), once (c .before .before .before .before .before .before .before), few (c .before .before .before .before .before), fitting (c .before .before), lt-ltb _ _ over)
 
--- src/lib.rt:395:1
 returns-6 : tie.Need-returns-6
 returns-6 c = let a = c .before .before .before .before .before .before .before .before .before .before .before .before .before .args in
     let inside : a .place + momentSays (now (a .head)) ≤ a .size = rw (size-is (c .before)) (c .if5 .left) in

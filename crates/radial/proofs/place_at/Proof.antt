@@ -8,35 +8,25 @@ use Prim.Native.Nat.{_+_, _-_}
 use borrow.Author.Needs.{needs}
 use Rattle.radial.proofs.place_at.Statement.{statement}
 use Rattle.radial.proofs.place_at.Tie as tie
-use Rattle.radial.proofs.place_at.Reads as reads
-use Rattle.radial.proofs.place_at.Lts as lts
-use Rattle.wire.proofs.fetch32.Reads as fetch32-reads
 
--- src/lib.rt:325:15
 add-end : tie.Need-add-end
 add-end c = search needs
 
--- src/lib.rt:326:19
 sub-fetch32 : tie.Need-sub-fetch32
 sub-fetch32 c = search needs
 
--- src/lib.rt:326:19
 part-fetch32-start : tie.Need-part-fetch32-start
 part-fetch32-start c = search needs
 
--- src/lib.rt:326:19
 part-fetch32-end : tie.Need-part-fetch32-end
 part-fetch32-end c = search needs
 
--- src/lib.rt:326:5
 fetch32-requires : tie.Need-fetch32-requires
 fetch32-requires c κs = search needs
 
--- src/lib.rt:326:5
 cast-result : tie.Need-cast-result
 cast-result c = search needs
 
--- src/lib.rt:321:1
 returns : tie.Need-returns
 returns c = (cut-is 4 (c .before .before .before .args .at + 4 - c .before .before .before .args .at) (now (c .before .before .before .args .body)) (c .before .before .before .args .at) 0 _ (omega arith) (omega (arith, c .before .before .before .pre)) (c .fetch32 .ensures) ∙ ap (pointer (now (c .before .before .before .args .body))) (add-zero (c .before .before .before .args .at)), search needs)
 

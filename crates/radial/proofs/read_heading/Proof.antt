@@ -1,5 +1,5 @@
 use Prim.Native.Nat.{ℕ, _≤_}
-use mathlib.Core.Path.{_≡_, sym, ap, _∙_}
+use mathlib.Core.Path.{_≡_, sym, ap}
 use lib.ListN.{length}
 use denote.Ref.{now}
 use Rattle.wire.specs.Answers.{given}
@@ -11,12 +11,6 @@ use Rattle.radial.proofs.HandedLaws.{number-given, number-refused}
 use borrow.Author.Needs.{needs}
 use Rattle.radial.proofs.read_heading.Statement.{statement}
 use Rattle.radial.proofs.read_heading.Tie as tie
-use Rattle.radial.proofs.read_heading.Reads as reads
-use Rattle.radial.proofs.read_heading.Lts as lts
-use Rattle.radial.proofs.check_radial.Reads as check-radial-reads
-use Rattle.radial.proofs.count_of.Reads as count-of-reads
-use Rattle.radial.proofs.header_of.Reads as header-of-reads
-use Rattle.radial.proofs.no_header.Reads as no-header-reads
 
 -- the body is accepted
 accepted : (c : tie.Else1) → radialOf (now (c .before .before .before .args .body)) ≡ given (description (now (c .before .before .before .args .body)))
@@ -25,29 +19,23 @@ accepted c = number-given (now (c .before .before .before .args .body)) (c .befo
 long : (c : tie.Else1) → 68 ≤ length (now (c .before .before .before .args .body))
 long c = held (now (c .before .before .before .args .body)) _ (accepted c) .start .long
 
--- src/lib.rt:476:9
 check-radial-requires : tie.Need-check-radial-requires
 check-radial-requires c κs = search needs
 
--- src/lib.rt:478:13
 no-header-requires : tie.Need-no-header-requires
 no-header-requires c κs = search needs
 
--- src/lib.rt:479:9
 returns : tie.Need-returns
 returns c =
     let b = now (c .before .before .before .before .args .body) in
     rw (c .no-header .ensures) (sym (ap (λ a. headingOf (shown a)) (number-refused b (c .before .before .check-radial .result) (c .before .before .check-radial .ensures) (c .before .if1 .taken))))
 
--- src/lib.rt:485:9
 header-of-requires : tie.Need-header-of-requires
 header-of-requires c κs = long c
 
--- src/lib.rt:488:16
 count-of-requires : tie.Need-count-of-requires
 count-of-requires c κs = long (c .before)
 
--- src/lib.rt:473:1
 returns-2 : tie.Need-returns-2
 returns-2 c = heading-is (now (c .before .before .before .before .before .args .body)) (accepted (c .before .before)) _ _ (c .count-of .ensures) (c .before .header-of .ensures)
 

@@ -11,12 +11,6 @@ use Rattle.radial.proofs.HandedLaws.{number-given, number-refused}
 use borrow.Author.Needs.{needs}
 use Rattle.radial.proofs.read_radial.Statement.{statement}
 use Rattle.radial.proofs.read_radial.Tie as tie
-use Rattle.radial.proofs.read_radial.Reads as reads
-use Rattle.radial.proofs.read_radial.Lts as lts
-use Rattle.radial.proofs.all_heads.Reads as all-heads-reads
-use Rattle.radial.proofs.read_heading.Reads as read-heading-reads
-use Rattle.radial.proofs.refuse.Reads as refuse-reads
-use Rattle.radial.proofs.span_of.Reads as span-of-reads
 
 -- the body is accepted, and what its checks leave known
 accepted : (c : tie.After-header) → radialOf (now (c .before .before .before .before .before .args .body)) ≡ given (description (now (c .before .before .before .before .before .args .body)))
@@ -28,46 +22,36 @@ all c = held (now (c .before .before .before .before .before .args .body)) _ (ac
 counted : (c : tie.After-header) → c .before .before .before .read-heading .result .count ≡ countIn (now (c .before .before .before .before .before .args .body))
 counted c = count-is (now (c .before .before .before .before .before .args .body)) (accepted c) _ (c .before .before .before .read-heading .ensures)
 
--- src/lib.rt:563:9
 read-heading-requires : tie.Need-read-heading-requires
 read-heading-requires c κs = search needs
 
--- src/lib.rt:565:9
 refuse-requires : tie.Need-refuse-requires
 refuse-requires c κs = search needs
 
--- src/lib.rt:565:9
 returns : tie.Need-returns
 returns c =
     let b = now (c .before .before .before .before .before .args .body) in
     let h = c .before .before .before .read-heading in
     c .refuse .ensures ∙ sym (ap shown (number-refused b (h .result .refusal) (ap (λ (x : Heading). x .refusal) (h .ensures)) (c .before .if1 .taken)))
 
--- src/lib.rt:568:9
 span-of-requires : tie.Need-span-of-requires
 span-of-requires c κs = (omega (arith, all c .start .long), all c .volume .inside)
 
--- src/lib.rt:569:9
 span-of-requires-2 : tie.Need-span-of-requires-2
 span-of-requires-2 c κs = (omega (arith, all (c .before) .start .long), all (c .before) .elevation .inside)
 
--- src/lib.rt:570:9
 span-of-requires-3 : tie.Need-span-of-requires-3
 span-of-requires-3 c κs = (omega (arith, all (c .before .before) .start .long), all (c .before .before) .radial .inside)
 
--- src/lib.rt:571:34
 sub-all-heads : tie.Need-sub-all-heads
 sub-all-heads c = omega (arith, counted (c .before .before .before .before), all (c .before .before .before .before) .start .some)
 
--- src/lib.rt:571:33
 cast-all-heads : tie.Need-cast-all-heads
 cast-all-heads c = search needs
 
--- src/lib.rt:571:9
 all-heads-requires : tie.Need-all-heads-requires
 all-heads-requires c κs = (accepted (c .before .before .before .before), ap (λ (n : ℕ). n - 3) (counted (c .before .before .before .before)), omega (arith, counted (c .before .before .before .before), all (c .before .before .before .before) .start .few))
 
--- src/lib.rt:560:1
 returns-2 : tie.Need-returns-2
 returns-2 c =
     let b = now (c .before .before .before .before .before .before .before .before .before .before .args .body) in

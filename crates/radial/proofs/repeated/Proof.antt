@@ -4,19 +4,13 @@ use Prim.Native.Nat.{ℕ, _/_, _%_, _^_}
 use borrow.Author.Needs.{needs}
 use Rattle.radial.proofs.repeated.Statement.{statement}
 use Rattle.radial.proofs.repeated.Tie as tie
-use Rattle.radial.proofs.repeated.Reads as reads
-use Rattle.radial.proofs.repeated.Lts as lts
-use Rattle.radial.proofs.mark.Reads as mark-reads
 
--- src/lib.rt:311:14
 mark-requires : tie.Need-mark-requires
 mark-requires c κs = search needs
 
--- src/lib.rt:311:6
 shr-result : tie.Need-shr-result
 shr-result c = search needs
 
--- src/lib.rt:308:1
 returns : tie.Need-returns
 returns c = ap (λ (k : ℕ). eqb (c .before .args .seen / 2 ^ k % 2) 1) (c .mark .ensures)
 
