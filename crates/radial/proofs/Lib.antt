@@ -1,6 +1,6 @@
 -- The laws between the reader's code and the rule.
 pub mod StepLaws
-pub mod MarkLaws
+pub mod BitLaws
 pub mod PartLaws
 pub mod ChainLaws
 pub mod LoopLaws

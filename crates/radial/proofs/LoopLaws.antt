@@ -5,6 +5,7 @@ use native.Mathlib.Omega.{arith}
 use mathlib.Core.Path.{_≡_, refl, sym, ap, _∙_}
 use mathlib.Core.Bool.{Bool, true, false}
 use mathlib.Core.List.{List, [], _∷_, _++_}
+use lib.Bits.{bitOr}
 use borrow.Author.Tests.{not-false}
 use Rattle.wire.specs.Checks.{Check, among, decide}
 use Rattle.wire.specs.Answers.{refused, given, rule}
@@ -13,16 +14,16 @@ use Rattle.wire.proofs.AnswerLaws.{rule-given}
 use Rattle.description.specs.Description.{permitted}
 use Rattle.description.specs.Refusal.{pointer, part, nameIn, momentSays, momentChecks, momentsChecks}
 use Rattle.radial.specs.Shown.{room}
-use Rattle.radial.specs.Steps.{markSet, momentStep, momentNext, momentsOf}
+use Rattle.radial.specs.Steps.{bitOf, marked, momentStep, momentNext, momentsOf}
 use Rattle.radial.proofs.ChainLaws.{stops, goes, given-is}
-use Rattle.radial.proofs.MarkLaws.{Marks, marks-none, marks-more}
+use Rattle.radial.proofs.BitLaws.{Marks, marks-none, marks-more}
 
 -- a moment's checks by the marks are the rule's by the names
 by-marks : (q z from p : ℕ) (l : List ℕ) (seen : ℕ) (names : List ℕ) → Marks seen names
-    → momentStep z from p l seen ≡ rule (momentChecks q z from p l names []) (nameIn l, p + momentSays l)
+    → momentStep z from p l seen ≡ rule (momentChecks q z from p l names []) (bitOf (nameIn l), p + momentSays l)
 by-marks q z from p l seen names m = go (among (nameIn l) permitted) refl
   where
-    go : (t : Bool) → among (nameIn l) permitted ≡ t → momentStep z from p l seen ≡ rule (momentChecks q z from p l names []) (nameIn l, p + momentSays l)
+    go : (t : Bool) → among (nameIn l) permitted ≡ t → momentStep z from p l seen ≡ rule (momentChecks q z from p l names []) (bitOf (nameIn l), p + momentSays l)
     go true e = simp (m (nameIn l) e)
     go false e = simp e
 
@@ -58,7 +59,7 @@ module _ (b : List ℕ) (z first n seen from i : ℕ) (g : Going b z first n see
   these = momentChecks q z from p l (g .names) []
 
   abbrev met : ℕ × ℕ
-  met = (nameIn l, p + momentSays l)
+  met = (bitOf (nameIn l), p + momentSays l)
 
   -- the checks of those after it
   abbrev rest : List Check
@@ -73,27 +74,27 @@ module _ (b : List ℕ) (z first n seen from i : ℕ) (g : Going b z first n see
     pub refuses : (k : ℕ) → refused k ≡ momentNext b z from q seen → k ≡ momentsOf b z first n
     refuses k e = stops these met k (λ j. j) (decide rest (λ j. j) 0) (e ∙ by-marks q z from p l seen (g .names) (g .marks)) ∙ split
 
-    pub turns : (name end : ℕ) → given (name, end) ≡ momentNext b z from q seen → Going b z first n (markSet seen name) end (i + 1)
-    turns name end e = record {
+    pub turns : (bit end : ℕ) → given (bit, end) ≡ momentNext b z from q seen → Going b z first n (bitOr seen bit) end (i + 1)
+    turns bit end e = record {
       below = omega arith;
       small = g .small;
-      names = g .names ++ (name ∷ []);
-      marks = marks-more seen (g .names) name (g .marks) (ap (λ (x : ℕ). among x permitted) (ap (λ (m : ℕ × ℕ). m .0) is) ∙ known);
+      names = g .names ++ (nameIn l ∷ []);
+      marks = λ y h. ap (λ (m : ℕ × ℕ). marked (bitOr seen (m .0)) y) is ∙ marks-more seen (g .names) (nameIn l) (g .marks) known y h;
       same =
-          ap (λ (k : ℕ). decide (momentsChecks z b end k (g .names ++ (name ∷ [])) (n - (i + 1))) (λ j. j) 0) next
-          ∙ ap (λ (m : ℕ × ℕ). decide (momentsChecks z b (m .1) (q + 4) (g .names ++ (m .0 ∷ [])) (n - (i + 1))) (λ j. j) 0) is
-          ∙ goes these met (name, end) (λ j. j) (decide rest (λ j. j) 0) ok
+          ap (λ (k : ℕ). decide (momentsChecks z b end k (g .names ++ (nameIn l ∷ [])) (n - (i + 1))) (λ j. j) 0) next
+          ∙ ap (λ (m : ℕ × ℕ). decide (momentsChecks z b (m .1) (q + 4) (g .names ++ (nameIn l ∷ [])) (n - (i + 1))) (λ j. j) 0) is
+          ∙ goes these met (bit, end) (λ j. j) (decide rest (λ j. j) 0) ok
           ∙ split;
     }
       where
-        ok : given (name, end) ≡ rule these met
+        ok : given (bit, end) ≡ rule these met
         ok = e ∙ by-marks q z from p l seen (g .names) (g .marks)
 
-        is : (name, end) ≡ met
-        is = given-is these met (name, end) ok
+        is : (bit, end) ≡ met
+        is = given-is these met (bit, end) ok
 
         known : among (nameIn l) permitted ≡ true
-        known = not-false (among (nameIn l) permitted) (all-hold these (rule-given these met (name, end) (sym ok) .0) .1 .1 .0)
+        known = not-false (among (nameIn l) permitted) (all-hold these (rule-given these met (bit, end) (sym ok) .0) .1 .1 .0)
 
         next : 44 + 4 * (i + 1) ≡ q + 4
         next = omega arith

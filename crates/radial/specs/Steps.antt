@@ -1,8 +1,8 @@
 -- What the private functions promise each other, in the rule's own checks. No public promise cites this file.
-use Prim.Native.Nat.{ℕ, _+_, _*_, _/_, _%_, _^_}
+use Prim.Native.Nat.{ℕ, _+_}
 use mathlib.Core.Bool.{Bool, not}
 use mathlib.Core.List.{List, [], _∷_}
-use lib.Bits.{bitOr}
+use lib.Bits.{bitAnd}
 use lib.Dec.{ltb, eqb}
 use lib.Ieee.{binary32, ofBits}
 use Rattle.wire.specs.Numbers.{num}
@@ -29,29 +29,23 @@ tellFound (Ends end) = given end
 tellFound (NotFound n) = refused n
 
 abbrev pub tellGot : Got → Answer (ℕ × ℕ)
-tellGot (Moment name end) = given (name, end)
+tellGot (Moment bit end) = given (bit, end)
 tellGot (NotGot n) = refused n
 
--- ---- names by their marks
-abbrev pub markOf : ℕ → ℕ
-markOf name = name * 98561 / 4294967296 % 8
+-- ---- names by their bits
+abbrev pub bitOf : ℕ → ℕ
+bitOf name =
+    pick (eqb name 0x44524546) 1
+    (pick (eqb name 0x4456454C) 2
+    (pick (eqb name 0x44535720) 4
+    (pick (eqb name 0x445A4452) 8
+    (pick (eqb name 0x44504849) 16
+    (pick (eqb name 0x4452484F) 32
+    0)))))
 
--- the permitted name with a mark
-abbrev pub knownAs : ℕ → ℕ
-knownAs k =
-    pick (eqb k 0) 0x4452484F
-    (pick (eqb k 1) 0x44535720
-    (pick (eqb k 4) 0x445A4452
-    (pick (eqb k 6) 0x4456454C
-    (pick (eqb k 7) 0x44524546
-    0x44504849))))
-
--- the mark of a name is set among those `seen`, and they with it
+-- the bit of a name is one of those `seen`
 abbrev pub marked : ℕ → ℕ → Bool
-marked seen name = eqb (seen / 2 ^ markOf name % 2) 1
-
-abbrev pub markSet : ℕ → ℕ → ℕ
-markSet seen name = bitOr seen (2 ^ markOf name)
+marked seen name = not (eqb (bitAnd seen (bitOf name)) 0)
 
 -- ---- a block at p in a radial of z bytes, by its first bytes l
 abbrev pub constantPart : ℕ → ℕ → List ℕ → ℕ → ℕ → List Check
@@ -109,11 +103,11 @@ abbrev pub constantsOf : List ℕ → ℕ → Answer ℕ
 constantsOf b from = rule (constantsChecks b from []) (endAt b 40)
 
 abbrev pub momentIn : ℕ → ℕ → List ℕ → ℕ → Answer (ℕ × ℕ)
-momentIn z p l seen = rule (momentPart z p l seen) (nameIn l, p + momentSays l)
+momentIn z p l seen = rule (momentPart z p l seen) (bitOf (nameIn l), p + momentSays l)
 
 abbrev pub momentStep : ℕ → ℕ → ℕ → List ℕ → ℕ → Answer (ℕ × ℕ)
 momentStep z from p l seen =
-    rule (check 18 (ltb p from) ∷ check 18 (ltb z (p + momentHead)) ∷ momentPart z p l seen) (nameIn l, p + momentSays l)
+    rule (check 18 (ltb p from) ∷ check 18 (ltb z (p + momentHead)) ∷ momentPart z p l seen) (bitOf (nameIn l), p + momentSays l)
 
 abbrev pub momentNext : List ℕ → ℕ → ℕ → ℕ → ℕ → Answer (ℕ × ℕ)
 momentNext b z from q seen = momentStep z from (pointer b q) (part b q) seen

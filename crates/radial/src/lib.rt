@@ -6,11 +6,11 @@ ghost use lib.ListN.{length};
 ghost use Rattle.wire.specs.Numbers.{fetched};
 ghost use Rattle.wire.specs.Checks.{among};
 ghost use Rattle.wire.specs.Answers.{refused, given};
-ghost use Rattle.description.specs.Description.{constants, permitted as permittedNames, wordSizes};
+ghost use Rattle.description.specs.Description.{constants, wordSizes};
 ghost use Rattle.description.specs.Refusal.{sizeIn, countIn, pointer, momentsAt, description, radialOf};
 ghost use Rattle.radial.specs.Shown.{room, headerOf, momentBytes, noHeader, noHead, headsOf, shown};
 ghost use Rattle.radial.specs.Places.{placeIn, headAt, headingOf};
-ghost use Rattle.radial.specs.Steps.{tellStart, tellFound, tellGot, markOf, knownAs, marked, markSet, spanAt, headIn, startOf, constantIn, constantAt, constantsOf, momentIn, momentNext, momentsOf};
+ghost use Rattle.radial.specs.Steps.{tellStart, tellFound, tellGot, bitOf, spanAt, headIn, startOf, constantIn, constantAt, constantsOf, momentIn, momentNext, momentsOf};
 use wire::refusal;
 
 // "The header takes bytes 0 to 67", and the first block begins there or later.
@@ -119,7 +119,7 @@ enum Found {
     Refused(u8),
 }
 
-// A moment's name, and where the moment ends.
+// The bit of a moment's name, and where the moment ends.
 enum Got {
     Moment(u32, usize),
     Refused(u8),
@@ -276,45 +276,29 @@ fn named(part: &[u8], name: &[u8]) -> bool
     wire::fetch32(part, 0) == wire::fetch32(name, 0)
 }
 
-// A number below 8 for each name, for no two permitted names the same one.
-fn mark(name: u32) -> u32
-    ensures { λ r. ⌜ r ≡ markOf name ⌝ }
+// A bit for each name that a moment may have, 0 for any other.
+fn bit_of(name: u32) -> u32
+    ensures { λ r. ⌜ r ≡ bitOf name ⌝ }
 {
-    (name as u64 * 98561 / 4294967296 % 8) as u32
-}
-
-// The permitted name with a mark; one of the others where none has it.
-fn known(mark: u32) -> u32
-    ensures { λ r. ⌜ r ≡ knownAs mark ⌝ }
-{
-    match mark {
-        0 => DRHO,
-        1 => DSW,
-        4 => DZDR,
-        6 => DVEL,
-        7 => DREF,
-        _ => DPHI,
+    if name == DREF {
+        return 1;
     }
-}
-
-// One of the names that a moment may have.
-fn permitted(name: u32) -> bool
-    ensures { λ r. ⌜ r ≡ among name permittedNames ⌝ }
-{
-    name == known(mark(name))
-}
-
-// A name whose mark is among those `seen`, a bit for each.
-fn repeated(seen: u32, name: u32) -> bool
-    ensures { λ r. ⌜ r ≡ marked seen name ⌝ }
-{
-    (seen >> mark(name)) % 2 == 1
-}
-
-fn with_mark(seen: u32, name: u32) -> u32
-    ensures { λ r. ⌜ r ≡ markSet seen name ⌝ }
-{
-    seen | (1 << mark(name))
+    if name == DVEL {
+        return 2;
+    }
+    if name == DSW {
+        return 4;
+    }
+    if name == DZDR {
+        return 8;
+    }
+    if name == DPHI {
+        return 16;
+    }
+    if name == DRHO {
+        return 32;
+    }
+    0
 }
 
 // The place that the pointer at a byte of the header says.
@@ -391,16 +375,16 @@ pub fn moment_size(gates: u16, word: u8) -> u32
     28 + gates as u32 * (word as u32 / 8)
 }
 
-// A moment at a place of a radial of `size` bytes, by the moment's first 28, after moments whose marks are `seen`.
+// A moment at a place of a radial of `size` bytes, by the moment's first 28, after moments with the bits `seen`.
 fn moment_in(head: &[u8], size: usize, place: usize, seen: u32) -> Got
     requires { ⌜ (28 ≤ length (now head)) × (place < 2 ^ 32) ⌝ }
     ensures { λ r. ⌜ tellGot r ≡ momentIn size place (now (head .entry)) seen ⌝ }
 {
-    let name = wire::fetch32(head, 0);
-    if !permitted(name) {
+    let bit = bit_of(wire::fetch32(head, 0));
+    if bit == 0 {
         return Got::Refused(refusal::NAME);
     }
-    if repeated(seen, name) {
+    if seen & bit != 0 {
         return Got::Refused(refusal::NAME);
     }
     let gates = wire::fetch16(head, 8);
@@ -415,7 +399,7 @@ fn moment_in(head: &[u8], size: usize, place: usize, seen: u32) -> Got
     if size < end {
         return Got::Refused(refusal::BLOCK);
     }
-    Got::Moment(name, end)
+    Got::Moment(bit, end)
 }
 
 fn moment_at(body: &[u8], size: usize, from: usize, at: usize, seen: u32) -> Got
@@ -446,8 +430,8 @@ fn all_moments(body: &[u8], size: usize, first: usize, count: usize) -> u8
             Got::Refused(number) => {
                 return number;
             }
-            Got::Moment(name, end) => {
-                seen = with_mark(seen, name);
+            Got::Moment(bit, end) => {
+                seen = seen | bit;
                 from = end;
             }
         }

@@ -34,11 +34,8 @@ returns c =
     let l = c .before .before .before .before .before .loop in
     refuses (now (a .body)) (a .size) (a .first) (a .count) (l .seen) (l .from) (l .i) (l .inv) (c .before .before .before .before .loop-test .taken) _ (ap tellGot (sym (c .before .number .given .1)) ∙ c .before .before .before .moment-at .ensures)
 
-enum-known-name : tie.Need-enum-known-name Inv-loop μ-loop
-enum-known-name c = search needs
-
-with-mark-requires : tie.Need-with-mark-requires Inv-loop μ-loop
-with-mark-requires c κs = search needs
+enum-known-bit : tie.Need-enum-known-bit Inv-loop μ-loop
+enum-known-bit c = search needs
 
 add-i : tie.Need-add-i Inv-loop μ-loop
 add-i c = search needs
@@ -48,9 +45,9 @@ loop-less c = search needs
 
 loop-again : tie.Need-loop-again Inv-loop μ-loop
 loop-again c =
-    let a = c .before .before .before .before .before .before .before .before .args in
-    let l = c .before .before .before .before .before .before .loop in
-    rw (c .with-mark .ensures) (turns (now (a .body)) (a .size) (a .first) (a .count) (l .seen) (l .from) (l .i) (l .inv) (c .before .before .before .before .before .loop-test .taken) _ _ (ap tellGot (sym (c .before .before .name .given .1)) ∙ c .before .before .before .before .moment-at .ensures))
+    let a = c .before .before .before .before .before .before .before .args in
+    let l = c .before .before .before .before .before .loop in
+    turns (now (a .body)) (a .size) (a .first) (a .count) (l .seen) (l .from) (l .i) (l .inv) (c .before .before .before .before .loop-test .taken) _ _ (ap tellGot (sym (c .before .bit .given .1)) ∙ c .before .before .before .moment-at .ensures)
 
 returns-2 : tie.Need-returns-2 Inv-loop μ-loop
 returns-2 c =
@@ -70,8 +67,7 @@ all-moments-spec =
     moment-at-requires
     enum-known-number
     returns
-    enum-known-name
-    with-mark-requires
+    enum-known-bit
     add-i
     loop-less
     loop-again
