@@ -30,6 +30,30 @@ pub RRAD-is : fetched 4 (82 ∷ 82 ∷ 65 ∷ 68 ∷ []) 0 ≡ RRAD
 unfolding fetched num
 RRAD-is = refl
 
+pub DREF-is : fetched 4 (68 ∷ 82 ∷ 69 ∷ 70 ∷ []) 0 ≡ 0x44524546
+unfolding fetched num
+DREF-is = refl
+
+pub DVEL-is : fetched 4 (68 ∷ 86 ∷ 69 ∷ 76 ∷ []) 0 ≡ 0x4456454C
+unfolding fetched num
+DVEL-is = refl
+
+pub DSW-is : fetched 4 (68 ∷ 83 ∷ 87 ∷ 32 ∷ []) 0 ≡ 0x44535720
+unfolding fetched num
+DSW-is = refl
+
+pub DZDR-is : fetched 4 (68 ∷ 90 ∷ 68 ∷ 82 ∷ []) 0 ≡ 0x445A4452
+unfolding fetched num
+DZDR-is = refl
+
+pub DPHI-is : fetched 4 (68 ∷ 80 ∷ 72 ∷ 73 ∷ []) 0 ≡ 0x44504849
+unfolding fetched num
+DPHI-is = refl
+
+pub DRHO-is : fetched 4 (68 ∷ 82 ∷ 72 ∷ 79 ∷ []) 0 ≡ 0x4452484F
+unfolding fetched num
+DRHO-is = refl
+
 -- ---- the pointers searched from the first on: what is left answers as all
 module _ (b : List ℕ) (name k n : ℕ) (more : k < n) where
   abbrev place : ℕ

@@ -7,7 +7,7 @@ ghost use Rattle.wire.specs.Numbers.{fetched};
 ghost use Rattle.wire.specs.Checks.{among};
 ghost use Rattle.wire.specs.Answers.{refused, given};
 ghost use Rattle.description.specs.Description.{constants, wordSizes};
-ghost use Rattle.description.specs.Refusal.{sizeIn, countIn, pointer, momentsAt, description, radialOf};
+ghost use Rattle.description.specs.Refusal.{nameIn, sizeIn, countIn, pointer, momentsAt, description, radialOf};
 ghost use Rattle.radial.specs.Shown.{room, headerOf, momentBytes, noHeader, noHead, headsOf, shown};
 ghost use Rattle.radial.specs.Places.{placeIn, headAt, headingOf};
 ghost use Rattle.radial.specs.Steps.{tellStart, tellFound, tellGot, bitOf, spanAt, headIn, startOf, constantIn, constantAt, constantsOf, momentIn, momentNext, momentsOf};
@@ -29,19 +29,6 @@ pub const CONSTANTS: u16 = 3;
 pub const ROOM: usize = 6;
 
 const MOST_GATES: u16 = 1840;
-
-// "DREF", "DVEL", "DSW ", "DZDR", "DPHI" or "DRHO": a name is its four bytes as one number.
-const DREF: u32 = 0x44524546;
-
-const DVEL: u32 = 0x4456454C;
-
-const DSW: u32 = 0x44535720;
-
-const DZDR: u32 = 0x445A4452;
-
-const DPHI: u32 = 0x44504849;
-
-const DRHO: u32 = 0x4452484F;
 
 // Bytes before the rest of a constant block, and before a moment's gates.
 const CONSTANT_HEAD: usize = 6;
@@ -277,25 +264,26 @@ fn named(part: &[u8], name: &[u8]) -> bool
 }
 
 // A bit for each name that a moment may have, 0 for any other.
-fn bit_of(name: u32) -> u32
-    ensures { λ r. ⌜ r ≡ bitOf name ⌝ }
+fn bit_of(part: &[u8]) -> u32
+    requires { ⌜ 4 ≤ length (now part) ⌝ }
+    ensures { λ r. ⌜ r ≡ bitOf (nameIn (now (part .entry))) ⌝ }
 {
-    if name == DREF {
+    if named(part, b"DREF") {
         return 1;
     }
-    if name == DVEL {
+    if named(part, b"DVEL") {
         return 2;
     }
-    if name == DSW {
+    if named(part, b"DSW ") {
         return 4;
     }
-    if name == DZDR {
+    if named(part, b"DZDR") {
         return 8;
     }
-    if name == DPHI {
+    if named(part, b"DPHI") {
         return 16;
     }
-    if name == DRHO {
+    if named(part, b"DRHO") {
         return 32;
     }
     0
@@ -380,7 +368,7 @@ fn moment_in(head: &[u8], size: usize, place: usize, seen: u32) -> Got
     requires { ⌜ (28 ≤ length (now head)) × (place < 2 ^ 32) ⌝ }
     ensures { λ r. ⌜ tellGot r ≡ momentIn size place (now (head .entry)) seen ⌝ }
 {
-    let bit = bit_of(wire::fetch32(head, 0));
+    let bit = bit_of(head);
     if bit == 0 {
         return Got::Refused(refusal::NAME);
     }
