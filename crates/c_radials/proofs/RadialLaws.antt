@@ -17,8 +17,7 @@ use Rattle.radial.specs.declared.MomentHead.{MomentHead}
 use Rattle.radial.specs.Shown.{headOf, shown}
 use Rattle.radial.specs.Places.{headingOf}
 use Rattle.lookup.specs.declared.Lying.{Lying as Placed}
-use Rattle.lookup.specs.Told.{Told, headIn, blockShown}
-use Rattle.lookup.specs.Steps.{placeShown}
+use Rattle.lookup.specs.Told.{Told, headIn, blockShown, placeShown}
 use Rattle.lookup.proofs.FindLaws.{Lies, lies-at, no-place}
 use Rattle.c_radials.specs.declared.UlmRadial.{UlmRadial}
 use Rattle.c_radials.specs.declared.UlmBlock.{UlmBlock}

@@ -178,7 +178,7 @@ fn no_block(number: u8) -> UlmBlock
 pub fn gates(body: &[u8], name: u32) -> UlmGates
     ensures { λ r. ⌜ r ≡ gatesFace (momentOf (now (body .entry)) name) ⌝ }
 {
-    match lookup::asked(radial::check_radial(body), radial::moment_place(body, name)) {
+    match lookup::place(body, name) {
         PlaceAnswer::At(place) => gates_at(body, place as usize),
         PlaceAnswer::Refused(number) => no_gates(number),
     }

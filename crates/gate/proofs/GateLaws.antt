@@ -1,4 +1,5 @@
 -- The laws of a gate's answer, from those of the description. Assumes nothing.
+use Rattle.lookup.specs.Told.{placeShown}
 use Prim.Native.Nat.{ℕ, suc, _+_, _-_, _*_, _/_, _^_, _≤_, _<_}
 use native.Mathlib.Nat.{add-zero, suc-mul, mul-le-mul-right}
 use native.Mathlib.Omega.{arith}
@@ -17,7 +18,6 @@ use Rattle.description.specs.Refusal.{momentAt}
 use Rattle.description.specs.Lookups.{onward, momentOf}
 use Rattle.description.proofs.Naming.{unnamed}
 use Rattle.radial.proofs.PartLaws.{cut-is}
-use Rattle.lookup.specs.Steps.{placeShown}
 use Rattle.lookup.proofs.FindLaws.{Lies, lies-at, no-place, no-zero}
 use Rattle.gate.specs.declared.Coded.{Coded}
 use Rattle.gate.specs.Value.{Worth, valueOf, gateIn, gateOf}

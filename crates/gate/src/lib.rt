@@ -124,10 +124,7 @@ fn code_of(body: &[u8], name: Name, gate: usize) -> Coded
     ensures { λ r. ⌜ r ≡ codedOf (momentOf (now (body .entry)) (num 4 name 0)) gate ⌝ }
 {
     let wanted = wire::fetch32(&name, 0);
-    match lookup::asked(
-        radial::check_radial(body),
-        radial::moment_place(body, wanted),
-    ) {
+    match lookup::place(body, wanted) {
         PlaceAnswer::Refused(number) => no_code(number),
         PlaceAnswer::At(place) => coded_at(body, place as usize, gate),
     }

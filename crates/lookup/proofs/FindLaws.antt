@@ -21,8 +21,8 @@ use Rattle.radial.specs.Shown.{shown}
 use Rattle.radial.specs.Places.{placeFrom, placeIn}
 use Rattle.radial.proofs.HeadLaws.{Held, held}
 use Rattle.radial.proofs.HandedLaws.{refused-from, accepted-is}
-use Rattle.lookup.specs.Told.{placeAsked}
-use Rattle.lookup.specs.Steps.{placeShown}
+use Rattle.lookup.specs.Told.{placeShown}
+use Rattle.lookup.specs.Steps.{placeAsked}
 
 -- what the n pointers from byte q on point at is in the body, after the header
 abbrev Points : List ℕ → ℕ → ℕ → Type 0

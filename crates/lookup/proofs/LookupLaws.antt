@@ -23,8 +23,8 @@ use Rattle.radial.specs.Steps.{spanAt}
 use Rattle.radial.proofs.HeadLaws.{Held, held, head-is, span-is}
 use Rattle.radial.proofs.HandedLaws.{number-refused}
 use Rattle.lookup.specs.declared.Located.{Located}
-use Rattle.lookup.specs.Told.{Told, headShown, toldOf, blockShown, partOf}
-use Rattle.lookup.specs.Steps.{placeShown, constantTold, momentTold, located}
+use Rattle.lookup.specs.Told.{Told, headShown, toldOf, blockShown, partOf, placeShown}
+use Rattle.lookup.specs.Steps.{constantTold, momentTold, located}
 use Rattle.lookup.proofs.FindLaws.{Lies, lies-at, no-place}
 
 -- ---- the moments among the blocks

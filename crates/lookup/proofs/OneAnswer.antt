@@ -16,7 +16,7 @@ use Rattle.lookup.specs.declared.Lying.{Lying}
 use Rattle.lookup.specs.declared.BlockAnswer.{BlockAnswer}
 use Rattle.lookup.specs.declared.BlockAnswer.the-variants.{Constant, Moment as MomentBlock, NoSuch, Refused as NoBlock}
 use Rattle.lookup.specs.declared.LentGates.{LentGates}
-use Rattle.lookup.specs.Told.{tellPlace, placeAsked, tellMoment, headShown, Told, tellBlock, blockShown, partOf, LiesAt, Lent}
+use Rattle.lookup.specs.Told.{placeShown, tellPlace, tellMoment, headShown, Told, tellBlock, blockShown, partOf, LiesAt, Lent}
 
 place-apart : (a b : PlaceAnswer) → tellPlace a ≡ tellPlace b → a ≡ b
 place-apart (At p) (At q) e = cc e
@@ -24,8 +24,8 @@ place-apart (At p) (NoPlace n) e = never (cc e)
 place-apart (NoPlace n) (At p) e = never (cc e)
 place-apart (NoPlace n) (NoPlace m) e = cc e
 
-pub only-place : (number place : ℕ) (r₁ r₂ : PlaceAnswer) → tellPlace r₁ ≡ placeAsked number place → tellPlace r₂ ≡ placeAsked number place → r₁ ≡ r₂
-only-place number place = only-answer tellPlace place-apart (placeAsked number place)
+pub only-place : (b : List ℕ) (name : ℕ) (r₁ r₂ : PlaceAnswer) → tellPlace r₁ ≡ placeShown (momentOf b name) → tellPlace r₂ ≡ placeShown (momentOf b name) → r₁ ≡ r₂
+only-place b name = only-answer tellPlace place-apart (placeShown (momentOf b name))
 
 moment-apart : (a b : MomentAnswer) → tellMoment a ≡ tellMoment b → a ≡ b
 moment-apart (Found h) (Found k) e = cc e

@@ -3,7 +3,9 @@ use Prim.Native.Nat.{ℕ, _+_, _*_, _/_, _≤_}
 use mathlib.Core.Path.{_≡_}
 use mathlib.Core.Option.{none, some}
 use mathlib.Core.List.{List}
+use lib.Dec.{eqb}
 use lib.ListN.{length}
+use Rattle.wire.specs.Checks.{pick}
 use Rattle.wire.specs.Answers.{Answer, refused, given}
 use Rattle.description.specs.Description.{momentHead, Moment}
 use Rattle.description.specs.Lookups.{onward, momentOf, gatesIn}
@@ -12,10 +14,9 @@ use Rattle.radial.specs.declared.Span.{Span}
 use Rattle.lookup.specs.declared.Located.{Located}
 use Rattle.lookup.specs.Told.{Told, numberOf, countOf, partOf}
 
--- where a moment begins
-abbrev pub placeShown : Answer Moment → Answer ℕ
-placeShown (refused n) = refused n
-placeShown (given m) = given (m .place)
+-- by the number of the radial's refusal or 0, and the place for a name that its pointers give or 0
+abbrev pub placeAsked : ℕ → ℕ → Answer ℕ
+placeAsked number place = pick (eqb number 0) (pick (eqb place 0) (refused 21) (given place)) (refused number)
 
 -- a block by the reader's struct
 abbrev pub constantTold : ℕ → Span → Told

@@ -3,10 +3,8 @@ use Prim.Native.Nat.{ℕ, _+_}
 use mathlib.Core.Path.{_≡_}
 use mathlib.Core.Option.{Option, none, some}
 use mathlib.Core.List.{List}
-use lib.Dec.{eqb}
 use lib.ListN.{length}
 use denote.Ref.{RefT, now}
-use Rattle.wire.specs.Checks.{pick}
 use Rattle.wire.specs.Answers.{Answer, refused, given}
 use Rattle.description.specs.Description.{Moment, gates}
 use Rattle.description.specs.Lookups.{momentOf, Asked, noSuch, lies, Part, gatesOf, bytesIn}
@@ -25,9 +23,9 @@ abbrev pub tellPlace : PlaceAnswer → Answer ℕ
 tellPlace (At place) = given place
 tellPlace (NoPlace n) = refused n
 
--- by the number of the radial's refusal or 0, and the place for a name that its pointers give or 0
-abbrev pub placeAsked : ℕ → ℕ → Answer ℕ
-placeAsked number place = pick (eqb number 0) (pick (eqb place 0) (refused 21) (given place)) (refused number)
+abbrev pub placeShown : Answer Moment → Answer ℕ
+placeShown (refused n) = refused n
+placeShown (given m) = given (m .place)
 
 -- ---- a moment: its head and its place, or the number of refusal
 abbrev pub tellMoment : MomentAnswer → Answer MomentHead

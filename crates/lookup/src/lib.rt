@@ -8,7 +8,7 @@ ghost use Rattle.wire.specs.Answers.{given};
 ghost use Rattle.description.specs.Refusal.{pointer};
 ghost use Rattle.description.specs.Lookups.{momentOf, blockOf, gatesOf};
 ghost use Rattle.radial.specs.Steps.{spanAt};
-ghost use Rattle.lookup.specs.Told.{tellPlace, placeAsked, tellMoment, headShown, tellBlock, blockShown, LiesAt, partOf, Lent};
+ghost use Rattle.lookup.specs.Told.{tellPlace, placeShown, tellMoment, headShown, tellBlock, blockShown, LiesAt, partOf, Lent};
 ghost use Rattle.lookup.specs.Steps.{constantTold, momentTold, Locates};
 use radial::MomentHead;
 use wire::refusal;
@@ -50,17 +50,19 @@ struct Located {
     size: usize,
 }
 
-// By the number of a radial's checks and the place that its pointers give for a name; "21 moment asked for doesn't exist".
-pub fn asked(number: u8, place: u32) -> PlaceAnswer
-    ensures { λ r. ⌜ tellPlace r ≡ placeAsked number place ⌝ }
+// Where the moment with a name begins; "21 moment asked for doesn't exist".
+pub fn place(body: &[u8], name: u32) -> PlaceAnswer
+    ensures { λ r. ⌜ tellPlace r ≡ placeShown (momentOf (now (body .entry)) name) ⌝ }
 {
+    let number = radial::check_radial(body);
     if number != 0 {
         return PlaceAnswer::Refused(number);
     }
-    if place == 0 {
+    let begin = radial::moment_place(body, name);
+    if begin == 0 {
         return PlaceAnswer::Refused(refusal::ASKED_FOR);
     }
-    PlaceAnswer::At(place)
+    PlaceAnswer::At(begin)
 }
 
 // The head of the moment with a name.
@@ -68,12 +70,9 @@ pub fn moment(body: &[u8], name: Name) -> MomentAnswer
     ensures { λ r. ⌜ tellMoment r ≡ headShown (momentOf (now (body .entry)) (num 4 name 0)) ⌝ }
 {
     let wanted = wire::fetch32(&name, 0);
-    match asked(
-        radial::check_radial(body),
-        radial::moment_place(body, wanted),
-    ) {
+    match place(body, wanted) {
         PlaceAnswer::Refused(number) => MomentAnswer::Refused(number),
-        PlaceAnswer::At(place) => MomentAnswer::Moment(radial::head_at(body, place)),
+        PlaceAnswer::At(begin) => MomentAnswer::Moment(radial::head_at(body, begin)),
     }
 }
 

@@ -1,30 +1,22 @@
-use mathlib.Core.Path.{_≡_, refl, sym, ap, _∙_}
+use mathlib.Core.Path.{_≡_, sym, ap, _∙_}
 use denote.Ref.{now}
 use Rattle.wire.specs.Answers.{given}
 use Rattle.description.specs.Lookups.{momentOf}
-use Rattle.lookup.specs.Told.{tellPlace}
-use Rattle.lookup.specs.Steps.{placeShown}
-use Rattle.lookup.proofs.FindLaws.{asked-for}
+use Rattle.lookup.specs.Told.{tellPlace, placeShown}
 use Rattle.c_radials.proofs.RadialLaws.{gates-given, gates-inside, gates-refused}
 use borrow.Author.Needs.{needs}
 use Rattle.c_radials.proofs.gates.Statement.{statement}
 use Rattle.c_radials.proofs.gates.Tie as tie
 
 -- where the moment begins
-found : (c : tie.After-asked) → tellPlace (c .asked .result) ≡ placeShown (momentOf (now (c .before .before .before .before .args .body)) (c .before .before .before .before .args .name))
-found c = asked-for (now (c .before .before .before .before .args .body)) (c .before .before .before .before .args .name) _ _ _ _ (c .asked .ensures) (c .before .before .check-radial .ensures) (c .before .moment-place .ensures) refl
+found : (c : tie.After-place) → tellPlace (c .place .result) ≡ placeShown (momentOf (now (c .before .before .args .body)) (c .before .before .args .name))
+found c = c .place .ensures
 
-placed : (c : tie.After-known-told) → given (c .before .place .given .0 .0) ≡ placeShown (momentOf (now (c .before .before .before .before .before .before .before .args .body)) (c .before .before .before .before .before .before .before .args .name))
-placed c = ap tellPlace (sym (c .before .place .given .1)) ∙ found (c .before .before .before)
+placed : (c : tie.After-known-told) → given (c .before .place2 .given .0 .0) ≡ placeShown (momentOf (now (c .before .before .before .before .before .args .body)) (c .before .before .before .before .before .args .name))
+placed c = ap tellPlace (sym (c .before .place2 .given .1)) ∙ found (c .before .before .before)
 
-check-radial-requires : tie.Need-check-radial-requires
-check-radial-requires c κs = search needs
-
-moment-place-requires : tie.Need-moment-place-requires
-moment-place-requires c κs = search needs
-
-asked-requires : tie.Need-asked-requires
-asked-requires c κs = search needs
+place-requires : tie.Need-place-requires
+place-requires c κs = search needs
 
 enum-known-place : tie.Need-enum-known-place
 enum-known-place c = search needs
@@ -33,7 +25,7 @@ cast-gates-at : tie.Need-cast-gates-at
 cast-gates-at c = search needs
 
 gates-at-requires : tie.Need-gates-at-requires
-gates-at-requires c κs = (gates-inside (now (c .before .before .before .before .before .before .before .args .body)) (c .before .before .before .before .before .before .before .args .name) _ (λ i. (c .before .before .before .before .before .before .shared-slice-known .given i) .fits) (placed c), search needs)
+gates-at-requires c κs = (gates-inside (now (c .before .before .before .before .before .args .body)) (c .before .before .before .before .before .args .name) _ (λ i. (c .before .before .before .before .shared-slice-known .given i) .fits) (placed c), search needs)
 
 enum-known-number : tie.Need-enum-known-number
 enum-known-number c = search needs
@@ -42,18 +34,16 @@ no-gates-requires : tie.Need-no-gates-requires
 no-gates-requires c κs = search needs
 
 returns : tie.Need-returns
-returns c = gates-given (now (c .before .before .before .before .before .before .before .before .args .body)) (c .before .before .before .before .before .before .before .before .args .name) _ _ (λ i. (c .before .before .before .before .before .before .before .shared-slice-known .given i) .fits) (placed (c .before)) (c .gates-at .ensures)
+returns c = gates-given (now (c .before .before .before .before .before .before .args .body)) (c .before .before .before .before .before .before .args .name) _ _ (λ i. (c .before .before .before .before .before .shared-slice-known .given i) .fits) (placed (c .before)) (c .gates-at .ensures)
 
 returns-2 : tie.Need-returns-2
-returns-2 c = c .no-gates .ensures ∙ gates-refused (now (c .before .before .before .before .before .before .before .before .args .body)) (c .before .before .before .before .before .before .before .before .args .name) _ (ap tellPlace (sym (c .before .before .number .given .1)) ∙ found (c .before .before .before .before))
+returns-2 c = c .no-gates .ensures ∙ gates-refused (now (c .before .before .before .before .before .before .args .body)) (c .before .before .before .before .before .before .args .name) _ (ap tellPlace (sym (c .before .before .number .given .1)) ∙ found (c .before .before .before .before))
 
 pub gates-spec : {M : Type 1} → statement M
 gates-spec =
     tie.close
     (tie.spec
-    check-radial-requires
-    moment-place-requires
-    asked-requires
+    place-requires
     enum-known-place
     cast-gates-at
     gates-at-requires

@@ -1,3 +1,4 @@
+use Prim.Native.Nat.{ℕ}
 use native.Mathlib.Omega.{arith}
 use mathlib.Core.Path.{_≡_, sym, ap, _∙_}
 use lib.ListN.{length}
@@ -5,9 +6,7 @@ use denote.Ref.{now}
 use Rattle.wire.specs.Numbers.{num}
 use Rattle.wire.proofs.NumberLaws.{fetched-whole}
 use Rattle.description.specs.Lookups.{momentOf}
-use Rattle.lookup.specs.Told.{tellPlace}
-use Rattle.lookup.specs.Steps.{placeShown}
-use Rattle.lookup.proofs.FindLaws.{asked-for}
+use Rattle.lookup.specs.Told.{tellPlace, placeShown}
 use Rattle.gate.proofs.GateLaws.{code-refused, moment-there, code-given}
 use borrow.Author.Needs.{needs}
 use Rattle.gate.proofs.code_of.Statement.{statement}
@@ -20,8 +19,8 @@ four c = search needs
 wanted : (c : tie.After-fetch32) → c .fetch32 .result ≡ num 4 (c .before .before .before .args .t2) 0
 wanted c = let wide = four (c .before) in c .fetch32 .ensures ∙ fetched-whole 4 (c .before .before .before .args .t2) 0 (omega arith)
 
-found : (c : tie.After-asked) → tellPlace (c .asked .result) ≡ placeShown (momentOf (now (c .before .before .before .before .before .before .args .body)) (num 4 (c .before .before .before .before .before .before .args .t2) 0))
-found c = asked-for (now (c .before .before .before .before .before .before .args .body)) _ _ _ _ _ (c .asked .ensures) (c .before .before .check-radial .ensures) (c .before .moment-place .ensures) (wanted (c .before .before .before))
+found : (c : tie.After-place) → tellPlace (c .place .result) ≡ placeShown (momentOf (now (c .before .before .before .before .args .body)) (num 4 (c .before .before .before .before .args .t2) 0))
+found c = c .place .ensures ∙ ap (λ (n : ℕ). placeShown (momentOf (now (c .before .before .before .before .args .body)) n)) (wanted (c .before))
 
 slice-aggregate-fetch32 : tie.Need-slice-aggregate-fetch32
 slice-aggregate-fetch32 c = search needs
@@ -29,14 +28,8 @@ slice-aggregate-fetch32 c = search needs
 fetch32-requires : tie.Need-fetch32-requires
 fetch32-requires c κs = search needs
 
-check-radial-requires : tie.Need-check-radial-requires
-check-radial-requires c κs = search needs
-
-moment-place-requires : tie.Need-moment-place-requires
-moment-place-requires c κs = search needs
-
-asked-requires : tie.Need-asked-requires
-asked-requires c κs = search needs
+place-requires : tie.Need-place-requires
+place-requires c κs = search needs
 
 enum-known-number : tie.Need-enum-known-number
 enum-known-number c = search needs
@@ -51,13 +44,13 @@ cast-coded-at : tie.Need-cast-coded-at
 cast-coded-at c = search needs
 
 coded-at-requires : tie.Need-coded-at-requires
-coded-at-requires c κs = moment-there (now (c .before .before .before .before .before .before .before .before .before .args .body)) (num 4 (c .before .before .before .before .before .before .before .before .before .args .t2) 0) _ (λ i. (c .before .before .before .before .before .before .before .before .shared-slice-known .given i) .fits) (search needs) (ap tellPlace (sym (c .before .place .given .1)) ∙ found (c .before .before .before))
+coded-at-requires c κs = moment-there (now (c .before .before .before .before .before .before .before .args .body)) (num 4 (c .before .before .before .before .before .before .before .args .t2) 0) _ (λ i. (c .before .before .before .before .before .before .shared-slice-known .given i) .fits) (search needs) (ap tellPlace (sym (c .before .place2 .given .1)) ∙ found (c .before .before .before))
 
 returns : tie.Need-returns
-returns c = c .no-code .ensures ∙ code-refused (now (c .before .before .before .before .before .before .before .before .before .before .args .body)) (num 4 (c .before .before .before .before .before .before .before .before .before .before .args .t2) 0) _ (c .before .before .before .before .before .before .before .before .before .before .args .gate) (ap tellPlace (sym (c .before .before .number .given .1)) ∙ found (c .before .before .before .before))
+returns c = c .no-code .ensures ∙ code-refused (now (c .before .before .before .before .before .before .before .before .args .body)) (num 4 (c .before .before .before .before .before .before .before .before .args .t2) 0) _ (c .before .before .before .before .before .before .before .before .args .gate) (ap tellPlace (sym (c .before .before .number .given .1)) ∙ found (c .before .before .before .before))
 
 returns-2 : tie.Need-returns-2
-returns-2 c = c .coded-at .ensures ∙ code-given (now (c .before .before .before .before .before .before .before .before .before .before .args .body)) (num 4 (c .before .before .before .before .before .before .before .before .before .before .args .t2) 0) _ (c .before .before .before .before .before .before .before .before .before .before .args .gate) (λ i. (c .before .before .before .before .before .before .before .before .before .shared-slice-known .given i) .fits) (ap tellPlace (sym (c .before .before .place .given .1)) ∙ found (c .before .before .before .before))
+returns-2 c = c .coded-at .ensures ∙ code-given (now (c .before .before .before .before .before .before .before .before .args .body)) (num 4 (c .before .before .before .before .before .before .before .before .args .t2) 0) _ (c .before .before .before .before .before .before .before .before .args .gate) (λ i. (c .before .before .before .before .before .before .before .shared-slice-known .given i) .fits) (ap tellPlace (sym (c .before .before .place2 .given .1)) ∙ found (c .before .before .before .before))
 
 pub code-of-spec : {M : Type 1} → statement M
 code-of-spec =
@@ -65,9 +58,7 @@ code-of-spec =
     (tie.spec
     slice-aggregate-fetch32
     fetch32-requires
-    check-radial-requires
-    moment-place-requires
-    asked-requires
+    place-requires
     enum-known-number
     no-code-requires
     enum-known-place

@@ -7,9 +7,7 @@ use Rattle.wire.specs.Numbers.{num}
 use Rattle.wire.specs.Answers.{given}
 use Rattle.wire.proofs.NumberLaws.{fetched-whole}
 use Rattle.description.specs.Lookups.{momentOf}
-use Rattle.lookup.specs.Told.{tellPlace}
-use Rattle.lookup.specs.Steps.{placeShown}
-use Rattle.lookup.proofs.FindLaws.{asked-for}
+use Rattle.lookup.specs.Told.{tellPlace, placeShown}
 use Rattle.lookup.proofs.LookupLaws.{head-found, head-refused}
 use borrow.Author.Needs.{needs}
 use Rattle.lookup.proofs.moment.Statement.{statement}
@@ -22,8 +20,8 @@ four c = search needs
 wanted : (c : tie.After-fetch32) → c .fetch32 .result ≡ num 4 (c .before .before .before .args .t2) 0
 wanted c = let wide = four (c .before) in c .fetch32 .ensures ∙ fetched-whole 4 (c .before .before .before .args .t2) 0 (omega arith)
 
-found : (c : tie.After-asked) → tellPlace (c .asked .result) ≡ placeShown (momentOf (now (c .before .before .before .before .before .before .args .body)) (num 4 (c .before .before .before .before .before .before .args .t2) 0))
-found c = asked-for (now (c .before .before .before .before .before .before .args .body)) _ _ _ _ _ (c .asked .ensures) (c .before .before .check-radial .ensures) (c .before .moment-place .ensures) (wanted (c .before .before .before))
+found : (c : tie.After-place) → tellPlace (c .place .result) ≡ placeShown (momentOf (now (c .before .before .before .before .args .body)) (num 4 (c .before .before .before .before .args .t2) 0))
+found c = c .place .ensures ∙ ap (λ (n : ℕ). placeShown (momentOf (now (c .before .before .before .before .args .body)) n)) (wanted (c .before))
 
 slice-aggregate-fetch32 : tie.Need-slice-aggregate-fetch32
 slice-aggregate-fetch32 c = search needs
@@ -31,29 +29,23 @@ slice-aggregate-fetch32 c = search needs
 fetch32-requires : tie.Need-fetch32-requires
 fetch32-requires c κs = search needs
 
-check-radial-requires : tie.Need-check-radial-requires
-check-radial-requires c κs = search needs
-
-moment-place-requires : tie.Need-moment-place-requires
-moment-place-requires c κs = search needs
-
-asked-requires : tie.Need-asked-requires
-asked-requires c κs = search needs
+place-requires : tie.Need-place-requires
+place-requires c κs = search needs
 
 enum-known-number : tie.Need-enum-known-number
 enum-known-number c = search needs
 
-enum-known-place : tie.Need-enum-known-place
-enum-known-place c = search needs
+enum-known-begin : tie.Need-enum-known-begin
+enum-known-begin c = search needs
 
 head-at-requires : tie.Need-head-at-requires
 head-at-requires c κs = search needs
 
 returns : tie.Need-returns
-returns c = head-refused (now (c .before .before .before .before .before .before .before .before .before .args .body)) (num 4 (c .before .before .before .before .before .before .before .before .before .args .t2) 0) _ (ap tellPlace (sym (c .before .number .given .1)) ∙ found (c .before .before .before))
+returns c = head-refused (now (c .before .before .before .before .before .before .before .args .body)) (num 4 (c .before .before .before .before .before .before .before .args .t2) 0) _ (ap tellPlace (sym (c .before .number .given .1)) ∙ found (c .before .before .before))
 
 returns-2 : tie.Need-returns-2
-returns-2 c = ap given (c .head-at .ensures) ∙ head-found (now (c .before .before .before .before .before .before .before .before .before .before .args .body)) (num 4 (c .before .before .before .before .before .before .before .before .before .before .args .t2) 0) _ (λ i. (c .before .before .before .before .before .before .before .before .before .shared-slice-known .given i) .fits) (ap tellPlace (sym (c .before .before .place .given .1)) ∙ found (c .before .before .before .before))
+returns-2 c = ap given (c .head-at .ensures) ∙ head-found (now (c .before .before .before .before .before .before .before .before .args .body)) (num 4 (c .before .before .before .before .before .before .before .before .args .t2) 0) _ (λ i. (c .before .before .before .before .before .before .before .shared-slice-known .given i) .fits) (ap tellPlace (sym (c .before .before .begin .given .1)) ∙ found (c .before .before .before .before))
 
 pub moment-spec : {M : Type 1} → statement M
 moment-spec =
@@ -61,11 +53,9 @@ moment-spec =
     (tie.spec
     slice-aggregate-fetch32
     fetch32-requires
-    check-radial-requires
-    moment-place-requires
-    asked-requires
+    place-requires
     enum-known-number
-    enum-known-place
+    enum-known-begin
     head-at-requires
     returns
     returns-2)
