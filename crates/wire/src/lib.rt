@@ -90,6 +90,7 @@ pub fn fetch32(b: &[u8], at: u32) -> u32
     0
 }
 
+// How many bytes are moved at once: half of a segment's data, so that a full segment leaves no rest.
 const BLOCK: usize = 1200;
 
 // One part onto another of the same length. Parts of different lengths are left alone.
