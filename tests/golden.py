@@ -1,7 +1,7 @@
-"""What the program must write for the sample, computed apart from the library: python3 tests/golden.py
+"""What the program and the loader must write for the sample, computed apart from the library: python3 tests/golden.py
 
-It writes the files of tests/golden/ from examples/sample.rec and examples/sample.map, by offsets of the interface document
-and with nothing checked: the sample is sound.
+It writes the files of tests/golden/ and examples/sample.totals from examples/sample.rec and examples/sample.map, by offsets
+of the interface document and with nothing checked: the sample is sound.
 """
 import datetime
 import decimal
@@ -108,6 +108,21 @@ def picture(recording, wanted):
     return head + b"".join(struct.pack(f">{width}{'H' if wide else 'B'}", *row) for row in rows)
 
 
+def totals_lines(recording, wanted):
+    """What the loader adds up of a moment that every radial has."""
+    count, every, values = 0, [], 0.0
+    for _, message in frames(recording):
+        *_, scale, offset, codes = next(m for m in moments(message[16:]) if m[0].strip() == wanted)
+        count += 1
+        every += codes
+        for code in codes:
+            if code > 1:
+                values += single(single(code - offset) / scale)
+    yield f"{wanted}: {count} frames, {count} radials, 0 without, 0 refused\n"
+    yield f"{wanted}: {len(every)} gates, {every.count(0)} below threshold, {every.count(1)} range folded\n"
+    yield f"{wanted}: codes sum to {sum(every)}, values to {values:.6f}\n"
+
+
 def map_line(body, elevation, azimuth, kilometre):
     """The code of a kilometre: the first zone that ends there or later."""
     at = 6
@@ -118,9 +133,9 @@ def map_line(body, elevation, azimuth, kilometre):
     return f"code {code}, {MAP_CODES[code]}\n"
 
 
-def write(name, content):
+def write(name, content, folder=HERE / "golden"):
     content = content if isinstance(content, bytes) else "".join(content).encode()
-    (HERE / "golden" / name).write_bytes(content)
+    (folder / name).write_bytes(content)
 
 
 if __name__ == "__main__":
@@ -132,3 +147,5 @@ if __name__ == "__main__":
         write(f"gates-{moment}", gate_lines(first_body, moment))
         write(f"picture-{moment}.pgm", picture(recorded, moment))
     write("map", map_line((EXAMPLES / "sample.map").read_bytes(), 2, 100, 250))
+    every_moment = ("REF", "VEL", "SW", "ZDR", "PHI", "RHO")
+    write("sample.totals", (line for m in every_moment for line in totals_lines(recorded, m)), EXAMPLES)
