@@ -157,12 +157,17 @@ fn opened(asks: bool, name: &[u8], sheet: &mut [u8; SHEET]) -> Sink {
     if !asks {
         return sink::opened(asks, 0);
     }
+    let at = titled(name, sheet);
+    sink::opened(asks, page::byte(sheet, at, b' '))
+}
+
+// A name at the start of the page, or written out at once where it would fill the page.
+fn titled(name: &[u8], sheet: &mut [u8; SHEET]) -> usize {
     if name.len() < PAGE / 2 {
-        let at = page::text(sheet, 0, name);
-        return sink::opened(asks, page::byte(sheet, at, b' '));
+        return page::text(sheet, 0, name);
     }
     io::write_all(libc::STDOUT_FILENO, name);
-    sink::opened(asks, page::byte(sheet, 0, b' '))
+    0
 }
 
 fn closed(name: &[u8], s: Sink, expected: &[u8], sheet: &mut [u8; SHEET]) {
@@ -185,12 +190,7 @@ fn closed(name: &[u8], s: Sink, expected: &[u8], sheet: &mut [u8; SHEET]) {
 // A line of output: a name and what is said of it.
 fn verdict(name: &[u8], which: usize, sheet: &mut [u8; SHEET]) {
     let says = b" same\n; differs\n; malformed\n";
-    let mut at = 0;
-    if PAGE / 2 < name.len() {
-        io::write_all(libc::STDOUT_FILENO, name);
-    } else {
-        at = page::text(sheet, 0, name);
-    }
+    let mut at = titled(name, sheet);
     at = page::text(sheet, at, words::pick(says, which));
     page::send(libc::STDOUT_FILENO, sheet, at);
 }

@@ -116,7 +116,7 @@ fn value(sheet: &mut [u8; SHEET], at: usize, answer: GateAnswer) -> usize {
     let next = match answer {
         GateAnswer::BelowThreshold => page::text(sheet, at, b"below threshold"),
         GateAnswer::RangeFolded => page::text(sheet, at, b"range folded"),
-        GateAnswer::Value(x) => real::shown(sheet, at, real::bits_of(x), true),
+        GateAnswer::Value(x) => real::shown(sheet, at, real::bits_of(x)),
         GateAnswer::Refused(_) => at,
     };
     page::byte(sheet, next, b'\n')

@@ -11,9 +11,12 @@ use crate::recording::Carried;
 use crate::recording::DATA;
 use crate::why;
 use crate::words;
-use lookup::BlockAnswer;
 use message::Header;
 use message::HeaderAnswer;
+use radial::CONSTANTS;
+use radial::MomentHead;
+use radial::ROOM;
+use radial::Radial;
 
 // The beginning of a line: a place of the recording, and words with a number among them.
 fn begun(sheet: &mut [u8; SHEET], at: usize, place: u64, words: &[u8], n: u64) -> usize {
@@ -103,7 +106,7 @@ fn radial_line(sheet: &mut [u8; SHEET], at: usize, place: u64, whole: &[u8]) -> 
     let mut next = begun(sheet, at, place, b"", 0);
     next = values(sheet, next, h);
     next = status(sheet, next, h.status);
-    moments(sheet, next, body, answer.count)
+    moments(sheet, next, answer)
 }
 
 fn values(sheet: &mut [u8; SHEET], at: usize, h: radial::Header) -> usize {
@@ -146,29 +149,28 @@ fn status_place(n: u8) -> usize {
     }
 }
 
-fn moments(sheet: &mut [u8; SHEET], at: usize, body: &[u8], count: u16) -> usize {
+fn moments(sheet: &mut [u8; SHEET], at: usize, answer: Radial) -> usize {
     let mut next = at;
-    let mut k = 3;
-    while k < count {
-        k += 1;
-        next = moment(sheet, next, lookup::block(body, k as u32));
+    let mut i = 0;
+    while i < ROOM {
+        if answer.count as usize <= CONSTANTS as usize + i {
+            return page::byte(sheet, next, b'\n');
+        }
+        let m = answer.moments[i];
+        next = moment(sheet, next, m);
+        i += 1;
     }
     page::byte(sheet, next, b'\n')
 }
 
-fn moment(sheet: &mut [u8; SHEET], at: usize, answer: BlockAnswer) -> usize {
-    match answer {
-        BlockAnswer::Moment(l, m) => {
-            let name = wide32(l.name);
-            let values = [
-                name / 65536,
-                name / 256,
-                name,
-                wide16(m.gates),
-                wide8(m.word),
-            ];
-            page::filled(sheet, at, b"  $$$ # x #", &values)
-        }
-        _ => at,
-    }
+fn moment(sheet: &mut [u8; SHEET], at: usize, m: MomentHead) -> usize {
+    let name = wide32(m.name);
+    let values = [
+        name / 65536,
+        name / 256,
+        name,
+        wide16(m.gates),
+        wide8(m.word),
+    ];
+    page::filled(sheet, at, b"  $$$ # x #", &values)
 }

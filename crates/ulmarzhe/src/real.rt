@@ -3,6 +3,8 @@ use crate::page;
 use crate::page::SHEET;
 use crate::part::sum;
 use crate::words;
+use wire::INFINITE;
+use wire::SIGN;
 
 const LIMB: u64 = 1000000000000000000;
 
@@ -20,19 +22,16 @@ struct Text {
     values: [u64; 5],
 }
 
-const FOUR: usize = 3;
+const NEGATIVE: usize = 3;
 
-const NEGATIVE: usize = 6;
+const NO_NUMBER: usize = 6;
 
-const NO_NUMBER: usize = 12;
+const ENDLESS: usize = 7;
 
-const INFINITE: usize = 13;
-
-// With four decimals, or with two.
-pub fn shown(sheet: &mut [u8; SHEET], at: usize, bits: u32, four: bool) -> usize {
-    let list =
-        b"#.@;#^.@;#^^.@;#.@@;#^.@@;#^^.@@;-#.@;-#^.@;-#^^.@;-#.@@;-#^.@@;-#^^.@@;no number;infinite;-infinite";
-    let t = text_of(bits, four);
+// With four decimals.
+pub fn shown(sheet: &mut [u8; SHEET], at: usize, bits: u32) -> usize {
+    let list = b"#.@@;#^.@@;#^^.@@;-#.@@;-#^.@@;-#^^.@@;no number;infinite;-infinite";
+    let t = text_of(bits);
     let values = t.values;
     page::filled(sheet, at, words::pick(list, t.which), &values)
 }
@@ -47,7 +46,7 @@ pub struct Angle {
 }
 
 pub fn angle_of(bits: u32) -> Angle {
-    let sized = bits % 2147483648;
+    let sized = bits % SIGN;
     let p = taken(sized, false);
     Angle {
         plain: sized < 1560281088,
@@ -57,21 +56,16 @@ pub fn angle_of(bits: u32) -> Angle {
     }
 }
 
-fn text_of(bits: u32, four: bool) -> Text {
-    let sized = bits % 2147483648;
+fn text_of(bits: u32) -> Text {
+    let sized = bits % SIGN;
     let negative = sized < bits;
-    if 2139095040 < sized {
+    if INFINITE < sized {
         return bare(NO_NUMBER);
     }
-    if sized == 2139095040 {
-        return bare(if negative { INFINITE + 1 } else { INFINITE });
+    if sized == INFINITE {
+        return bare(if negative { ENDLESS + 1 } else { ENDLESS });
     }
-    let p = taken(sized, four);
-    let first = if negative { NEGATIVE } else { 0 };
-    if four {
-        return limbs(p, p.decimals / 100, p.decimals % 100, sum(first, FOUR));
-    }
-    limbs(p, p.decimals, 0, first)
+    limbs(taken(sized, true), if negative { NEGATIVE } else { 0 })
 }
 
 fn bare(which: usize) -> Text {
@@ -81,8 +75,10 @@ fn bare(which: usize) -> Text {
     }
 }
 
-// As many limbs as are not 0, and the decimals.
-fn limbs(p: Parts, tens: u64, rest: u64, first: usize) -> Text {
+// As many limbs as are not 0, and the four decimals, two by two.
+fn limbs(p: Parts, first: usize) -> Text {
+    let tens = p.decimals / 100;
+    let rest = p.decimals % 100;
     if 0 < p.high {
         return Text {
             which: sum(first, 2),

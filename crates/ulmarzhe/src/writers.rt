@@ -11,6 +11,7 @@ use crate::told;
 use crate::told::Told;
 use lookup::MomentAnswer;
 use sets::SetAnswer;
+use wire::WriteAnswer;
 use writer::Given;
 
 const LIST: usize = 425984;
@@ -24,15 +25,37 @@ pub fn written(entry: usize, n: [u64; 6], body: &[u8], sheet: &mut [u8; SHEET]) 
     };
     let end = sum(PAGE, room);
     lay(sheet, end);
-    let t = match entry {
-        entries::SET => of_set(body, sheet, end),
-        entries::WRITE => of_write(given(n), body, sheet, end),
-        _ => of_list(entry, body, sheet, end),
-    };
+    let t = lent(entry, n, body, sheet, end);
     if kept(sheet, t.length, end) {
         return t;
     }
     touched()
+}
+
+// The library is lent the room up to `end`.
+fn lent(entry: usize, n: [u64; 6], body: &[u8], sheet: &mut [u8], end: usize) -> Told {
+    if sheet.len() < end {
+        return touched();
+    }
+    if end < PAGE {
+        return touched();
+    }
+    by_entry(entry, n, body, &mut sheet[PAGE..end])
+}
+
+fn by_entry(entry: usize, n: [u64; 6], body: &[u8], room: &mut [u8]) -> Told {
+    match entry {
+        entries::SET => of_set(body, room),
+        entries::WRITE => wrote(writer::write_message(given(n), body, room)),
+        _ => of_list(entry, body, room),
+    }
+}
+
+fn wrote(answer: WriteAnswer) -> Told {
+    match answer {
+        WriteAnswer::Refused(n) => told::refused(n),
+        WriteAnswer::Written(size) => told::followed(told::WROTE, 0, size.0 as usize),
+    }
 }
 
 fn room_of(room: u64) -> usize {
@@ -76,29 +99,10 @@ fn kept(sheet: &[u8; SHEET], length: usize, end: usize) -> bool {
     true
 }
 
-fn of_set(frames: &[u8], sheet: &mut [u8], end: usize) -> Told {
-    if sheet.len() < end {
-        return touched();
-    }
-    if end < PAGE {
-        return touched();
-    }
-    match sets::read_set(frames, &mut sheet[PAGE..end]) {
+fn of_set(frames: &[u8], room: &mut [u8]) -> Told {
+    match sets::read_set(frames, room) {
         SetAnswer::Refused(n) => told::refused(n),
         SetAnswer::Set(h, size) => readers::header_told(told::SET, h, size.0 as usize),
-    }
-}
-
-fn of_write(given: Given, body: &[u8], sheet: &mut [u8], end: usize) -> Told {
-    if sheet.len() < end {
-        return touched();
-    }
-    if end < PAGE {
-        return touched();
-    }
-    match writer::write_message(given, body, &mut sheet[PAGE..end]) {
-        wire::WriteAnswer::Refused(n) => told::refused(n),
-        wire::WriteAnswer::Written(size) => told::followed(told::WROTE, 0, size.0 as usize),
     }
 }
 
@@ -113,24 +117,18 @@ fn given(n: [u64; 6]) -> Given {
 }
 
 // The writers of messages 9 and 8.
-fn of_list(entry: usize, body: &[u8], sheet: &mut [u8; SHEET], end: usize) -> Told {
+fn of_list(entry: usize, body: &[u8], room: &mut [u8]) -> Told {
     let mut list = [0u16; LIST];
     let count = listed(body, &mut list);
-    by_list(entry, &list, count, sheet, end)
+    by_list(entry, &list, count, room)
 }
 
-fn by_list(
-    entry: usize,
-    list: &[u16; LIST],
-    count: usize,
-    sheet: &mut [u8; SHEET],
-    end: usize,
-) -> Told {
+fn by_list(entry: usize, list: &[u16; LIST], count: usize, room: &mut [u8]) -> Told {
     let numbers = first(list, count);
     if entry == entries::WRITE_REQUEST {
-        return of_request(numbers, sheet, end);
+        return wrote(request::write_request(numbers, room));
     }
-    of_censor_list(numbers, sheet, end)
+    wrote(clutter::write_censor(numbers, room))
 }
 
 fn first(list: &[u16], count: usize) -> &[u16] {
@@ -152,32 +150,6 @@ fn listed(bytes: &[u8], list: &mut [u16; LIST]) -> usize {
         n += 1;
     }
     n
-}
-
-fn of_request(list: &[u16], sheet: &mut [u8], end: usize) -> Told {
-    if sheet.len() < end {
-        return touched();
-    }
-    if end < PAGE {
-        return touched();
-    }
-    match request::write_request(list, &mut sheet[PAGE..end]) {
-        wire::WriteAnswer::Refused(n) => told::refused(n),
-        wire::WriteAnswer::Written(size) => told::followed(told::WROTE, 0, size.0 as usize),
-    }
-}
-
-fn of_censor_list(list: &[u16], sheet: &mut [u8], end: usize) -> Told {
-    if sheet.len() < end {
-        return touched();
-    }
-    if end < PAGE {
-        return touched();
-    }
-    match clutter::write_censor(list, &mut sheet[PAGE..end]) {
-        wire::WriteAnswer::Refused(n) => told::refused(n),
-        wire::WriteAnswer::Written(size) => told::followed(told::WROTE, 0, size.0 as usize),
-    }
 }
 
 // The regions of message 8, all places, put into the room.

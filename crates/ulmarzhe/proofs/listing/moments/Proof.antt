@@ -1,28 +1,43 @@
-use Prim.Native.Nat.{_-_}
+use Prim.Native.Nat.{_-_, _≤_}
 use borrow.Author.Needs.{needs}
 use Rattle.ulmarzhe.proofs.listing.moments.Statement.{statement}
 use Rattle.ulmarzhe.proofs.listing.moments.Tie as tie
 
 abbrev Inv-loop : tie.InvT-loop
-Inv-loop sheet₀ at body count next₀ k₀ sheet next k = Unit {0}
+Inv-loop sheet₀ at answer next₀ i₀ sheet next i = i ≤ 6
 
 abbrev μ-loop : tie.MeasureT-loop
-μ-loop sheet₀ at body count next₀ k₀ sheet next k = count - k
+μ-loop sheet₀ at answer next₀ i₀ sheet next i = 6 - i
 
 loop-holds : tie.Need-loop-holds Inv-loop μ-loop
 loop-holds c = search needs
 
-add-k : tie.Need-add-k Inv-loop μ-loop
-add-k c = search needs
+cast-if1 : tie.Need-cast-if1 Inv-loop μ-loop
+cast-if1 c = search needs
 
-cast-block : tie.Need-cast-block Inv-loop μ-loop
-cast-block c = search needs
+cast-if1-2 : tie.Need-cast-if1-2 Inv-loop μ-loop
+cast-if1-2 c = search needs
 
-block-requires : tie.Need-block-requires Inv-loop μ-loop
-block-requires c κs = search needs
+add-if1 : tie.Need-add-if1 Inv-loop μ-loop
+add-if1 c = search needs
+
+byte-requires : tie.Need-byte-requires Inv-loop μ-loop
+byte-requires c κs = search needs
+
+returns : tie.Need-returns Inv-loop μ-loop
+returns c = search needs
+
+mul-m : tie.Need-mul-m Inv-loop μ-loop
+mul-m c = search needs
+
+element-copy-out-m : tie.Need-element-copy-out-m Inv-loop μ-loop
+element-copy-out-m c = search needs
 
 moment-requires : tie.Need-moment-requires Inv-loop μ-loop
 moment-requires c κs = search needs
+
+add-i : tie.Need-add-i Inv-loop μ-loop
+add-i c = search needs
 
 loop-less : tie.Need-loop-less Inv-loop μ-loop
 loop-less c = search needs
@@ -30,11 +45,11 @@ loop-less c = search needs
 loop-again : tie.Need-loop-again Inv-loop μ-loop
 loop-again c = search needs
 
-byte-requires : tie.Need-byte-requires Inv-loop μ-loop
-byte-requires c κs = search needs
+byte-requires-2 : tie.Need-byte-requires-2 Inv-loop μ-loop
+byte-requires-2 c κs = search needs
 
-returns : tie.Need-returns Inv-loop μ-loop
-returns c = search needs
+returns-2 : tie.Need-returns-2 Inv-loop μ-loop
+returns-2 c = search needs
 
 pub moments-spec : {M : Type 1} → statement M
 moments-spec =
@@ -43,11 +58,16 @@ moments-spec =
     Inv-loop
     μ-loop
     loop-holds
-    add-k
-    cast-block
-    block-requires
+    cast-if1
+    cast-if1-2
+    add-if1
+    byte-requires
+    returns
+    mul-m
+    element-copy-out-m
     moment-requires
+    add-i
     loop-less
     loop-again
-    byte-requires
-    returns)
+    byte-requires-2
+    returns-2)
