@@ -6,13 +6,13 @@ use mathlib.Core.Bool.{Bool, true, false}
 use mathlib.Core.Logic.{inl, inr}
 use mathlib.Core.List.{List, [], _∷_, _++_, map}
 use lib.Dec.{eqb}
-use lib.ListN.{length, getD, take, drop, length-take, length-drop}
-use lib.Seq.{ext-getD, getD-take, getD-drop}
+use lib.ListN.{length, getD, drop}
 use Rattle.wire.specs.Numbers.{num, Octets}
 use Rattle.wire.specs.Checks.{pick}
 use Rattle.wire.specs.Tables.{field, render, Spells}
 use Rattle.wire.specs.Answers.{Answer, refused, given}
 use Rattle.wire.proofs.CheckLaws.{never}
+use Rattle.wire.proofs.ListLaws.{same-bytes}
 use Rattle.wire.proofs.TableLaws.{render-length, spelt, nums-spell, total-run}
 use Rattle.wire.proofs.AnswerLaws.{rule-given}
 use Rattle.wire.proofs.NumberLaws.{nums-length, nums-at}
@@ -64,14 +64,6 @@ pub named-exactly : NamedExactly
 named-exactly d i = (λ h. named-listed d i h, λ h. listed-named d i h)
 
 -- ---- bodies that are equal at every named byte
-same-bytes : (b b′ : List ℕ) (p n : ℕ) → length b′ ≡ length b → ((i : ℕ) → p ≤ i → i < p + n → getD b′ i 0 ≡ getD b i 0)
-    → take n (drop p b′) ≡ take n (drop p b)
-same-bytes b b′ p n e f =
-    ext-getD 0 (take n (drop p b′)) (take n (drop p b)) (simp (length-take, length-drop, e))
-    (λ i h.
-    let k : i < n = omega (arith, length-take n (drop p b′)) in
-    rw (getD-take n (drop p b′) i 0 k, getD-take n (drop p b) i 0 k, getD-drop p b′ i 0, getD-drop p b i 0) (f (p + i) (omega arith) (omega arith)))
-
 stand-same : (b b′ : List ℕ) (xs : List Piece) → length b′ ≡ length b → ((i : ℕ) → InPieces xs i → getD b′ i 0 ≡ getD b i 0) → AllStand b xs
     → AllStand b′ xs
 stand-same b b′ [] e f s = tt

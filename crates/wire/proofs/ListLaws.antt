@@ -1,15 +1,30 @@
 -- Laws of lists that the toolchain's library lacks. Assumes nothing.
-use Prim.Native.Nat.{ℕ, zero, suc, _+_, _-_, _≤_}
+use Prim.Native.Nat.{ℕ, zero, suc, _+_, _-_, _≤_, _<_}
 use mathlib.Core.Path.{_≡_, refl, sym, ap, _∙_}
 use mathlib.Core.List.{List, [], _∷_, _++_}
 use native.Mathlib.Omega.{arith}
 use native.Mathlib.Numerals.{add-one}
-use lib.ListN.{length, take, drop, set, length-drop}
-use lib.Seq.{take-all}
+use lib.ListN.{length, getD, take, drop, set, length-take, length-drop}
+use lib.Seq.{take-all, ext-getD, getD-take, getD-drop}
 
 -- the part of a slice from a place on is what is left of its list
 pub part-is : (s : List ℕ) (p : ℕ) → take (length s - p) (drop p s) ≡ drop p s
 part-is s p = take-all (length s - p) (drop p s) (rw length-drop (omega arith))
+
+-- the n bytes from p on of two lists that are equal there
+pub same-bytes : (b b′ : List ℕ) (p n : ℕ) → length b′ ≡ length b → ((i : ℕ) → p ≤ i → i < p + n → getD b′ i 0 ≡ getD b i 0)
+    → take n (drop p b′) ≡ take n (drop p b)
+same-bytes b b′ p n e f =
+    ext-getD 0 (take n (drop p b′)) (take n (drop p b)) (simp (length-take, length-drop, e))
+    (λ i h.
+    let k : i < n = omega (arith, length-take n (drop p b′)) in
+    rw (getD-take n (drop p b′) i 0 k, getD-take n (drop p b) i 0 k, getD-drop p b′ i 0, getD-drop p b i 0) (f (p + i) (omega arith) (omega arith)))
+
+-- all bytes from p on
+pub same-rest : (b b′ : List ℕ) (p : ℕ) → length b′ ≡ length b → ((i : ℕ) → p ≤ i → getD b′ i 0 ≡ getD b i 0) → drop p b′ ≡ drop p b
+same-rest b b′ p e f =
+    ext-getD 0 (drop p b′) (drop p b) (simp (length-drop, e))
+    (λ i h. getD-drop p b′ i 0 ∙ f (p + i) (omega arith) ∙ sym (getD-drop p b i 0))
 
 -- two bytes stored, one after the other
 two-at : (at : ℕ) (out : List ℕ) (a b : ℕ) → at + 2 ≤ length out → set (set out at a) (suc at) b ≡ take at out ++ (a ∷ b ∷ drop (suc (suc at)) out)
