@@ -6,16 +6,18 @@ use mathlib.Core.List.{List, [], _∷_, _++_}
 use native.Mathlib.Omega.{arith}
 use lib.Dec.{ltb, leb, eqb}
 use lib.ListN.{length}
-use borrow.Author.Tests.{le-ltb, lt-ltb, lt-leb, eq-eqb, ne-eqb, eqb-true, eqb-false, ltb-false}
-use Rattle.wire.specs.Checks.{pick, either, Check, check, decide, someBroken, among}
+use borrow.Author.Tests.{le-ltb, lt-leb, eq-eqb, ne-eqb, eqb-true, ltb-false}
+use Rattle.wire.specs.Numbers.{num}
+use Rattle.wire.specs.Checks.{pick, Check, check, decide, someBroken, among}
 use Rattle.wire.specs.Answers.{refused, given}
 use Rattle.wire.specs.Tables.{render, Fit, Spells}
 use Rattle.wire.specs.declared.Halfwords.{Halfwords}
-use Rattle.wire.proofs.CheckLaws.{either-true, AllAbove0, decide-same, decide-number}
+use Rattle.wire.proofs.CheckLaws.{never, either-true, either-false, AllAbove0, decide-same, decide-number}
 use Rattle.wire.proofs.FiniteLaws.{below, same, same-is}
+use Rattle.wire.proofs.NumberLaws.{fetched-whole}
 use Rattle.wire.proofs.TableLaws.{reads-back}
 use Rattle.message.specs.declared.Header.{Header}
-use Rattle.message.specs.Header.{headerTable, headerSize, headerIn, headerOf, headerOr0, refusalOf, sizeChecks, notPermitted, segmentChecks, timeChecks, valueChecks, headerChecks, radialType}
+use Rattle.message.specs.Header.{headerTable, headerSize, storedIn, reportedNumber, withNumber, asReported, headerIn, headerOf, storedOr0, refusalOf, reportedFrom, sizeChecks, notPermitted, segmentChecks, timeChecks, valueChecks, headerChecks, radialType}
 
 -- the permitted types in the order in which they are told apart
 abbrev pub typeShape : ℕ → Bool
@@ -27,53 +29,58 @@ types-shape t h = same-is (notPermitted t) (typeShape t) (below (λ k. same (not
 pub type-last : (t : ℕ) → (t ≡ 31 → ⊥) → 13 < t → (t ≡ 15 → ⊥) → typeShape t ≡ not (eqb t 18)
 type-last t a b c = simp (ne-eqb t 31 a, lt-leb t 13 b, ne-eqb t 15 c)
 
--- the size's checks of a message with a whole header: an odd number of bytes; more than 131,068; and else half of them is the size or is not
-pub size-odd : (size : Halfwords) (long : ℕ) → (long % 2 ≡ 0 → ⊥) → someBroken (sizeChecks size long) ≡ true
-size-odd size long h = simp (ne-eqb (long % 2) 0 h, either-true)
-
-pub size-long : (size : Halfwords) (long : ℕ) → long % 2 ≡ 0 → 131068 < long → someBroken (sizeChecks size long) ≡ true
-size-long size long e m = go (ltb 65534 (size .0)) refl
+-- the size's checks of a message with a whole header: more than 131,068 bytes; half of them not the size; and else their number is odd or not
+pub size-long : (size : Halfwords) (long : ℕ) → 131068 < long → someBroken (sizeChecks size long) ≡ true
+size-long size long m = go (ltb 65534 (size .0)) refl (eqb (long / 2) (size .0)) refl
   where
-    go : (t : Bool) → ltb 65534 (size .0) ≡ t → someBroken (sizeChecks size long) ≡ true
-    go true q = simp (q, either-true)
-    go false q =
-        let low : size .0 ≤ 65534 = ltb-false 65534 (size .0) q in
-        let other : eqb (long / 2) (size .0) ≡ false = ne-eqb (long / 2) (size .0) (λ h. omega (arith, h)) in
-        simp (other, either-true)
-
-pub size-fits : (size : Halfwords) (long : ℕ) → headerSize ≤ long → long % 2 ≡ 0 → long ≤ 131068
-    → someBroken (sizeChecks size long) ≡ not (eqb (long / 2) (size .0))
-size-fits size long l e m = go (eqb (long / 2) (size .0)) refl
-  where
-    go : (t : Bool) → eqb (long / 2) (size .0) ≡ t → someBroken (sizeChecks size long) ≡ not (eqb (long / 2) (size .0))
-    go true q =
+    go : (t : Bool) → ltb 65534 (size .0) ≡ t → (u : Bool) → eqb (long / 2) (size .0) ≡ u → someBroken (sizeChecks size long) ≡ true
+    go true p u q = simp (p, either-true)
+    go false p false q = simp (q, either-true)
+    go false p true q =
         let half : long / 2 ≡ size .0 = eqb-true (long / 2) (size .0) q in
-        let low : 8 ≤ size .0 = omega (arith, half) in
-        let high : size .0 ≤ 65534 = omega (arith, half) in
-        simp (le-ltb (size .0) 8 low, le-ltb 65534 (size .0) high, eq-eqb (long % 2) 0 e, q)
-    go false q = simp (q, either-true)
+        let low : size .0 ≤ 65534 = ltb-false 65534 (size .0) p in
+        let odd : long % 2 ≡ 0 → ⊥ = λ e. omega (arith, half, e) in
+        simp (ne-eqb (long % 2) 0 odd, either-true)
+
+pub size-other : (size : Halfwords) (long : ℕ) → (long / 2 ≡ size .0 → ⊥) → someBroken (sizeChecks size long) ≡ true
+size-other size long h = simp (ne-eqb (long / 2) (size .0) h, either-true)
+
+pub size-half : (size : Halfwords) (long : ℕ) → headerSize ≤ long → long ≤ 131068 → long / 2 ≡ size .0
+    → someBroken (sizeChecks size long) ≡ not (eqb (long % 2) 0)
+size-half size long l m half =
+    let low : 8 ≤ size .0 = omega (arith, half) in
+    let high : size .0 ≤ 65534 = omega (arith, half) in
+    simp (le-ltb (size .0) 8 low, le-ltb 65534 (size .0) high, eq-eqb (long / 2) (size .0) half, either-false)
+
+-- the number that is reported: 1 where N is 1, and one of 1 to N as it is
+pub number-lone : (n k : ℕ) → n ≡ 1 → reportedNumber n k ≡ 1
+number-lone n k e = simp (eq-eqb n 1 e)
+
+pub number-kept : (n k : ℕ) → 1 ≤ k → k ≤ n → reportedNumber n k ≡ k
+number-kept n k low high = go (eqb n 1) refl
+  where
+    go : (t : Bool) → eqb n 1 ≡ t → reportedNumber n k ≡ k
+    go true q = let one : n ≡ 1 = eqb-true n 1 q in number-lone n k one ∙ omega (arith, one)
+    go false q = simp q
 
 -- the segment's checks of a radial: it is the one segment there is
 pub lone-segment : (size : Halfwords) (kind n k : ℕ) → kind ≡ radialType
-    → someBroken (segmentChecks size kind n k) ≡ either (not (eqb n 1)) (not (eqb k 1))
-lone-segment size kind n k r = go (eqb n 1) refl (eqb k 1) refl
+    → someBroken (segmentChecks size kind n (reportedNumber n k)) ≡ not (eqb n 1)
+lone-segment size kind n k r = go (eqb n 1) refl
   where
-    go : (t : Bool) → eqb n 1 ≡ t → (u : Bool) → eqb k 1 ≡ u → someBroken (segmentChecks size kind n k) ≡ either (not (eqb n 1)) (not (eqb k 1))
-    go false q u p = simp (eq-eqb kind radialType r, q, either-true)
-    go true q true p =
+    go : (t : Bool) → eqb n 1 ≡ t → someBroken (segmentChecks size kind n (reportedNumber n k)) ≡ not (eqb n 1)
+    go false q = simp (eq-eqb kind radialType r, q, either-true)
+    go true q =
         let one : n ≡ 1 = eqb-true n 1 q in
-        let same : k ≡ 1 = eqb-true k 1 p in
         let few : n ≤ 128 = omega (arith, one) in
-        let within : k ≤ n = omega (arith, one, same) in
-        simp (le-ltb n 1 (omega (arith, one)), le-ltb 128 n few, le-ltb k 1 (omega (arith, same)), le-ltb n k within, eq-eqb kind radialType r, q, p)
-    go true q false p = low (ltb k 1) refl
-      where
-        low : (v : Bool) → ltb k 1 ≡ v → someBroken (segmentChecks size kind n k) ≡ either (not (eqb n 1)) (not (eqb k 1))
-        low true v = simp (v, q, p, either-true)
-        low false v =
-            let other : k ≡ 1 → ⊥ = eqb-false k 1 p in
-            let above : n < k = omega (arith, eqb-true n 1 q, other, ltb-false k 1 v) in
-            simp (lt-ltb n k above, q, p, either-true)
+        simp (le-ltb n 1 (omega (arith, one)), le-ltb 128 n few, eq-eqb kind radialType r, q)
+
+-- and of another message that is not too large and is one segment
+pub small-alone : (size : Halfwords) (kind n k : ℕ) → (kind ≡ radialType → ⊥) → size .0 ≤ 1208 → n ≡ 1
+    → someBroken (segmentChecks size kind n (reportedNumber n k)) ≡ false
+small-alone size kind n k r s e =
+    let few : n ≤ 128 = omega (arith, e) in
+    simp (le-ltb n 1 (omega (arith, e)), le-ltb 128 n few, eq-eqb n 1 e, ne-eqb kind radialType r, le-ltb 1208 (size .0) s)
 
 -- the checks of a message of `long` bytes with the header h, one test for each number
 pub header-decides {ℓ} : {X : Type ℓ} (h : Header) (long : ℕ) (f : ℕ → X) (ok : X)
@@ -99,52 +106,78 @@ header-decides {X} h long f ok =
 checks-above-0 : (h : Header) (long : ℕ) → AllAbove0 (check 4 (ltb long headerSize) ∷ valueChecks h long)
 checks-above-0 h long = (refl, (refl, (refl, (refl, (refl, (refl, (refl, (refl, (refl, (refl, (refl, (refl, (refl, (refl, tt))))))))))))))
 
--- a message with a whole header: it is the one that was looked at
-pub stored-whole : (b : List ℕ) → ltb (length b) headerSize ≡ false → headerOr0 b ≡ headerIn b
-unfolding headerOr0
+-- a message with a whole header: its values are those looked at
+pub stored-whole : (b : List ℕ) → ltb (length b) headerSize ≡ false → storedOr0 b ≡ storedIn b
+unfolding storedOr0
 stored-whole b e = simp e
 
+-- and its number is there to be fetched
+reported-whole : (b : List ℕ) → ltb (length b) headerSize ≡ false → reportedFrom b (storedIn b) ≡ asReported (storedIn b)
+unfolding storedIn
+reported-whole b l =
+    let long : headerSize ≤ length b = ltb-false (length b) headerSize l in
+    ap (λ (k : ℕ). withNumber (storedIn b) (reportedNumber (num 2 b 12) k)) (fetched-whole 2 b 14 (omega arith))
+
+short-refused : (h : Header) (long : ℕ) → ltb long headerSize ≡ true → refusalOf h long ≡ 4
+unfolding refusalOf
+short-refused h long l = simp l
+
+-- of no bytes it is the same, stored or reported
+pub nothing-stored : storedIn [] ≡ headerIn []
+unfolding headerIn storedIn num
+nothing-stored = refl
+
 told-short : (b : List ℕ) → ltb (length b) headerSize ≡ true
-    → headerOf b ≡ pick (eqb (refusalOf (headerOr0 b) (length b)) 0) (given (headerOr0 b)) (refused (refusalOf (headerOr0 b) (length b)))
+    → headerOf b ≡ pick (eqb (refusalOf (storedOr0 b) (length b)) 0) (given (asReported (storedOr0 b))) (refused (refusalOf (storedOr0 b) (length b)))
 unfolding headerOf refusalOf
 told-short b e = simp e
 
-told-whole : (b : List ℕ) → headerOf b ≡ pick (eqb (refusalOf (headerIn b) (length b)) 0) (given (headerIn b)) (refused (refusalOf (headerIn b) (length b)))
-unfolding headerOf refusalOf
+told-whole : (b : List ℕ)
+    → headerOf b ≡ pick (eqb (refusalOf (storedIn b) (length b)) 0) (given (asReported (storedIn b))) (refused (refusalOf (storedIn b) (length b)))
+unfolding headerOf headerIn refusalOf
 told-whole b = decide-number (headerChecks b) refused (given (headerIn b)) (checks-above-0 (headerIn b) (length b))
 
--- what a message answers, by the number of refusal of the header that was looked at
+-- what a message answers, by the number of refusal of the values that were looked at
 pub header-told : (b : List ℕ)
-    → headerOf b ≡ pick (eqb (refusalOf (headerOr0 b) (length b)) 0) (given (headerOr0 b)) (refused (refusalOf (headerOr0 b) (length b)))
+    → headerOf b ≡ pick (eqb (refusalOf (storedOr0 b) (length b)) 0) (given (asReported (storedOr0 b))) (refused (refusalOf (storedOr0 b) (length b)))
 header-told b = go (ltb (length b) headerSize) refl
   where
     go : (t : Bool) → ltb (length b) headerSize ≡ t
-        → headerOf b ≡ pick (eqb (refusalOf (headerOr0 b) (length b)) 0) (given (headerOr0 b)) (refused (refusalOf (headerOr0 b) (length b)))
+        → headerOf b ≡ pick (eqb (refusalOf (storedOr0 b) (length b)) 0) (given (asReported (storedOr0 b))) (refused (refusalOf (storedOr0 b) (length b)))
     go true e = told-short b e
     go false e = rw (stored-whole b e) (told-whole b)
 
--- the header h that was looked at, and its number n
-module _ (b : List ℕ) (h : Header) (n : ℕ) (looked : h ≡ headerOr0 b) (told : n ≡ refusalOf h (length b)) where
-  number-told : n ≡ refusalOf (headerOr0 b) (length b)
+-- the values h that were looked at, and their number n
+module _ (b : List ℕ) (h : Header) (n : ℕ) (looked : h ≡ storedOr0 b) (told : n ≡ refusalOf h (length b)) where
+  number-told : n ≡ refusalOf (storedOr0 b) (length b)
   number-told = told ∙ simp looked
 
-  pub header-read : n ≡ 0 → headerOf b ≡ given h
-  header-read e =
-      let zero : refusalOf (headerOr0 b) (length b) ≡ 0 = sym number-told ∙ e in
-      header-told b ∙ simp (zero, looked)
+  pub header-read : (r : Header) → r ≡ reportedFrom b h → n ≡ 0 → headerOf b ≡ given r
+  header-read r q e = go (ltb (length b) headerSize) refl
+    where
+      zero : refusalOf (storedOr0 b) (length b) ≡ 0
+      zero = sym number-told ∙ e
+
+      go : (t : Bool) → ltb (length b) headerSize ≡ t → headerOf b ≡ given r
+      go true l = never (cc (sym (short-refused (storedOr0 b) (length b) l) ∙ zero))
+      go false l =
+          let same : reportedFrom b h ≡ asReported (storedOr0 b) =
+          ap (λ (x : Header). reportedFrom b x) (looked ∙ stored-whole b l) ∙ reported-whole b l ∙ ap asReported (sym (stored-whole b l))
+          in
+          header-told b ∙ simp zero (ap given (sym (q ∙ same)))
 
   pub header-refused : (n ≡ 0 → ⊥) → headerOf b ≡ refused n
   header-refused e =
-      let other : refusalOf (headerOr0 b) (length b) ≡ 0 → ⊥ = λ q. e (number-told ∙ q) in
-      header-told b ∙ simp (ne-eqb (refusalOf (headerOr0 b) (length b)) 0 other) (ap refused (sym number-told))
+      let other : refusalOf (storedOr0 b) (length b) ≡ 0 → ⊥ = λ q. e (number-told ∙ q) in
+      header-told b ∙ simp (ne-eqb (refusalOf (storedOr0 b) (length b)) 0 other) (ap refused (sym number-told))
 
 -- the header that a writer puts before its data is read back, whatever follows
 pub header-reads-back : (h : Header) (rest : List ℕ) → Fit (headerTable h) → Spells (render (headerTable h) ++ rest) 0 (headerTable h)
 header-reads-back h rest fit = reads-back (headerTable h) rest fit
 
-pub header-is : (h : Header) (rest : List ℕ) → Fit (headerTable h) → headerIn (render (headerTable h) ++ rest) ≡ h
-unfolding headerIn
-header-is h rest fit =
+stored-is : (h : Header) (rest : List ℕ) → Fit (headerTable h) → storedIn (render (headerTable h) ++ rest) ≡ h
+unfolding storedIn
+stored-is h rest fit =
     let s = header-reads-back h rest fit in
     λ i. record {
       size = record { 0 = s .0 i };
@@ -156,3 +189,7 @@ header-is h rest fit =
       segments = s .1 .1 .1 .1 .1 .1 .0 i;
       number = s .1 .1 .1 .1 .1 .1 .1 .0 i;
     }
+
+pub header-is : (h : Header) (rest : List ℕ) → Fit (headerTable h) → 1 ≤ h .number → h .number ≤ h .segments → headerIn (render (headerTable h) ++ rest) ≡ h
+unfolding headerIn
+header-is h rest fit low high = ap asReported (stored-is h rest fit) ∙ ap (λ (k : ℕ). withNumber h k) (number-kept (h .segments) (h .number) low high)

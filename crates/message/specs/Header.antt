@@ -4,7 +4,7 @@ use mathlib.Core.Bool.{Bool, not}
 use mathlib.Core.List.{List, [], _∷_, _++_}
 use lib.Dec.{ltb, eqb}
 use lib.ListN.{length, drop}
-use Rattle.wire.specs.Numbers.{num}
+use Rattle.wire.specs.Numbers.{num, fetched}
 use Rattle.wire.specs.Tables.{Field, field}
 use Rattle.wire.specs.Checks.{pick, both, among, Check, check, decide}
 use Rattle.wire.specs.Answers.{Answer, rule}
@@ -29,9 +29,9 @@ headerTable h =
 abbrev pub headerSize : ℕ
 headerSize = 16
 
--- the header that a message begins with, every value as stored
-unfoldable pub headerIn : List ℕ → Header
-headerIn b = record {
+-- the values that a message begins with, as stored
+unfoldable pub storedIn : List ℕ → Header
+storedIn b = record {
   size = halfwords (num 2 b 0);
   channel = num 1 b 2;
   kind = num 1 b 3;
@@ -41,6 +41,30 @@ headerIn b = record {
   segments = num 2 b 12;
   number = num 2 b 14;
 }
+
+-- "Where N is 1, any segment number is accepted and reported as 1" (K1): what the rules below are asked of, and what is reported
+abbrev pub reportedNumber : ℕ → ℕ → ℕ
+reportedNumber n k = pick (eqb n 1) 1 k
+
+abbrev pub withNumber : Header → ℕ → Header
+withNumber h k = record {
+  size = h .size;
+  channel = h .channel;
+  kind = h .kind;
+  sequence = h .sequence;
+  date = h .date;
+  milliseconds = h .milliseconds;
+  segments = h .segments;
+  number = k;
+}
+
+-- all other values count, and are reported, as stored
+abbrev pub asReported : Header → Header
+asReported h = withNumber h (reportedNumber (h .segments) (h .number))
+
+-- the header that a message begins with
+unfoldable pub headerIn : List ℕ → Header
+headerIn b = asReported (storedIn b)
 
 -- the data of a message: what follows its header
 abbrev pub dataIn : List ℕ → List ℕ
@@ -134,14 +158,18 @@ valueChecks h long =
 abbrev pub headerChecks : List ℕ → List Check
 headerChecks b = check 4 (ltb (length b) headerSize) ∷ valueChecks (headerIn b) (length b)
 
--- what a message, a data frame's body, answers: its header, every value as stored
+-- what a message, a data frame's body, answers: its header
 unfoldable pub headerOf : List ℕ → Answer Header
 headerOf b = rule (headerChecks b) (headerIn b)
 
--- the header of a message before it is checked: that of no bytes where the message is too short for one
-unfoldable pub headerOr0 : List ℕ → Header
-headerOr0 b = pick (ltb (length b) headerSize) (headerIn []) (headerIn b)
+-- the values of a message before they are checked: those of no bytes where the message is too short for a header
+unfoldable pub storedOr0 : List ℕ → Header
+storedOr0 b = pick (ltb (length b) headerSize) (storedIn []) (storedIn b)
 
--- the number of refusal of a message of `long` bytes that has the header h, or 0
+-- the number of refusal of a message of `long` bytes that has the stored values h, or 0
 unfoldable pub refusalOf : Header → ℕ → ℕ
-refusalOf h long = decide (check 4 (ltb long headerSize) ∷ valueChecks h long) (λ (n : ℕ). n) 0
+refusalOf h long = decide (check 4 (ltb long headerSize) ∷ valueChecks (asReported h) long) (λ (n : ℕ). n) 0
+
+-- the header h with the number that the message b reports
+abbrev pub reportedFrom : List ℕ → Header → Header
+reportedFrom b h = withNumber h (reportedNumber (h .segments) (fetched 2 b 14))

@@ -1,3 +1,4 @@
 -- The message header of document 01.
 pub mod Header
 pub mod Promises
+pub mod Lone

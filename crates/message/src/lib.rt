@@ -1,17 +1,16 @@
 // The message header: the 16 bytes that a data frame's body begins with.
 ghost use mathlib.Core.Path.{_≡_};
-ghost use mathlib.Core.Bool.{not};
 ghost use mathlib.Core.List.{[]};
 ghost use Prim.Native.Nat.{_≤_};
-ghost use lib.Dec.{eqb};
-ghost use Rattle.wire.specs.Checks.{either, someBroken};
-ghost use Rattle.message.specs.Header.{headerSize, headerIn, headerOf, headerOr0, refusalOf, notPermitted, sizeChecks, segmentChecks, timeChecks};
+ghost use Rattle.wire.specs.Numbers.{fetched};
+ghost use Rattle.wire.specs.Checks.{someBroken};
+ghost use Rattle.message.specs.Header.{headerSize, headerIn, headerOf, storedOr0, reportedNumber, reportedFrom, refusalOf, notPermitted, sizeChecks, segmentChecks, timeChecks};
 ghost use Rattle.message.specs.Promises.{tellHeader};
 use wire::Bytes;
 use wire::Halfwords;
 use wire::refusal;
 
-// The values of a header as stored. `kind` is the type of Table I, a word that the language keeps for itself.
+// The values of a header. `kind` is the type of Table I, a word that the language keeps for itself.
 pub struct Header {
     pub size: Halfwords,
     pub channel: u8,
@@ -49,12 +48,12 @@ pub fn read_header(message: &[u8]) -> HeaderAnswer
     if number != 0 {
         return HeaderAnswer::Refused(number);
     }
-    HeaderAnswer::Read(h)
+    HeaderAnswer::Read(reported(message, h))
 }
 
-// The header that a message begins with, not yet checked: that of no bytes where the message is too short for a header.
+// The values that a message begins with, not yet checked: those of no bytes where the message is too short for a header.
 pub fn stored(message: &[u8]) -> Header
-    ensures { λ r. ⌜ r ≡ headerOr0 (now (message .entry)) ⌝ }
+    ensures { λ r. ⌜ r ≡ storedOr0 (now (message .entry)) ⌝ }
 {
     if message.len() < HEADER {
         return no_header();
@@ -95,7 +94,36 @@ pub fn no_header() -> Header
     }
 }
 
-// The number of refusal of a message of `long` bytes that has this header, or 0. It takes the values and not the bytes, so that it is
+// The header h with the number that the message reports.
+pub fn reported(message: &[u8], h: Header) -> Header
+    ensures { λ r. ⌜ r ≡ reportedFrom (now (message .entry)) h ⌝ }
+{
+    let size = h.size;
+    let number = number_in(message, h.segments);
+    Header {
+        size,
+        channel: h.channel,
+        kind: h.kind,
+        sequence: h.sequence,
+        date: h.date,
+        milliseconds: h.milliseconds,
+        segments: h.segments,
+        number,
+    }
+}
+
+// Of one segment the two bytes are not looked at. They are fetched here once more, and not taken from a header, so that the compiler
+// makes a branch of it: it is quicker where most messages are of one segment.
+fn number_in(message: &[u8], segments: u16) -> u16
+    ensures { λ r. ⌜ r ≡ reportedNumber segments (fetched 2 (now (message .entry)) 14) ⌝ }
+{
+    if segments != 1 {
+        return wire::fetch16(message, 14);
+    }
+    1
+}
+
+// The number of refusal of a message of `long` bytes that has these stored values, or 0. It takes the values and not the bytes, so that it is
 // small enough to be put in line wherever a header is read.
 pub fn check_header(h: Header, long: usize) -> u8
     ensures { λ r. ⌜ r ≡ refusalOf h long ⌝ }
@@ -123,14 +151,14 @@ fn breaks_size(size: Halfwords, long: usize) -> bool
     requires { ⌜ headerSize ≤ long ⌝ }
     ensures { λ r. ⌜ r ≡ someBroken (sizeChecks size long) ⌝ }
 {
-    if long % 2 != 0 {
-        return true;
-    }
     if MOST_BYTES < long {
         return true;
     }
     let half = wire::to_halfwords(Bytes(long as u32));
-    half.0 != size.0
+    if half.0 != size.0 {
+        return true;
+    }
+    long % 2 != 0
 }
 
 // Whether a type is not one of those permitted. Radials come first, as most messages are.
@@ -149,11 +177,15 @@ pub fn breaks_type(kind: u8) -> bool
     kind != 18
 }
 
+// Of one segment the number is not looked at.
 fn breaks_segment(size: Halfwords, kind: u8, segments: u16, number: u16) -> bool
-    ensures { λ r. ⌜ r ≡ someBroken (segmentChecks size kind segments number) ⌝ }
+    ensures { λ r. ⌜ r ≡ someBroken (segmentChecks size kind segments (reportedNumber segments number)) ⌝ }
 {
     if kind == RADIAL {
-        return breaks_lone(segments, number);
+        return segments != 1;
+    }
+    if SEGMENT_SIZE < size.0 {
+        return true;
     }
     if segments < 1 {
         return true;
@@ -161,23 +193,13 @@ fn breaks_segment(size: Halfwords, kind: u8, segments: u16, number: u16) -> bool
     if MOST_SEGMENTS < segments {
         return true;
     }
+    if segments == 1 {
+        return false;
+    }
     if number < 1 {
         return true;
     }
-    if segments < number {
-        return true;
-    }
-    SEGMENT_SIZE < size.0
-}
-
-// Of a message that is to be the one segment there is.
-fn breaks_lone(segments: u16, number: u16) -> bool
-    ensures { λ r. ⌜ r ≡ either (not (eqb segments 1)) (not (eqb number 1)) ⌝ }
-{
-    if segments != 1 {
-        return true;
-    }
-    number != 1
+    segments < number
 }
 
 // Whether a date or a time of day is out of range.

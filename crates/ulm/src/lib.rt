@@ -44,7 +44,7 @@ pub extern "C" fn ulm_header(msg: &[u8]) -> UlmHeader
     if number != 0 {
         return c_frames::no_header(number);
     }
-    c_frames::header_face(h)
+    c_frames::header_face(message::reported(msg, h))
 }
 
 #[no_mangle]

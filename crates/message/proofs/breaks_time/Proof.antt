@@ -6,11 +6,11 @@ use Rattle.message.proofs.breaks_time.Tie as tie
 use Rattle.message.proofs.breaks_time.Reads as reads
 use Rattle.message.proofs.breaks_time.Lts as lts
 
--- src/lib.rt:143:9
+-- src/lib.rt:210:9
 returns : tie.Need-returns
 returns c = simp (lt-ltb _ _ (c .if1 .taken))
 
--- src/lib.rt:139:1
+-- src/lib.rt:206:1
 returns-2 : tie.Need-returns-2
 returns-2 c = simp (le-ltb _ _ (c .if1 .left), either-false)
 

@@ -7,19 +7,19 @@ use Rattle.message.proofs.breaks_type.Tie as tie
 use Rattle.message.proofs.breaks_type.Reads as reads
 use Rattle.message.proofs.breaks_type.Lts as lts
 
--- src/lib.rt:141:9
+-- src/lib.rt:169:9
 returns : tie.Need-returns
 returns c = sym (types-shape (c .before .args .kind) (search needs) ∙ simp (eq-eqb _ _ (c .if1 .taken)))
 
--- src/lib.rt:144:9
+-- src/lib.rt:172:9
 returns-2 : tie.Need-returns-2
 returns-2 c = sym (types-shape (c .before .before .args .kind) (search needs) ∙ simp (ne-eqb _ _ (c .before .if1 .left), le-leb _ _ (c .if2 .taken)))
 
--- src/lib.rt:147:9
+-- src/lib.rt:175:9
 returns-3 : tie.Need-returns-3
 returns-3 c = sym (types-shape (c .before .before .before .args .kind) (search needs) ∙ simp (ne-eqb _ _ (c .before .before .if1 .left), lt-leb _ _ (c .before .if2 .left), eq-eqb _ _ (c .if3 .taken)))
 
--- src/lib.rt:137:1
+-- src/lib.rt:165:1
 returns-4 : tie.Need-returns-4
 returns-4 c = sym (types-shape (c .before .before .before .args .kind) (search needs) ∙ type-last (c .before .before .before .args .kind) (c .before .before .if1 .left) (c .before .if2 .left) (c .if3 .left))
 

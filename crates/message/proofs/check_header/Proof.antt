@@ -1,6 +1,6 @@
 use mathlib.Core.Path.{sym, _∙_}
 use Rattle.message.proofs.HeaderLaws.{header-decides}
-use Rattle.message.specs.Header.{refusalOf}
+use Rattle.message.specs.Header.{asReported, refusalOf}
 use Prim.Native.Nat.{ℕ}
 use borrow.Author.Tests.{lt-ltb, le-ltb}
 use borrow.Author.Needs.{needs}
@@ -13,51 +13,51 @@ use Rattle.message.proofs.breaks_size.Reads as breaks-size-reads
 use Rattle.message.proofs.breaks_time.Reads as breaks-time-reads
 use Rattle.message.proofs.breaks_type.Reads as breaks-type-reads
 
--- src/lib.rt:104:9
+-- src/lib.rt:132:9
 returns : tie.Need-returns
 unfolding refusalOf
-returns c = sym (header-decides (c .before .args .h) (c .before .args .long) (λ (n : ℕ). n) 0 ∙ simp (lt-ltb _ _ (c .if1 .taken)))
+returns c = sym (header-decides (asReported (c .before .args .h)) (c .before .args .long) (λ (n : ℕ). n) 0 ∙ simp (lt-ltb _ _ (c .if1 .taken)))
 
--- src/lib.rt:106:8
+-- src/lib.rt:134:8
 breaks-size-requires : tie.Need-breaks-size-requires
 breaks-size-requires c κs = search needs
 
--- src/lib.rt:107:9
+-- src/lib.rt:135:9
 returns-2 : tie.Need-returns-2
 unfolding refusalOf
-returns-2 c = sym (header-decides (c .before .before .before .args .h) (c .before .before .before .args .long) (λ (n : ℕ). n) 0 ∙ simp (le-ltb _ _ (c .before .before .if1 .left), ← c .before .breaks-size .ensures, c .if2 .taken))
+returns-2 c = sym (header-decides (asReported (c .before .before .before .args .h)) (c .before .before .before .args .long) (λ (n : ℕ). n) 0 ∙ simp (le-ltb _ _ (c .before .before .if1 .left), ← c .before .breaks-size .ensures, c .if2 .taken))
 
--- src/lib.rt:109:8
+-- src/lib.rt:137:8
 breaks-type-requires : tie.Need-breaks-type-requires
 breaks-type-requires c κs = search needs
 
--- src/lib.rt:110:9
+-- src/lib.rt:138:9
 returns-3 : tie.Need-returns-3
 unfolding refusalOf
-returns-3 c = sym (header-decides (c .before .before .before .before .before .args .h) (c .before .before .before .before .before .args .long) (λ (n : ℕ). n) 0 ∙ simp (le-ltb _ _ (c .before .before .before .before .if1 .left), ← c .before .before .before .breaks-size .ensures, c .before .before .if2 .left, ← c .before .breaks-type .ensures, c .if3 .taken))
+returns-3 c = sym (header-decides (asReported (c .before .before .before .before .before .args .h)) (c .before .before .before .before .before .args .long) (λ (n : ℕ). n) 0 ∙ simp (le-ltb _ _ (c .before .before .before .before .if1 .left), ← c .before .before .before .breaks-size .ensures, c .before .before .if2 .left, ← c .before .breaks-type .ensures, c .if3 .taken))
 
--- src/lib.rt:112:8
+-- src/lib.rt:140:8
 breaks-segment-requires : tie.Need-breaks-segment-requires
 breaks-segment-requires c κs = search needs
 
--- src/lib.rt:113:9
+-- src/lib.rt:141:9
 returns-4 : tie.Need-returns-4
 unfolding refusalOf
-returns-4 c = sym (header-decides (c .before .before .before .before .before .before .before .args .h) (c .before .before .before .before .before .before .before .args .long) (λ (n : ℕ). n) 0 ∙ simp (le-ltb _ _ (c .before .before .before .before .before .before .if1 .left), ← c .before .before .before .before .before .breaks-size .ensures, c .before .before .before .before .if2 .left, ← c .before .before .before .breaks-type .ensures, c .before .before .if3 .left, ← c .before .breaks-segment .ensures, c .if4 .taken))
+returns-4 c = sym (header-decides (asReported (c .before .before .before .before .before .before .before .args .h)) (c .before .before .before .before .before .before .before .args .long) (λ (n : ℕ). n) 0 ∙ simp (le-ltb _ _ (c .before .before .before .before .before .before .if1 .left), ← c .before .before .before .before .before .breaks-size .ensures, c .before .before .before .before .if2 .left, ← c .before .before .before .breaks-type .ensures, c .before .before .if3 .left, ← c .before .breaks-segment .ensures, c .if4 .taken))
 
--- src/lib.rt:115:8
+-- src/lib.rt:143:8
 breaks-time-requires : tie.Need-breaks-time-requires
 breaks-time-requires c κs = search needs
 
--- src/lib.rt:116:9
+-- src/lib.rt:144:9
 returns-5 : tie.Need-returns-5
 unfolding refusalOf
-returns-5 c = sym (header-decides (c .before .before .before .before .before .before .before .before .before .args .h) (c .before .before .before .before .before .before .before .before .before .args .long) (λ (n : ℕ). n) 0 ∙ simp (le-ltb _ _ (c .before .before .before .before .before .before .before .before .if1 .left), ← c .before .before .before .before .before .before .before .breaks-size .ensures, c .before .before .before .before .before .before .if2 .left, ← c .before .before .before .before .before .breaks-type .ensures, c .before .before .before .before .if3 .left, ← c .before .before .before .breaks-segment .ensures, c .before .before .if4 .left, ← c .before .breaks-time .ensures, c .if5 .taken))
+returns-5 c = sym (header-decides (asReported (c .before .before .before .before .before .before .before .before .before .args .h)) (c .before .before .before .before .before .before .before .before .before .args .long) (λ (n : ℕ). n) 0 ∙ simp (le-ltb _ _ (c .before .before .before .before .before .before .before .before .if1 .left), ← c .before .before .before .before .before .before .before .breaks-size .ensures, c .before .before .before .before .before .before .if2 .left, ← c .before .before .before .before .before .breaks-type .ensures, c .before .before .before .before .if3 .left, ← c .before .before .before .breaks-segment .ensures, c .before .before .if4 .left, ← c .before .breaks-time .ensures, c .if5 .taken))
 
--- src/lib.rt:100:1
+-- src/lib.rt:128:1
 returns-6 : tie.Need-returns-6
 unfolding refusalOf
-returns-6 c = sym (header-decides (c .before .before .before .before .before .before .before .before .before .args .h) (c .before .before .before .before .before .before .before .before .before .args .long) (λ (n : ℕ). n) 0 ∙ simp (le-ltb _ _ (c .before .before .before .before .before .before .before .before .if1 .left), ← c .before .before .before .before .before .before .before .breaks-size .ensures, c .before .before .before .before .before .before .if2 .left, ← c .before .before .before .before .before .breaks-type .ensures, c .before .before .before .before .if3 .left, ← c .before .before .before .breaks-segment .ensures, c .before .before .if4 .left, ← c .before .breaks-time .ensures, c .if5 .left))
+returns-6 c = sym (header-decides (asReported (c .before .before .before .before .before .before .before .before .before .args .h)) (c .before .before .before .before .before .before .before .before .before .args .long) (λ (n : ℕ). n) 0 ∙ simp (le-ltb _ _ (c .before .before .before .before .before .before .before .before .if1 .left), ← c .before .before .before .before .before .before .before .breaks-size .ensures, c .before .before .before .before .before .before .if2 .left, ← c .before .before .before .before .before .breaks-type .ensures, c .before .before .before .before .if3 .left, ← c .before .before .before .breaks-segment .ensures, c .before .before .if4 .left, ← c .before .breaks-time .ensures, c .if5 .left))
 
 pub check-header-spec : {M : Type 1} → statement M
 check-header-spec =

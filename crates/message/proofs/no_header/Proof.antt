@@ -1,5 +1,5 @@
 use mathlib.Core.Path.{refl}
-use Rattle.message.specs.Header.{headerIn}
+use Rattle.message.specs.Header.{storedIn, headerIn}
 use Rattle.wire.specs.Numbers.{num}
 use borrow.Author.Needs.{needs}
 use Rattle.message.proofs.no_header.Statement.{statement}
@@ -7,9 +7,9 @@ use Rattle.message.proofs.no_header.Tie as tie
 use Rattle.message.proofs.no_header.Reads as reads
 use Rattle.message.proofs.no_header.Lts as lts
 
--- src/lib.rt:83:1
+-- src/lib.rt:82:1
 returns : tie.Need-returns
-unfolding headerIn num
+unfolding headerIn storedIn num
 returns c = refl
 
 pub no-header-spec : {M : Type 1} → statement M

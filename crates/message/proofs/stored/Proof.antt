@@ -3,8 +3,8 @@ use denote.Ref.{now}
 use mathlib.Core.Path.{_≡_, sym, _∙_}
 use native.Mathlib.Omega.{arith}
 use Rattle.wire.proofs.NumberLaws.{fetched-whole}
-use Rattle.message.proofs.HeaderLaws.{stored-whole}
-use Rattle.message.specs.Header.{headerSize, headerIn, headerOr0}
+use Rattle.message.proofs.HeaderLaws.{stored-whole, nothing-stored}
+use Rattle.message.specs.Header.{headerSize, storedIn, storedOr0}
 use borrow.Author.Tests.{lt-ltb, le-ltb}
 use borrow.Author.Needs.{needs}
 use Rattle.message.proofs.stored.Statement.{statement}
@@ -16,54 +16,54 @@ use Rattle.wire.proofs.fetch16.Reads as fetch16-reads
 use Rattle.wire.proofs.fetch32.Reads as fetch32-reads
 use Rattle.wire.proofs.fetch8.Reads as fetch8-reads
 
--- src/lib.rt:60:9
+-- src/lib.rt:59:9
 no-header-requires : tie.Need-no-header-requires
 no-header-requires c κs = search needs
 
--- src/lib.rt:60:9
+-- src/lib.rt:59:9
 returns : tie.Need-returns
-unfolding headerOr0
-returns c = simp (lt-ltb _ _ (c .before .if1 .taken), c .no-header .ensures)
+unfolding storedOr0
+returns c = simp (lt-ltb _ _ (c .before .if1 .taken)) (c .no-header .ensures ∙ sym nothing-stored)
 
--- src/lib.rt:62:16
+-- src/lib.rt:61:16
 fetch16-requires : tie.Need-fetch16-requires
 fetch16-requires c κs = search needs
 
--- src/lib.rt:62:16
+-- src/lib.rt:61:16
 cast-size : tie.Need-cast-size
 cast-size c = search needs
 
--- src/lib.rt:63:9
+-- src/lib.rt:62:9
 fetch8-requires : tie.Need-fetch8-requires
 fetch8-requires c κs = search needs
 
--- src/lib.rt:64:9
+-- src/lib.rt:63:9
 fetch8-requires-2 : tie.Need-fetch8-requires-2
 fetch8-requires-2 c κs = search needs
 
--- src/lib.rt:65:9
+-- src/lib.rt:64:9
 fetch16-requires-2 : tie.Need-fetch16-requires-2
 fetch16-requires-2 c κs = search needs
 
--- src/lib.rt:66:9
+-- src/lib.rt:65:9
 fetch16-requires-3 : tie.Need-fetch16-requires-3
 fetch16-requires-3 c κs = search needs
 
--- src/lib.rt:67:9
+-- src/lib.rt:66:9
 fetch32-requires : tie.Need-fetch32-requires
 fetch32-requires c κs = search needs
 
--- src/lib.rt:68:9
+-- src/lib.rt:67:9
 fetch16-requires-4 : tie.Need-fetch16-requires-4
 fetch16-requires-4 c κs = search needs
 
--- src/lib.rt:69:9
+-- src/lib.rt:68:9
 fetch16-requires-5 : tie.Need-fetch16-requires-5
 fetch16-requires-5 c κs = search needs
 
--- src/lib.rt:56:1
+-- src/lib.rt:55:1
 returns-2 : tie.Need-returns-2
-unfolding headerIn
+unfolding storedIn
 returns-2 c =
     let b = now (c .before .before .before .before .before .before .before .before .before .before .args .message) in
     (λ i. record {

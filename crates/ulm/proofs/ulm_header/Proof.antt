@@ -10,6 +10,7 @@ use Rattle.ulm.proofs.ulm_header.Lts as lts
 use Rattle.c_frames.proofs.header_face.Reads as header-face-reads
 use Rattle.c_frames.proofs.no_header.Reads as no-header-reads
 use Rattle.message.proofs.check_header.Reads as check-header-reads
+use Rattle.message.proofs.reported.Reads as reported-reads
 use Rattle.message.proofs.stored.Reads as stored-reads
 
 -- src/lib.rt:42:9
@@ -28,13 +29,17 @@ no-header-requires c κs = search needs
 returns : tie.Need-returns
 returns c = c .no-header .ensures ∙ ap headerFace (sym (header-refused (now (c .before .before .before .before .before .args .msg)) (c .before .before .before .stored .result) (c .before .before .check-header .result) (c .before .before .before .stored .ensures) (c .before .before .check-header .ensures) (c .before .if1 .taken)))
 
+-- src/lib.rt:47:27
+reported-requires : tie.Need-reported-requires
+reported-requires c κs = search needs
+
 -- src/lib.rt:47:5
 header-face-requires : tie.Need-header-face-requires
 header-face-requires c κs = search needs
 
 -- src/lib.rt:38:1
 returns-2 : tie.Need-returns-2
-returns-2 c = c .header-face .ensures ∙ ap headerFace (sym (header-read (now (c .before .before .before .before .before .args .msg)) (c .before .before .before .stored .result) (c .before .before .check-header .result) (c .before .before .before .stored .ensures) (c .before .before .check-header .ensures) (c .before .if1 .left)))
+returns-2 c = c .header-face .ensures ∙ ap headerFace (sym (header-read (now (c .before .before .before .before .before .before .args .msg)) (c .before .before .before .before .stored .result) (c .before .before .before .check-header .result) (c .before .before .before .before .stored .ensures) (c .before .before .before .check-header .ensures) (c .before .reported .result) (c .before .reported .ensures) (c .before .before .if1 .left)))
 
 pub ulm-header-spec : {M : Type 1} → statement M
 ulm-header-spec =
@@ -44,5 +49,6 @@ ulm-header-spec =
     check-header-requires
     no-header-requires
     returns
+    reported-requires
     header-face-requires
     returns-2)
