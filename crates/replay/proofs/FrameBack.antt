@@ -77,7 +77,7 @@ module _ (g : Given) (n k : ℕ) (part rest : List ℕ) (s : Sound g n) (p : Par
   )
 
   header-back : headerIn (bodyIn (frameOf g n k part ++ rest)) ≡ header
-  header-back = ap headerIn body-is ∙ header-is header part header-fit
+  header-back = ap headerIn body-is ∙ header-is header part header-fit low high
 
   -- the segment that was written is the one that is read
   pub segment-back : segmentIn (frameOf g n k part ++ rest) ≡ record { header = header; content = part }

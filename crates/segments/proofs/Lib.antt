@@ -9,4 +9,5 @@ pub mod OrderFree
 pub mod Accepted
 pub mod OutputApart
 pub mod AnyOrder
+pub mod LoneNumber
 pub mod CaseTable

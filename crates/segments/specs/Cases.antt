@@ -51,9 +51,9 @@ starredCases =
     refuses [] 12
     ∷ refuses (replicate 11 0) 1
     ∷ accepts (frameWith 9 1 1 0x0081) (headerWith 1 1) (0x00 ∷ 0x81 ∷ [])
-    -- "4. Case 3 with size 8: 5." "5. Case 3 with segment number 0: 7."
+    -- "4. Case 3 with size 8: 5." 5, with segment number 0: since K1 "an acceptance", as case 3
     ∷ refuses (frameWith 8 1 1 0x0081) 5
-    ∷ refuses (frameWith 9 1 0 0x0081) 7
+    ∷ accepts (frameWith 9 1 0 0x0081) (headerWith 1 1) (0x00 ∷ 0x81 ∷ [])
     -- "7. Set in order 2, 1: accepted, data of 1 first." "8. Numbers 2, 2 of two: 11. Only 2: 12."
     ∷ accepts (frameWith 9 2 2 0x3334 ++ frameWith 9 2 1 0x3132) (headerWith 2 1) (0x31 ∷ 0x32 ∷ 0x33 ∷ 0x34 ∷ [])
     ∷ refuses (frameWith 9 2 2 0x3334 ++ frameWith 9 2 2 0x3334) 11

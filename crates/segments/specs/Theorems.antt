@@ -2,13 +2,15 @@
 use Prim.Native.Nat.{ℕ, _+_, _≤_}
 use mathlib.Core.Path.{_≡_}
 use mathlib.Core.Logic.{_↔_}
-use mathlib.Core.List.{List, flatten, List·Memᴰ, List·Permᴰ}
+use mathlib.Core.List.{List, _++_, flatten, List·Memᴰ, List·Permᴰ}
 use lib.ListN.{length, take}
 use Rattle.wire.specs.Answers.{refused, given, Outcome}
 use Rattle.wire.specs.Sizes.{bytes}
 use Rattle.wire.specs.Writing.{filled}
-use Rattle.frame.specs.Session.{headSize, sizeIn}
+use Rattle.frame.specs.Session.{headSize, sizeIn, bodyIn}
 use Rattle.message.specs.declared.Header.{Header}
+use Rattle.message.specs.Header.{headerSize}
+use Rattle.message.specs.Lone.{Lone, numberPlace, ButTwoBytes}
 use Rattle.segments.specs.Walk.{SetSays, setOf}
 use Rattle.segments.specs.Whole.{Whole}
 
@@ -38,3 +40,14 @@ AnyOrder = (each each′ : List (List ℕ)) (out out′ : List ℕ) → List·Pe
     → ((h : Header) (body : List ℕ) → setOf (flatten each) out ≡ accepted h body out → setOf (flatten each′) out′ ≡ accepted h body out′)
     × (setOf (flatten each) out .answer ≡ refused 12 → setOf (flatten each′) out′ .answer ≡ refused 12)
     × (setOf (flatten each) out .answer ≡ refused 13 → setOf (flatten each′) out′ .answer ≡ refused 13)
+
+-- what is left of a buffer begins with a frame whose body has room for a header and is a message of one segment
+pub record LoneFrame (rest : List ℕ) : Type 0 where
+  pub headed : headerSize ≤ sizeIn rest .0
+  pub lone : Lone (bodyIn rest)
+
+-- "no .. set answer then depends on its two bytes" (K1), whatever whole frames stand before it and whatever bytes follow it
+abbrev pub LoneSegment : Type 0
+LoneSegment = (each : List (List ℕ)) (rest frames′ out : List ℕ) → WholeFrames each → LoneFrame rest
+    → ButTwoBytes (length (flatten each) + headSize + numberPlace) (flatten each ++ rest) frames′
+    → setOf (flatten each ++ rest) out ≡ setOf frames′ out

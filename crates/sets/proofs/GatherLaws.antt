@@ -10,7 +10,7 @@ use Rattle.wire.specs.Numbers.{num}
 use Rattle.wire.specs.Checks.{first}
 use Rattle.wire.specs.Answers.{Answer, refused, given}
 use Rattle.message.specs.declared.Header.{Header}
-use Rattle.message.specs.Header.{headerIn, mostSegments}
+use Rattle.message.specs.Header.{storedIn, headerIn, mostSegments}
 use Rattle.segments.specs.Segment.{Segment, segmentIn, numbered, found, headerNumbered, dataNumbered}
 use Rattle.segments.specs.Walk.{walk}
 use Rattle.segments.proofs.WalkLaws.{walk-ends, walk-stops, walk-goes}
@@ -31,7 +31,7 @@ blank l e k m = ap (λ (x : List ℕ). getD x k 0) e ∙ getD-replicate mostSegm
 
 nothing-met : (s : List ℕ) (flags : List Bool) (starts ends : List ℕ) (heads : Heads) → Blank flags starts ends → heads .first ≡ segmentIn [] .header
     → heads .one ≡ segmentIn [] .header → Tells s 0 heads flags starts ends []
-unfolding numbered headerIn num
+unfolding numbered headerIn storedIn num
 nothing-met s flags starts ends heads b f o =
     let x = blank starts (b .starts-blank) in
     let y = blank ends (b .ends-blank) in

@@ -1,10 +1,10 @@
 -- The starred cases, by computation of the rule. Assumes nothing.
 use mathlib.Core.Path.{refl}
 use Rattle.wire.specs.Numbers.{num}
-use Rattle.message.specs.Header.{headerIn}
+use Rattle.message.specs.Header.{storedIn, headerIn}
 use Rattle.writer.specs.Writing.{cut, heads, frameOf, framesFrom, framesOf, writeOf}
 use Rattle.writer.specs.Cases.{Starred}
 
 pub starred : Starred
-unfolding num headerIn cut heads frameOf framesFrom framesOf writeOf
+unfolding num storedIn headerIn cut heads frameOf framesFrom framesOf writeOf
 starred = (refl, (refl, (refl, tt)))
