@@ -5,7 +5,7 @@ use lib.Ieee as Ieee
 use lib.Ieee.{ofBits}
 use Rattle.wire.specs.Numbers.{num}
 use Rattle.frame.specs.Session.{frameAt}
-use Rattle.message.specs.Header.{headerIn, headerOf}
+use Rattle.message.specs.Header.{storedIn, headerIn, headerOf}
 use Rattle.segments.specs.Segment.{numbered}
 use Rattle.segments.specs.Walk.{walk, allSeen, joined, setOf}
 use Rattle.writer.specs.Writing.{cut, heads, frameOf, framesFrom, framesOf, writeOf}
@@ -16,5 +16,5 @@ use Rattle.map.specs.Reading.{zonesChecks, zonesIn, runSize, runChecks, runIn}
 use Rattle.demands.specs.Cases.{Starred}
 
 pub starred : Starred
-unfolding num frameAt headerIn headerOf numbered walk allSeen joined setOf cut heads frameOf framesFrom framesOf writeOf radialOf valueOf codeFrom zonesChecks zonesIn runSize runChecks runIn ofBits Ieee.lt Ieee.div Ieee.sub Ieee.add Ieee.neg Ieee.sum Ieee.round Ieee.units Ieee.odd Ieee.size Ieee.span Ieee.climb Ieee.ofInt Ieee.ofFields trailingZeros
+unfolding num frameAt storedIn headerIn headerOf numbered walk allSeen joined setOf cut heads frameOf framesFrom framesOf writeOf radialOf valueOf codeFrom zonesChecks zonesIn runSize runChecks runIn ofBits Ieee.lt Ieee.div Ieee.sub Ieee.add Ieee.neg Ieee.sum Ieee.round Ieee.units Ieee.odd Ieee.size Ieee.span Ieee.climb Ieee.ofInt Ieee.ofFields trailingZeros
 starred = refl

@@ -10,3 +10,4 @@ pub mod Painted
 pub mod Second
 pub mod FaceHolds
 pub mod HandedToC
+pub mod Alone

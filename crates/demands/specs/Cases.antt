@@ -73,10 +73,10 @@ starred =
     -- "1. Empty buffer: "end" as a stream, 12 as a set. 2. 11 bytes: 1."
     stream [] 0 (given end)
     ∷ stream (replicate 11 0) 0 (refused 1)
-    -- 3, read; "4. Case 3 with size 8: 5. 5. Case 3 with segment number 0: 7."
+    -- 3, read; "4. Case 3 with size 8: 5." 5, with segment number 0: since K1 "an acceptance", as case 3
     ∷ header (messageWith 9 1) (given (headerWith 1 1))
     ∷ header (messageWith 8 1) (refused 5)
-    ∷ header (messageWith 9 0) (refused 7)
+    ∷ header (messageWith 9 0) (given (headerWith 1 1))
     -- 1, 2, 3, 4, 5 as sets, 7, 8; 3 written, 6; 9, 10, 11; 12; 13
     ∷ map set setCases
     ++ (map write writeCases ++ (map radial radialCases ++ (map value valueCases ++ map map15 mapCases)))

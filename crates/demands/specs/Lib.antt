@@ -8,3 +8,4 @@ pub mod Wall
 pub mod Demand2
 pub mod Face
 pub mod FaceOfRadial
+pub mod LoneSegment
