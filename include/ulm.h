@@ -124,7 +124,8 @@ typedef struct ulm_header_answer {
  * Reads the header of a message segment: the first 16 bytes of a data frame's body, which is lent whole.
  *
  * Size is 8 to 65,534, and the body is exactly twice that in bytes. Types permitted are 1 to 13, 15, 18 and 31.
- * N is 1 to 128 and the segment number 1 to N. Type 31 has N = 1; for any other type the size is at most 1,208.
+ * N is 1 to 128 and the segment number 1 to N; where N is 1 any number is accepted and reported as 1. Type 31 has
+ * N = 1; for any other type the size is at most 1,208.
  * Date is at least 1, milliseconds at most 86,399,999.
  *
  * Refusals, in order: 4, 5, 6, 7, 8.

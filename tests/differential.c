@@ -248,6 +248,12 @@ static void ask_header(void)
     compare_header(message, message_size);
 }
 
+/* Of a lone segment: half of the time as written, else any number at all. */
+static uint32_t any_number(void)
+{
+    return one_in(2) ? 1 : (uint32_t)pick(65536);
+}
+
 static struct make_segment any_segment(void)
 {
     struct make_segment s = { .channel = (uint32_t)pick(256),
@@ -258,14 +264,14 @@ static struct make_segment any_segment(void)
                               .segments = 1 };
     if (s.type != 31)
         s.segments = one_in(4) ? 1 + (uint32_t)pick(128) : 1 + (uint32_t)pick(4);
-    s.number = 1 + (uint32_t)pick(s.segments);
+    s.number = s.segments == 1 ? any_number() : 1 + (uint32_t)pick(s.segments);
     return s;
 }
 
-static void header_edges_at(size_t data)
+static void header_edges_at(uint32_t segments, size_t data)
 {
     static uint8_t bytes[131072 + 28];
-    struct make_segment s = { 3, 9, 5, 16000, 1000, 2, 2 };
+    struct make_segment s = { 3, 9, 5, 16000, 1000, segments, segments };
     size_t n = make_segment(bytes, &s, bytes + 28, data) - 12;
     patch_count = 0;
     patches_of_header(0, n);
@@ -277,9 +283,10 @@ static void header_edges_at(size_t data)
 static void header_edges(void)
 {
     static uint8_t bytes[12 + 2 * 65535];
-    header_edges_at(2);
-    header_edges_at(2400);
-    header_edges_at(2402);
+    header_edges_at(1, 2);
+    header_edges_at(2, 2);
+    header_edges_at(2, 2400);
+    header_edges_at(2, 2402);
     compare_header(NULL, 0);
     struct make_segment s = { 0, 0, 0, 1, 0, 1, 1 };
     for (s.type = 0; s.type <= 255; s.type++)
@@ -291,6 +298,23 @@ static void header_edges(void)
             put(bytes + 12, 2, size);
             compare_header(bytes + 12, 2 * size);
         }
+}
+
+/* Numbers of every size where N is 1, 2 and 0: alone, and as sets of one frame, with and without room, and of two. */
+static void lone_number_edges(void)
+{
+    static const uint32_t lone_types[] = { 9, 31 };
+    uint8_t bytes[64], body[2] = { 0, 129 };
+    for (size_t i = 0; i < COUNT(lone_types); i++)
+        for (uint32_t segments = 0; segments <= 2; segments++)
+            for (uint32_t number = 0; number <= 65535; number += number < 300 || number > 65500 ? 1 : 163) {
+                struct make_segment s = { 3, lone_types[i], 5, 16000, 1000, segments, number };
+                size_t n = make_segment(bytes, &s, body, 2);
+                compare_header(bytes + 12, n - 12);
+                compare_set(bytes, n, number % 3);
+                s.number = 1;
+                compare_set(bytes, n + make_segment(bytes + n, &s, body, 2), 4);
+            }
 }
 
 static void header_by_chance(void)
@@ -361,7 +385,7 @@ static void make_set(uint32_t segments, int data, int shuffled)
     set.n = set.total = set.frames = 0;
     for (uint32_t i = 0; i < segments; i++) {
         m.sequence = (uint32_t)pick(65536);
-        m.number = order[i];
+        m.number = segments == 1 ? any_number() : order[i];
         add_segment(&m, data);
     }
     message_size = set.n;
@@ -1049,6 +1073,7 @@ static void edges(void)
     frame_edges();
     long_frame_edges();
     header_edges();
+    lone_number_edges();
     set_edges();
     long_set_edges();
     write_edges();

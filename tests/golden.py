@@ -71,7 +71,7 @@ def frame_lines(recording):
         _, _, kind, sequence, days, ms, segments, number = struct.unpack_from(">HBBHHIHH", message)
         yield (
             f"{place:10}  data, {len(message)} bytes, type {kind}, sequence {sequence}, {stamp(days, ms)}, "
-            f"segment {number} of {segments}\n"
+            f"segment {1 if segments == 1 else number} of {segments}\n"
         )
 
 

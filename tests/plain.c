@@ -117,7 +117,7 @@ static inline uint32_t read_header(const uint8_t *m, size_t len, plain_header_an
     h->date = get16(m + 6);
     h->ms = get32(m + 8);
     h->segments = get16(m + 12);
-    h->number = get16(m + 14);
+    h->number = h->segments == 1 ? 1 : get16(m + 14); /* of a lone segment it means nothing (K1) */
     if (h->size < LEAST_SIZE || h->size > MOST_SIZE || len != 2 * (size_t)h->size)
         return 5;
     if (!permitted(h->type))

@@ -86,7 +86,17 @@ fn case_3_a_request() {
 #[test]
 fn cases_4_and_5_headers() {
     assert_eq!(ulm::header(&with(&CASE_3, 13, 8)[12..]), Err(Refusal::SIZE));
-    assert_eq!(ulm::header(&with(&CASE_3, 27, 0)[12..]), Err(Refusal::SEGMENT));
+    let case_3 = ulm::header(&CASE_3[12..]);
+    for number in [0, 7, 255] {
+        let case_5 = with(&CASE_3, 27, number);
+        assert_eq!(ulm::header(&case_5[12..]), case_3);
+        let mut body = [7; 4];
+        let set = ulm::set(&case_5, &mut body).unwrap();
+        assert_eq!((Ok(set.header), set.body), (case_3, &[0, 129][..]));
+    }
+    let of_two = with(&CASE_3, 25, 2);
+    assert_eq!(ulm::header(&with(&of_two, 27, 0)[12..]), Err(Refusal::SEGMENT));
+    assert_eq!(ulm::header(&with(&of_two, 27, 3)[12..]), Err(Refusal::SEGMENT));
 }
 
 #[test]
