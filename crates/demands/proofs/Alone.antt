@@ -2,11 +2,10 @@
 use Prim.Native.Nat.{ℕ}
 use mathlib.Core.Path.{_≡_, sym, ap, _∙_}
 use mathlib.Core.List.{List}
-use borrow.Author.Tests.{ne-eqb}
 use Rattle.wire.specs.Answers.{given, Outcome}
 use Rattle.message.specs.declared.Header.{Header}
 use Rattle.message.specs.Header.{storedIn, headerIn, headerOf}
-use Rattle.message.proofs.HeaderLaws.{number-lone}
+use Rattle.message.proofs.HeaderLaws.{number-lone, number-other}
 use Rattle.message.proofs.LoneLaws.{lone-header}
 use Rattle.message.proofs.OneAnswer.{header-only}
 use Rattle.segments.specs.Walk.{SetSays, setOf}
@@ -27,7 +26,7 @@ unfolding headerIn
 others b h e n =
     let q : headerIn b ≡ h = header-given b h e .1 in
     let other : storedIn b .segments ≡ 1 → ⊥ = λ x. n (sym (ap (λ (x : Header). x .segments) q) ∙ x) in
-    sym (ap (λ (x : Header). x .number) q) ∙ simp (ne-eqb (storedIn b .segments) 1 other)
+    sym (ap (λ (x : Header). x .number) q) ∙ number-other (storedIn b .segments) (storedIn b .number) other
 
 same-header : (b b′ : List ℕ) → headerOf b ≡ headerOf b′ → SameHeader b b′
 same-header b b′ e = record {

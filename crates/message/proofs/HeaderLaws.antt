@@ -52,9 +52,12 @@ size-half size long l m half =
     let high : size .0 ≤ 65534 = omega (arith, half) in
     simp (le-ltb (size .0) 8 low, le-ltb 65534 (size .0) high, eq-eqb (long / 2) (size .0) half, either-false)
 
--- the number that is reported: 1 where N is 1, and one of 1 to N as it is
+-- the number that is reported: 1 where N is 1, else the one stored; one of 1 to N as it is
 pub number-lone : (n k : ℕ) → n ≡ 1 → reportedNumber n k ≡ 1
 number-lone n k e = simp (eq-eqb n 1 e)
+
+pub number-other : (n k : ℕ) → (n ≡ 1 → ⊥) → reportedNumber n k ≡ k
+number-other n k e = simp (ne-eqb n 1 e)
 
 pub number-kept : (n k : ℕ) → 1 ≤ k → k ≤ n → reportedNumber n k ≡ k
 number-kept n k low high = go (eqb n 1) refl

@@ -1,4 +1,5 @@
-use borrow.Author.Tests.{eq-eqb, ne-eqb}
+use mathlib.Core.Path.{sym, _∙_}
+use Rattle.message.proofs.HeaderLaws.{number-lone, number-other}
 use borrow.Author.Needs.{needs}
 use Rattle.message.proofs.number_in.Statement.{statement}
 use Rattle.message.proofs.number_in.Tie as tie
@@ -12,11 +13,11 @@ fetch16-requires c κs = search needs
 
 -- src/lib.rt:121:9
 returns : tie.Need-returns
-returns c = simp (ne-eqb _ _ (c .before .if1 .taken)) (c .fetch16 .ensures)
+returns c = c .fetch16 .ensures ∙ sym (number-other (c .before .before .before .args .segments) _ (c .before .if1 .taken))
 
 -- src/lib.rt:117:1
 returns-2 : tie.Need-returns-2
-returns-2 c = simp (eq-eqb _ _ (c .if1 .left))
+returns-2 c = sym (number-lone (c .before .before .args .segments) _ (c .if1 .left))
 
 pub number-in-spec : {M : Type 1} → statement M
 number-in-spec = tie.close (tie.spec fetch16-requires returns returns-2)
