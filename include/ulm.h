@@ -117,7 +117,7 @@ typedef struct ulm_header_answer {
     uint32_t date;     /* 1 up */
     uint32_t ms;       /* milliseconds of the day, at most 86,399,999 */
     uint32_t segments; /* N, 1 to 128 */
-    uint32_t number;   /* of this segment, 1 to N */
+    uint32_t number;   /* of this segment, 1 to N; 1 where N is 1, whatever was stored */
 } ulm_header_answer;
 
 /*

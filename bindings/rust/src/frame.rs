@@ -112,7 +112,7 @@ pub struct Header {
     pub ms: u32,
     /// Number of segments N, 1 to 128.
     pub segments: u16,
-    /// Segment number, 1 to N.
+    /// Segment number, 1 to N; where N is 1 it is 1, whatever was stored.
     pub number: u16,
 }
 
