@@ -6,7 +6,7 @@ use mathlib.Core.List.{List, [], _∷_, _++_}
 use native.Mathlib.Omega.{arith}
 use lib.Dec.{ltb, leb, eqb}
 use lib.ListN.{length}
-use borrow.Author.Tests.{le-ltb, lt-leb, eq-eqb, ne-eqb, eqb-true, ltb-false}
+use borrow.Author.Tests.{le-ltb, lt-leb, eq-eqb, ne-eqb, eqb-true, eqb-false, ltb-false}
 use Rattle.wire.specs.Numbers.{num}
 use Rattle.wire.specs.Checks.{pick, Check, check, decide, someBroken, among}
 use Rattle.wire.specs.Answers.{refused, given}
@@ -29,21 +29,21 @@ types-shape t h = same-is (notPermitted t) (typeShape t) (below (λ k. same (not
 pub type-last : (t : ℕ) → (t ≡ 31 → ⊥) → 13 < t → (t ≡ 15 → ⊥) → typeShape t ≡ not (eqb t 18)
 type-last t a b c = simp (ne-eqb t 31 a, lt-leb t 13 b, ne-eqb t 15 c)
 
--- the size's checks of a message with a whole header: more than 131,068 bytes; half of them not the size; and else their number is odd or not
+-- the size's checks of a message with a whole header: half of its bytes are not the size; they are more than 131,068; and else odd or not
+pub size-other : (size : Halfwords) (long : ℕ) → (long / 2 ≡ size .0 → ⊥) → someBroken (sizeChecks size long) ≡ true
+size-other size long h = simp (ne-eqb (long / 2) (size .0) h, either-true)
+
 pub size-long : (size : Halfwords) (long : ℕ) → 131068 < long → someBroken (sizeChecks size long) ≡ true
 size-long size long m = go (ltb 65534 (size .0)) refl (eqb (long / 2) (size .0)) refl
   where
     go : (t : Bool) → ltb 65534 (size .0) ≡ t → (u : Bool) → eqb (long / 2) (size .0) ≡ u → someBroken (sizeChecks size long) ≡ true
     go true p u q = simp (p, either-true)
-    go false p false q = simp (q, either-true)
+    go false p false q = size-other size long (eqb-false (long / 2) (size .0) q)
     go false p true q =
         let half : long / 2 ≡ size .0 = eqb-true (long / 2) (size .0) q in
         let low : size .0 ≤ 65534 = ltb-false 65534 (size .0) p in
         let odd : long % 2 ≡ 0 → ⊥ = λ e. omega (arith, half, e) in
         simp (ne-eqb (long % 2) 0 odd, either-true)
-
-pub size-other : (size : Halfwords) (long : ℕ) → (long / 2 ≡ size .0 → ⊥) → someBroken (sizeChecks size long) ≡ true
-size-other size long h = simp (ne-eqb (long / 2) (size .0) h, either-true)
 
 pub size-half : (size : Halfwords) (long : ℕ) → headerSize ≤ long → long ≤ 131068 → long / 2 ≡ size .0
     → someBroken (sizeChecks size long) ≡ not (eqb (long % 2) 0)
