@@ -18,10 +18,10 @@ pub record Looking (b : List ℕ) (kilometre left at : ℕ) : Type 0 where
   pub sized : at + 4 * left ≡ azimuthPart .size b
   pub same : codeFrom from (zonesIn left (drop at b)) kilometre ≡ codeFrom 0 (azimuthPart .read b) kilometre
 
-zoneAt : List ℕ → ℕ → Zone
+unfoldable pub zoneAt : List ℕ → ℕ → Zone
 zoneAt b at = record { code = value (drop at b); end = value (after (drop at b)) }
 
-zones-more : (l at : ℕ) (b : List ℕ) → zonesIn (suc l) (drop at b) ≡ zoneAt b at ∷ zonesIn l (drop (at + 4) b)
+pub zones-more : (l at : ℕ) (b : List ℕ) → zonesIn (suc l) (drop at b) ≡ zoneAt b at ∷ zonesIn l (drop (at + 4) b)
 unfolding zonesIn zoneAt
 zones-more l at b = ap (λ (x : List ℕ). zoneAt b at ∷ zonesIn l x) (next-rest b at)
 

@@ -16,13 +16,13 @@ const MOST_MINUTES: u16 = 1440;
 
 const MOST_ELEVATIONS: u16 = 5;
 
-const AZIMUTHS: usize = 360;
+pub const AZIMUTHS: usize = 360;
 
 const MOST_ZONES: usize = 20;
 
 const MOST_CODE: u16 = 2;
 
-const LAST_KILOMETRE: usize = 511;
+pub const LAST_KILOMETRE: usize = 511;
 
 // Above every end that a zone may have, and above the one that follows the last.
 const NO_END: usize = 513;

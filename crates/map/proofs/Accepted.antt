@@ -42,7 +42,7 @@ unfolding zonesIn
 last-at zero z b h = h refl
 last-at (suc n) z b h = tt
 
-zones-rise : (n from : ℕ) (b : List ℕ) → AllHold (zonesChecks n from b) → RisesFrom from (zonesIn n b)
+pub zones-rise : (n from : ℕ) (b : List ℕ) → AllHold (zonesChecks n from b) → RisesFrom from (zonesIn n b)
 unfolding zonesIn
 zones-rise zero from b p = tt
 zones-rise (suc n) from b p =

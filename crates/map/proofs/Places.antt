@@ -55,6 +55,11 @@ module _ (n e a : ℕ) (b : List ℕ) (inside : e < n) (below : a < azimuths) wh
       = subst (λ (x : List ℕ). runSize azimuthPart a c + azimuthPart .size x ≤ length b - s) part-is i in
       omega (arith, place-is)
 
+  pub asked-holds : AllHold (runChecks elevationPart n b) → AllHold (azimuthPart .checks (drop (runSize azimuthPart (e * azimuths + a) b) b))
+  asked-holds p =
+      subst (λ (x : List ℕ). AllHold (azimuthPart .checks x)) part-is
+      (run-holds azimuthPart azimuths a (drop (runSize elevationPart e b) b) (run-holds elevationPart n e b p inside) below)
+
   pub asked-zones : getD (getD (runIn elevationPart n b) e []) a [] ≡ azimuthPart .read (drop (runSize azimuthPart (e * azimuths + a) b) b)
   asked-zones =
       ap (λ (x : List (List Zone)). getD x a []) (run-read elevationPart [] n e b inside)

@@ -1,7 +1,7 @@
 -- Parts one after the other: what holds of one part holds of a run of n. Azimuths of an elevation segment and elevation segments of a body
 -- are both such runs. Assumes nothing.
 use Prim.Native.Nat.{ℕ, zero, suc, _+_, _-_, _≤_, _<_}
-use native.Mathlib.Nat.{zero-add, suc-add, add-assoc}
+use native.Mathlib.Nat.{add-zero, zero-add, suc-add, add-assoc}
 use native.Mathlib.Omega.{arith}
 use mathlib.Core.Path.{_≡_, refl, sym, ap, _∙_, subst}
 use mathlib.Core.List.{List, [], _∷_, _++_, append-assoc}
@@ -46,6 +46,12 @@ module _ {A : Type 0} (part : Part A) where
       ∙ ap (λ (k : ℕ). s + k) (run-add m n c)
       ∙ ap (λ (l : List ℕ). s + (runSize part m c + runSize part n l)) d
       ∙ sym (add-assoc s (runSize part m c) (runSize part n (drop (s + runSize part m c) b)))
+
+  pub run-next : (m : ℕ) (b : List ℕ) → runSize part (m + 1) b ≡ runSize part m b + part .size (drop (runSize part m b) b)
+  run-next m b =
+      let c = drop (runSize part m b) b in
+      let e : runSize part 1 c ≡ part .size c = run-more 0 c ∙ ap (λ (k : ℕ). part .size c + k) (run-none (drop (part .size c) c)) ∙ add-zero (part .size c) in
+      run-add m 1 b ∙ ap (λ (k : ℕ). runSize part m b + k) e
 
   pub checks-none : (b : List ℕ) → runChecks part 0 b ≡ []
   unfolding runChecks

@@ -1,0 +1,268 @@
+-- Both bodies walked azimuth by azimuth. Assumes nothing.
+use Prim.Native.Nat.{ℕ, zero, suc, _+_, _*_, _-_, _≤_, _<_}
+use native.Mathlib.Nat.{add-zero, zero-add}
+use native.Mathlib.Numerals.{add-one}
+use native.Mathlib.Omega.{arith}
+use mathlib.Core.Path.{_≡_, refl, sym, ap, _∙_, subst}
+use mathlib.Core.List.{List, [], _++_, append-assoc, append-nil}
+use lib.ListN.{length, take, drop, length-drop}
+use lib.Seq.{drop-drop}
+use Rattle.wire.specs.Numbers.{fetched}
+use Rattle.wire.specs.Checks.{AllHold}
+use Rattle.wire.proofs.ListLaws.{part-is as part-from}
+use Rattle.map.specs.Map.{azimuths, mostElevations, Zone, zonesAt, codeFrom}
+use Rattle.map.specs.Reading.{value, runSize, azimuthPart, segmentsIn, mapChecks, mapIn}
+use Rattle.map.proofs.CheckFacts.{MapFacts, map-facts}
+use Rattle.map.proofs.Runs.{run-none, run-next}
+use Rattle.map.proofs.Accepted.{azimuth-long}
+use Rattle.map.proofs.Places.{asked-there, asked-holds, asked-zones}
+use Rattle.filter.proofs.PartLaws.{fetched-value}
+use Rattle.differences.specs.Differences.{Difference, stretches, azimuthDifferences, inOrder}
+use Rattle.differences.proofs.Most.{runs-few}
+use Rattle.compare.specs.Sheets.{Sheet, sheet, onto, zonesDifferences, elevationsDifferences, Has}
+use Rattle.compare.proofs.SheetLaws.{onto-append, onto-count, onto-length}
+
+-- ---- lists one after the other, the last one apart
+in-order-last : {A : Type 0} (of : ℕ → List A) (first count : ℕ) → inOrder first (suc count) of ≡ inOrder first count of ++ of (first + count)
+unfolding inOrder
+in-order-last of first zero = append-nil (of first) ∙ ap of (sym (add-zero first))
+in-order-last of first (suc count) =
+    let e : suc first + count ≡ first + suc count = omega arith in
+    ap (λ l. of first ++ l) (in-order-last of (suc first) count ∙ ap (λ (k : ℕ). inOrder (suc first) count of ++ of k) e)
+    ∙ sym (append-assoc (of first) (inOrder (suc first) count of) (of (first + suc count)))
+
+in-order-none : {A : Type 0} (of : ℕ → List A) (first : ℕ) → inOrder first 0 of ≡ []
+unfolding inOrder
+in-order-none of first = refl
+
+-- ---- the azimuths counted through
+abbrev index : ℕ → ℕ → ℕ
+index elevation azimuth = (elevation - 1) * azimuths + azimuth
+
+-- the place of one in a body
+abbrev pub placeOf : ℕ → ℕ → List ℕ → ℕ
+placeOf elevation azimuth b = 6 + runSize azimuthPart (index elevation azimuth) (drop 6 b)
+
+module _ (b : List ℕ) (elevations : ℕ) (has : Has elevations b) (elevation azimuth at : ℕ) (from : 1 ≤ elevation) (most : elevation ≤ elevations) (around : azimuth < azimuths)
+    (place : at ≡ placeOf elevation azimuth b)
+  where
+    facts : MapFacts b
+    facts = map-facts b (has .checked)
+
+    inside : elevation - 1 < segmentsIn b
+    inside = omega (arith, has .enough)
+
+    part-is : drop at b ≡ drop (runSize azimuthPart (index elevation azimuth) (drop 6 b)) (drop 6 b)
+    part-is = ap (λ (k : ℕ). drop k b) place ∙ sym (drop-drop (runSize azimuthPart (index elevation azimuth) (drop 6 b)) 6 b)
+
+    pub place-checked : AllHold (azimuthPart .checks (drop at b))
+    place-checked =
+        subst (λ (x : List ℕ). AllHold (azimuthPart .checks x)) (sym part-is)
+        (asked-holds (segmentsIn b) (elevation - 1) azimuth (drop 6 b) inside around (facts .elevations))
+
+    fits : at + azimuthPart .size (drop at b) ≤ length b
+    fits =
+        let r = runSize azimuthPart (index elevation azimuth) (drop 6 b) in
+        let h = asked-there (segmentsIn b) (elevation - 1) azimuth (drop 6 b) inside around (facts .elevations) in
+        let k : r + azimuthPart .size (drop r (drop 6 b)) ≤ length b - 6 = rw (← length-drop 6 b) h in
+        let l : r + azimuthPart .size (drop at b) ≤ length b - 6 = subst (λ (x : List ℕ). r + azimuthPart .size x ≤ length b - 6) (sym part-is) k in
+        let m = facts .here in
+        omega (arith, place, l, m)
+
+    size-is : 2 + 4 * fetched 2 (drop at b) 0 ≡ azimuthPart .size (drop at b)
+    size-is =
+        let l = azimuth-long (drop at b) place-checked in
+        let e : fetched 2 (drop at b) 0 ≡ value (drop at b) = fetched-value (drop at b) 0 (omega (arith, l)) in
+        ap (λ (n : ℕ). 2 + 4 * n) e
+
+    pub next-inside : at + (2 + 4 * fetched 2 (drop at b) 0) ≤ length b
+    next-inside = omega (arith, fits, size-is)
+
+    pub next-place : at + (2 + 4 * fetched 2 (drop at b) 0) ≡ 6 + runSize azimuthPart (index elevation azimuth + 1) (drop 6 b)
+    next-place =
+        let r = runSize azimuthPart (index elevation azimuth) (drop 6 b) in
+        let e = run-next azimuthPart (index elevation azimuth) (drop 6 b) in
+        let f : azimuthPart .size (drop at b) ≡ azimuthPart .size (drop r (drop 6 b)) = ap (λ (x : List ℕ). azimuthPart .size x) part-is in
+        omega (arith, place, size-is, e, f)
+
+    pub place-zones : azimuthPart .read (drop at b) ≡ zonesAt (mapIn b) elevation azimuth
+    place-zones =
+        ap (λ (x : List ℕ). azimuthPart .read x) part-is ∙ sym (asked-zones (segmentsIn b) (elevation - 1) azimuth (drop 6 b) inside around)
+
+-- ---- what is done before an azimuth of an elevation segment
+module _ (old new : List ℕ) where
+  -- an azimuth, and all of an elevation segment
+  abbrev one : ℕ → ℕ → List Difference
+  one elevation azimuth = azimuthDifferences (mapIn old) (mapIn new) elevation azimuth
+
+  abbrev all : ℕ → List Difference
+  all elevation = inOrder 0 azimuths (λ azimuth. azimuthDifferences (mapIn old) (mapIn new) elevation azimuth)
+
+  abbrev pub done : ℕ → ℕ → List Difference
+  done elevation azimuth =
+      elevationsDifferences (elevation - 1) old new ++ inOrder 0 azimuth (λ azimuth. azimuthDifferences (mapIn old) (mapIn new) elevation azimuth)
+
+  done-next : (elevation azimuth : ℕ) → done elevation (azimuth + 1) ≡ done elevation azimuth ++ one elevation azimuth
+  done-next elevation azimuth =
+      let before = elevationsDifferences (elevation - 1) old new in
+      let e : inOrder 0 (azimuth + 1) (one elevation) ≡ inOrder 0 azimuth (one elevation) ++ one elevation azimuth
+      = ap (λ (k : ℕ). inOrder 0 k (one elevation)) (add-one azimuth)
+      ∙ in-order-last (one elevation) 0 azimuth
+      ∙ ap (λ (k : ℕ). inOrder 0 azimuth (one elevation) ++ one elevation k) (zero-add azimuth) in
+      ap (λ (l : List Difference). before ++ l) e ∙ sym (append-assoc before (inOrder 0 azimuth (one elevation)) (one elevation azimuth))
+
+  done-segment : (elevation : ℕ) → 1 ≤ elevation → done (elevation + 1) 0 ≡ done elevation azimuths
+  done-segment zero h = absurd (omega arith)
+  done-segment (suc k) h =
+      let e : suc k + 1 - 1 ≡ suc k = omega arith in
+      let f : suc k - 1 ≡ k = omega arith in
+      ap (λ (l : List Difference). elevationsDifferences (suc k + 1 - 1) old new ++ l) (in-order-none (one (suc k + 1)) 0)
+      ∙ append-nil (elevationsDifferences (suc k + 1 - 1) old new)
+      ∙ ap (λ (n : ℕ). elevationsDifferences n old new) e
+      ∙ in-order-last all 1 k
+      ∙ ap (λ (n : ℕ). elevationsDifferences k old new ++ all n) (one-more k)
+      ∙ ap (λ (n : ℕ). elevationsDifferences n old new ++ all (suc k)) (sym f)
+    where
+      one-more : (n : ℕ) → 1 + n ≡ suc n
+      one-more n = omega arith
+
+  done-all : (elevations : ℕ) → done (elevations + 1) 0 ≡ elevationsDifferences elevations old new
+  done-all elevations =
+      let e : elevations + 1 - 1 ≡ elevations = omega arith in
+      ap (λ (l : List Difference). elevationsDifferences (elevations + 1 - 1) old new ++ l) (in-order-none (one (elevations + 1)) 0)
+      ∙ append-nil (elevationsDifferences (elevations + 1 - 1) old new)
+      ∙ ap (λ (n : ℕ). elevationsDifferences n old new) e
+
+  -- ---- the walk
+  pub record Going (elevations : ℕ) (out₀ out : List ℕ) (elevation azimuth i j count : ℕ) : Type 0 where
+    pub from : 1 ≤ elevation
+    pub most : elevation ≤ elevations + 1
+    pub around : azimuth < azimuths
+    pub past : elevations < elevation → azimuth ≡ 0
+    pub atOld : i ≡ placeOf elevation azimuth old
+    pub atNew : j ≡ placeOf elevation azimuth new
+    pub few : count ≤ index elevation azimuth * 512
+    pub same : sheet count out ≡ onto (done elevation azimuth) (sheet 0 out₀)
+
+  module _ (elevations : ℕ) (hasOld : Has elevations old) (hasNew : Has elevations new) (out₀ : List ℕ) where
+    pub going-start : Going elevations out₀ out₀ 1 0 6 6 0
+    going-start =
+        record {
+          from = omega arith;
+          most = omega arith;
+          around = omega arith;
+          past = λ h. refl;
+          atOld = ap (λ (k : ℕ). 6 + k) (sym (run-none azimuthPart (drop 6 old)));
+          atNew = ap (λ (k : ℕ). 6 + k) (sym (run-none azimuthPart (drop 6 new)));
+          few = omega arith;
+          same = ap (λ (ds : List Difference). onto ds (sheet 0 out₀)) (sym none);
+        }
+      where
+        none : done 1 0 ≡ []
+        none = ap (λ (l : List Difference). l ++ inOrder 0 0 (one 1)) (in-order-none all 1) ∙ in-order-none (one 1) 0
+
+    module _ (out : List ℕ) (elevation azimuth i j count : ℕ) (g : Going elevations out₀ out elevation azimuth i j count) (more : elevation ≤ elevations) where
+      pub going-old : AllHold (azimuthPart .checks (drop i old))
+      going-old = place-checked old elevations hasOld elevation azimuth i (g .from) more (g .around) (g .atOld)
+
+      pub going-new : AllHold (azimuthPart .checks (drop j new))
+      going-new = place-checked new elevations hasNew elevation azimuth j (g .from) more (g .around) (g .atNew)
+
+      pub inside-old : i + (2 + 4 * fetched 2 (drop i old) 0) ≤ length old
+      inside-old = next-inside old elevations hasOld elevation azimuth i (g .from) more (g .around) (g .atOld)
+
+      pub inside-new : j + (2 + 4 * fetched 2 (drop j new) 0) ≤ length new
+      inside-new = next-inside new elevations hasNew elevation azimuth j (g .from) more (g .around) (g .atNew)
+
+      pub going-few : count + 512 ≤ 1000000
+      going-few =
+          let m = map-facts old (hasOld .checked) .most in
+          omega (arith, g .few, g .around, g .from, hasOld .enough, m)
+
+      codes-are : zonesDifferences elevation azimuth (drop i old) (drop j new) ≡ one elevation azimuth
+      codes-are =
+          ap (λ (zs : List Zone). stretches elevation azimuth (codeFrom 0 zs) (codeFrom 0 (azimuthPart .read (drop j new))) 0 1 511)
+          (place-zones old elevations hasOld elevation azimuth i (g .from) more (g .around) (g .atOld))
+          ∙ ap (λ (zs : List Zone). stretches elevation azimuth (codeFrom 0 (zonesAt (mapIn old) elevation azimuth)) (codeFrom 0 zs) 0 1 511)
+          (place-zones new elevations hasNew elevation azimuth j (g .from) more (g .around) (g .atNew))
+
+      module _ (out′ : List ℕ) (count′ i′ j′ : ℕ)
+          (listed : sheet count′ out′ ≡ onto (zonesDifferences elevation azimuth (drop i old) (drop j new)) (sheet count out))
+          (iIs : i′ ≡ i + (2 + 4 * fetched 2 (drop i old) 0)) (jIs : j′ ≡ j + (2 + 4 * fetched 2 (drop j new) 0))
+        where
+          few-more : count′ ≤ (index elevation azimuth + 1) * 512
+          few-more =
+              let ds = zonesDifferences elevation azimuth (drop i old) (drop j new) in
+              let c : count′ ≡ count + length ds = ap (λ (t : Sheet). t .count) listed ∙ onto-count ds (sheet count out) in
+              let l : length ds ≤ 512
+              = runs-few elevation azimuth (codeFrom 0 (azimuthPart .read (drop i old))) (codeFrom 0 (azimuthPart .read (drop j new))) 0 1 511 in
+              omega (arith, c, l, g .few)
+
+          next-same : sheet count′ out′ ≡ onto (done elevation (azimuth + 1)) (sheet 0 out₀)
+          next-same =
+              let ds = one elevation azimuth in
+              listed
+              ∙ ap (λ (l : List Difference). onto l (sheet count out)) codes-are
+              ∙ ap (λ (t : Sheet). onto ds t) (g .same)
+              ∙ sym (onto-append (done elevation azimuth) ds (sheet 0 out₀))
+              ∙ ap (λ (l : List Difference). onto l (sheet 0 out₀)) (sym (done-next elevation azimuth))
+
+          old-next : i′ ≡ 6 + runSize azimuthPart (index elevation azimuth + 1) (drop 6 old)
+          old-next = iIs ∙ next-place old elevations hasOld elevation azimuth i (g .from) more (g .around) (g .atOld)
+
+          new-next : j′ ≡ 6 + runSize azimuthPart (index elevation azimuth + 1) (drop 6 new)
+          new-next = jIs ∙ next-place new elevations hasNew elevation azimuth j (g .from) more (g .around) (g .atNew)
+
+          pub going-on : (azimuth + 1 ≡ azimuths → ⊥) → Going elevations out₀ out′ elevation (azimuth + 1) i′ j′ count′
+          going-on n =
+              let e : index elevation azimuth + 1 ≡ index elevation (azimuth + 1) = omega arith in
+              record {
+                from = g .from;
+                most = g .most;
+                around = omega (arith, g .around, n);
+                past = λ h. absurd (omega arith);
+                atOld = old-next ∙ ap (λ (k : ℕ). 6 + runSize azimuthPart k (drop 6 old)) e;
+                atNew = new-next ∙ ap (λ (k : ℕ). 6 + runSize azimuthPart k (drop 6 new)) e;
+                few = omega (arith, few-more);
+                same = next-same;
+              }
+
+          pub going-up : azimuth + 1 ≡ azimuths → Going elevations out₀ out′ (elevation + 1) 0 i′ j′ count′
+          going-up e =
+              let f : index elevation azimuth + 1 ≡ index (elevation + 1) 0 = omega (arith, e, g .from) in
+              record {
+                from = omega arith;
+                most = omega arith;
+                around = omega arith;
+                past = λ h. refl;
+                atOld = old-next ∙ ap (λ (k : ℕ). 6 + runSize azimuthPart k (drop 6 old)) f;
+                atNew = new-next ∙ ap (λ (k : ℕ). 6 + runSize azimuthPart k (drop 6 new)) f;
+                few = omega (arith, few-more, f);
+                same =
+                    next-same
+                    ∙ ap (λ (k : ℕ). onto (done elevation k) (sheet 0 out₀)) e
+                    ∙ ap (λ (l : List Difference). onto l (sheet 0 out₀)) (sym (done-segment elevation (g .from)));
+              }
+
+    pub going-done : (out : List ℕ) (elevation azimuth i j count : ℕ) → Going elevations out₀ out elevation azimuth i j count → elevations < elevation
+        → sheet count out ≡ onto (elevationsDifferences elevations old new) (sheet 0 out₀)
+    going-done out elevation azimuth i j count g h =
+        let e : elevation ≡ elevations + 1 = omega (arith, g .most) in
+        g .same
+        ∙ ap (λ (k : ℕ). onto (done elevation k) (sheet 0 out₀)) (g .past h)
+        ∙ ap (λ (k : ℕ). onto (done k 0) (sheet 0 out₀)) e
+        ∙ ap (λ (l : List Difference). onto l (sheet 0 out₀)) (done-all elevations)
+
+-- ---- the part of a slice from a place on, as it is lent
+pub checked-part : (b : List ℕ) (at : ℕ) → AllHold (azimuthPart .checks (drop at b)) → AllHold (azimuthPart .checks (take (length b - at) (drop at b)))
+checked-part b at h = subst (λ (x : List ℕ). AllHold (azimuthPart .checks x)) (sym (part-from b at)) h
+
+pub size-part : (b : List ℕ) (at : ℕ) → 2 + 4 * fetched 2 (take (length b - at) (drop at b)) 0 ≡ 2 + 4 * fetched 2 (drop at b) 0
+size-part b at = ap (λ (x : List ℕ). 2 + 4 * fetched 2 x 0) (part-from b at)
+
+pub parts-listed : (elevation azimuth : ℕ) (old new : List ℕ) (i j : ℕ) (s : Sheet)
+    → onto (zonesDifferences elevation azimuth (take (length old - i) (drop i old)) (take (length new - j) (drop j new))) s
+    ≡ onto (zonesDifferences elevation azimuth (drop i old) (drop j new)) s
+parts-listed elevation azimuth old new i j s =
+    ap (λ (x : List ℕ). onto (zonesDifferences elevation azimuth x (take (length new - j) (drop j new))) s) (part-from old i)
+    ∙ ap (λ (x : List ℕ). onto (zonesDifferences elevation azimuth (drop i old) x) s) (part-from new j)

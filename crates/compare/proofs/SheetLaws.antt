@@ -1,0 +1,111 @@
+-- Differences laid on a sheet one after the other. Assumes nothing.
+use Prim.Native.Nat.{ℕ, zero, suc, _+_, _*_, _-_, _≤_, _<_}
+use native.Mathlib.Nat.{add-zero, suc-add}
+use native.Mathlib.Omega.{arith}
+use mathlib.Core.Path.{_≡_, refl, sym, ap, _∙_}
+use mathlib.Core.Bool.{Bool, true, false}
+use mathlib.Core.List.{List, [], _∷_, _++_, append-assoc}
+use lib.Dec.{leb}
+use lib.ListN.{length, take, drop, set, length-drop, length-append}
+use lib.Seq.{drop-drop, length-take-le}
+use native.Mathlib.Numerals.{add-one}
+use borrow.Author.Tests.{leb-true, le-leb, lt-leb, eq-eqb, ne-eqb}
+use Rattle.wire.specs.Checks.{pick}
+use Rattle.wire.specs.Writing.{filled}
+use Rattle.differences.specs.Differences.{Difference, stretch}
+use Rattle.differences.specs.Comparing.{halfwords}
+use Rattle.differences.proofs.Most.{halfwords-length}
+use Rattle.compare.specs.Sheets.{Sheet, sheet, lay, onto}
+
+-- six halfwords stored one after the other in six places
+pub six-stored : (out : List ℕ) (a b c d e f : ℕ) → length out ≡ 6 → set (set (set (set (set (set out 0 a) 1 b) 2 c) 3 d) 4 e) 5 f ≡ a ∷ b ∷ c ∷ d ∷ e ∷ f ∷ []
+six-stored [] a b c d e f h = absurd (omega arith)
+six-stored (x₁ ∷ []) a b c d e f h = absurd (omega arith)
+six-stored (x₁ ∷ x₂ ∷ []) a b c d e f h = absurd (omega arith)
+six-stored (x₁ ∷ x₂ ∷ x₃ ∷ []) a b c d e f h = absurd (omega arith)
+six-stored (x₁ ∷ x₂ ∷ x₃ ∷ x₄ ∷ []) a b c d e f h = absurd (omega arith)
+six-stored (x₁ ∷ x₂ ∷ x₃ ∷ x₄ ∷ x₅ ∷ []) a b c d e f h = absurd (omega arith)
+six-stored (x₁ ∷ x₂ ∷ x₃ ∷ x₄ ∷ x₅ ∷ x₆ ∷ []) a b c d e f h = refl
+six-stored (x₁ ∷ x₂ ∷ x₃ ∷ x₄ ∷ x₅ ∷ x₆ ∷ x₇ ∷ xs) a b c d e f h = absurd (omega arith)
+
+-- ---- one difference
+pub lay-room : (d : Difference) (count : ℕ) (out : List ℕ) → 6 * count + 6 ≤ length out
+    → lay d (sheet count out) ≡ sheet (suc count) (take (6 * count) out ++ (halfwords (d ∷ []) ++ drop 6 (drop (6 * count) out)))
+unfolding lay
+lay-room d count out h = simp (le-leb (6 * count + 6) (length out) h)
+
+pub lay-none : (d : Difference) (count : ℕ) (out : List ℕ) → length out < 6 * count + 6 → lay d (sheet count out) ≡ sheet (suc count) out
+unfolding lay
+lay-none d count out h = simp (lt-leb (6 * count + 6) (length out) h)
+
+-- by its six halfwords
+pub lay-six : (d : Difference) (count : ℕ) (out : List ℕ) → 6 * count + 6 ≤ length out
+    → lay d (sheet count out)
+    ≡ sheet (suc count) (take (6 * count) out ++ ((d .elevation ∷ d .azimuth ∷ d .first ∷ d .last ∷ d .old ∷ d .new ∷ []) ++ drop 6 (drop (6 * count) out)))
+unfolding halfwords
+lay-six d count out h = lay-room d count out h
+
+-- ---- many
+pub onto-append : (ds es : List Difference) (s : Sheet) → onto (ds ++ es) s ≡ onto es (onto ds s)
+onto-append [] es s = refl
+onto-append (d ∷ ds) es s = onto-append ds es (lay d s)
+
+lay-count : (d : Difference) (s : Sheet) → lay d s .count ≡ suc (s .count)
+unfolding lay
+lay-count d s = refl
+
+pub onto-count : (ds : List Difference) (s : Sheet) → onto ds s .count ≡ s .count + length ds
+onto-count [] s = sym (add-zero (s .count))
+onto-count (d ∷ ds) s =
+    let i = onto-count ds (lay d s) in
+    let e = lay-count d s in
+    omega (arith, i, e)
+
+part-length : (at n : ℕ) (out ys : List ℕ) → at + n ≤ length out → length ys ≡ n → length (take at out ++ (ys ++ drop n (drop at out))) ≡ length out
+part-length at n out ys h e =
+    let a = length-append (take at out) (ys ++ drop n (drop at out)) in
+    let b = length-append ys (drop n (drop at out)) in
+    let c = length-take-le at out (omega arith) in
+    let f = length-drop n (drop at out) in
+    let g = length-drop at out in
+    omega (arith, a, b, c, f, g)
+
+lay-length : (d : Difference) (s : Sheet) → length (lay d s .out) ≡ length (s .out)
+unfolding lay
+lay-length d s = go (leb (6 * s .count + 6) (length (s .out))) refl
+  where
+    go : (t : Bool) → leb (6 * s .count + 6) (length (s .out)) ≡ t
+        → length (pick t (take (6 * s .count) (s .out) ++ (halfwords (d ∷ []) ++ drop 6 (drop (6 * s .count) (s .out)))) (s .out)) ≡ length (s .out)
+    go true e = part-length (6 * s .count) 6 (s .out) (halfwords (d ∷ [])) (leb-true (6 * s .count + 6) (length (s .out)) e) (halfwords-length (d ∷ []))
+    go false e = refl
+
+pub onto-length : (ds : List Difference) (s : Sheet) → length (onto ds s .out) ≡ length (s .out)
+onto-length [] s = refl
+onto-length (d ∷ ds) s = onto-length ds (lay d s) ∙ lay-length d s
+
+-- ---- a stretch, as `list` lists it
+module _ (elevation azimuth first next old new count : ℕ) (out : List ℕ) where
+  difference : Difference
+  difference = record { elevation = elevation; azimuth = azimuth; first = first; last = next - 1; old = old; new = new }
+
+  pub list-same : old ≡ new → sheet count out ≡ onto (stretch elevation azimuth (λ k. old) (λ k. new) first next) (sheet count out)
+  list-same e = simp (eq-eqb old new e)
+
+  module _ (apart : old ≡ new → ⊥) where
+    listed : onto (stretch elevation azimuth (λ k. old) (λ k. new) first next) (sheet count out) ≡ lay difference (sheet count out)
+    unfolding difference
+    listed = simp (ne-eqb old new apart)
+
+    pub list-counted : length out < 6 * count + 6
+        → sheet (count + 1) out ≡ onto (stretch elevation azimuth (λ k. old) (λ k. new) first next) (sheet count out)
+    list-counted h = ap (λ (n : ℕ). sheet n out) (add-one count) ∙ sym (listed ∙ lay-none difference count out h)
+
+    pub list-laid : (n : ℕ) (six : List ℕ) → n ≡ 6 → six ≡ elevation ∷ azimuth ∷ first ∷ (next - 1) ∷ old ∷ new ∷ [] → 6 * count + 6 ≤ length out
+        → sheet (count + 1) (take (6 * count) out ++ (six ++ drop n (drop (6 * count) out)))
+        ≡ onto (stretch elevation azimuth (λ k. old) (λ k. new) first next) (sheet count out)
+    unfolding difference
+    list-laid n six e f h =
+        ap (λ (k : ℕ). sheet k (take (6 * count) out ++ (six ++ drop n (drop (6 * count) out)))) (add-one count)
+        ∙ ap (λ (k : ℕ). sheet (suc count) (take (6 * count) out ++ (six ++ drop k (drop (6 * count) out)))) e
+        ∙ ap (λ (l : List ℕ). sheet (suc count) (take (6 * count) out ++ (l ++ drop 6 (drop (6 * count) out)))) f
+        ∙ sym (listed ∙ lay-six difference count out h)

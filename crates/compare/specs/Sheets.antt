@@ -1,0 +1,68 @@
+-- What the inner functions answer: differences listed one after the other as far as the output has room for them, and counted beyond.
+use Prim.Native.Nat.{ℕ, suc, _+_, _*_, _≤_}
+use mathlib.Core.Path.{_≡_}
+use mathlib.Core.List.{List, [], _∷_, _++_}
+use lib.Dec.{leb}
+use lib.ListN.{length, take, drop}
+use Rattle.wire.specs.Checks.{pick, AllHold}
+use Rattle.map.specs.Map.{lastKilometre, azimuths, codeFrom}
+use Rattle.map.specs.Reading.{azimuthPart, segmentsIn, mapChecks, mapIn}
+use Rattle.differences.specs.Differences.{Difference, stretches, azimuthDifferences, inOrder, presentInBoth, differences}
+use Rattle.differences.specs.Comparing.{halfwords}
+
+-- the differences counted so far, and the output
+pub record Sheet : Type 0 where
+  pub count : ℕ
+  pub out : List ℕ
+
+abbrev pub sheet : ℕ → List ℕ → Sheet
+sheet count out = record { count = count; out = out }
+
+-- one more difference
+unfoldable pub lay : Difference → Sheet → Sheet
+lay d s =
+    record {
+      count = suc (s .count);
+      out =
+          pick (leb (6 * s .count + 6) (length (s .out)))
+          (take (6 * s .count) (s .out) ++ (halfwords (d ∷ []) ++ drop 6 (drop (6 * s .count) (s .out))))
+          (s .out);
+    }
+
+abbrev pub onto : List Difference → Sheet → Sheet
+onto [] s = s
+onto (d ∷ ds) s = onto ds (lay d s)
+
+-- the azimuth that a part of each body begins with, both checked
+abbrev pub zonesDifferences : ℕ → ℕ → List ℕ → List ℕ → List Difference
+zonesDifferences elevation azimuth old new =
+    stretches elevation azimuth (codeFrom 0 (azimuthPart .read old)) (codeFrom 0 (azimuthPart .read new)) 0 1 lastKilometre
+
+-- so many elevation segments of both bodies
+abbrev pub elevationsDifferences : ℕ → List ℕ → List ℕ → List Difference
+elevationsDifferences elevations old new =
+    inOrder 1 elevations (λ elevation. inOrder 0 azimuths (λ azimuth. azimuthDifferences (mapIn old) (mapIn new) elevation azimuth))
+
+-- a checked body has so many elevation segments, or more
+pub record Has (elevations : ℕ) (b : List ℕ) : Type 0 where
+  pub checked : AllHold (mapChecks b)
+  pub enough : elevations ≤ segmentsIn b
+
+-- exactly so many
+pub record Counts (elevations : ℕ) (b : List ℕ) : Type 0 where
+  pub checked : AllHold (mapChecks b)
+  pub all : elevations ≡ segmentsIn b
+
+-- both bodies are checked, and so many elevation segments are present in both
+pub record Checked (elevations : ℕ) (old new : List ℕ) : Type 0 where
+  pub inOld : AllHold (mapChecks old)
+  pub inNew : AllHold (mapChecks new)
+  pub present : elevations ≡ presentInBoth (mapIn old) (mapIn new)
+
+-- what is listed of two bodies
+abbrev pub listOf : List ℕ → List ℕ → List ℕ
+listOf old new = halfwords (differences (mapIn old) (mapIn new))
+
+-- above any number of differences of an azimuth before it, and of all azimuths
+abbrev pub mostCounted : ℕ
+mostCounted = 1000000

@@ -1,0 +1,207 @@
+// Two clutter filter maps compared: both are checked, their differences counted and, where the output has room for all of them, listed.
+use filter::AZIMUTHS;
+use filter::LAST_KILOMETRE;
+use filter::MapAnswer;
+use wire::refusal;
+ghost use mathlib.Core.Path.{_≡_};
+ghost use Prim.Native.Nat.{_+_, _*_, _≤_, _<_};
+ghost use mathlib.Core.Bool.{not};
+ghost use mathlib.Core.List.{[], _∷_};
+ghost use lib.Dec.{ltb, leb, eqb};
+ghost use lib.ListN.{length};
+ghost use Rattle.wire.specs.Answers.{Promise};
+ghost use Rattle.wire.specs.Numbers.{fetched};
+ghost use Rattle.wire.specs.Checks.{pick, both, AllHold};
+ghost use Rattle.map.specs.Reading.{azimuthPart};
+ghost use Rattle.differences.specs.Differences.{stretch};
+ghost use Rattle.differences.specs.Comparing.{comparisonOf};
+ghost use Rattle.compare.specs.Answers.{tellCompare};
+ghost use Rattle.compare.specs.Sheets.{mostCounted, sheet, onto, zonesDifferences, elevationsDifferences, listOf, Has, Counts, Checked};
+
+// The halfwords that a difference takes.
+const SIZE: usize = 6;
+
+// Those that as many differences take as two maps can have: 39 in each of 360 azimuths of 5 elevation segments.
+const MOST: usize = 421200;
+
+// The elevation segments of the old and of the new map and the number of differences, or the number of refusal.
+pub enum CompareAnswer {
+    Compared(u16, u16, u32),
+    Refused(u8),
+}
+
+fn least(a: u16, b: u16) -> u16
+    ensures { λ r. ⌜ r ≡ pick (ltb a b) a b ⌝ }
+{
+    if a < b {
+        return a;
+    }
+    b
+}
+
+// The zone that counts after a kilometre: the one at a place, or the next one if that one ends there.
+fn past(at: u32, end: u16, kilometre: u16) -> u32
+    requires { ⌜ at < 65536 ⌝ }
+    ensures { λ r. ⌜ r ≡ pick (eqb end kilometre) (at + 4) at ⌝ }
+{
+    if end == kilometre {
+        return at + 4;
+    }
+    at
+}
+
+// Whether two codes are no longer those of a stretch.
+fn changed(was: u16, is: u16, old: u16, new: u16) -> bool
+    ensures { λ r. ⌜ r ≡ not (both (eqb was old) (eqb is new)) ⌝ }
+{
+    if was == old {
+        return is != new;
+    }
+    true
+}
+
+// A difference, stored in six halfwords.
+fn put(out: &mut [u16], elevation: u16, azimuth: u16, first: u16, last: u16, old: u16, new: u16)
+    requires { ⌜ length (now out) ≡ 6 ⌝ }
+    ensures { λ r. ⌜ now (out .exit) ≡ elevation ∷ azimuth ∷ first ∷ last ∷ old ∷ new ∷ [] ⌝ }
+{
+    out[0] = elevation;
+    out[1] = azimuth;
+    out[2] = first;
+    out[3] = last;
+    out[4] = old;
+    out[5] = new;
+}
+
+// A stretch of kilometres that ends before the next one, listed after so many differences if its codes differ and there is room for it.
+fn list(
+    out: &mut [u16],
+    count: usize,
+    elevation: u16,
+    azimuth: u16,
+    first: u16,
+    next: u16,
+    old: u16,
+    new: u16,
+) -> usize
+    requires { ⌜ (count ≤ mostCounted) × (1 ≤ next) ⌝ }
+    ensures { λ r. ⌜ sheet r (now (out .exit)) ≡ onto (stretch elevation azimuth (λ k. old) (λ k. new) first next) (sheet count (now (out .entry))) ⌝ }
+{
+    if old == new {
+        return count;
+    }
+    let at = SIZE * count;
+    let end = at + SIZE;
+    if out.len() < end {
+        return count + 1;
+    }
+    let last = next - 1;
+    put(&mut out[at..end], elevation, azimuth, first, last, old, new);
+    count + 1
+}
+
+// The azimuth that a part of each body begins with: the zones of both are walked side by side, from one end of either to the next.
+fn compare_zones(
+    old: &[u8],
+    new: &[u8],
+    elevation: u16,
+    azimuth: u16,
+    out: &mut [u16],
+    count: usize,
+) -> usize
+    requires { ⌜ AllHold (azimuthPart .checks (now old)) × AllHold (azimuthPart .checks (now new)) × (count + 512 ≤ mostCounted) ⌝ }
+    ensures { λ r. ⌜ sheet r (now (out .exit)) ≡ onto (zonesDifferences elevation azimuth (now (old .entry)) (now (new .entry))) (sheet count (now (out .entry))) ⌝ }
+{
+    let mut i: u32 = 2;
+    let mut j: u32 = 2;
+    let mut next: u16 = 0;
+    let mut first: u16 = 0;
+    let mut was = wire::fetch16(old, 2);
+    let mut is = wire::fetch16(new, 2);
+    let mut listed = count;
+    while next as usize <= LAST_KILOMETRE {
+        let code = wire::fetch16(old, i);
+        let other = wire::fetch16(new, j);
+        if changed(was, is, code, other) {
+            listed = list(out, listed, elevation, azimuth, first, next, was, is);
+            first = next;
+            was = code;
+            is = other;
+        }
+        let end_old = wire::fetch16(old, i + 2);
+        let end_new = wire::fetch16(new, j + 2);
+        let end = least(end_old, end_new);
+        i = past(i, end_old, end);
+        j = past(j, end_new, end);
+        next = end + 1;
+    }
+    list(out, listed, elevation, azimuth, first, next, was, is)
+}
+
+// The bytes that the azimuth takes which a part begins with.
+fn size_of(part: &[u8]) -> usize
+    ensures { λ r. ⌜ r ≡ 2 + 4 * fetched 2 (now (part .entry)) 0 ⌝ }
+{
+    2 + 4 * wire::fetch16(part, 0) as usize
+}
+
+// So many elevation segments of both bodies, azimuth by azimuth.
+fn compare_azimuths(old: &[u8], new: &[u8], elevations: u16, out: &mut [u16]) -> usize
+    requires { ⌜ Has elevations (now old) × Has elevations (now new) ⌝ }
+    ensures { λ r. ⌜ sheet r (now (out .exit)) ≡ onto (elevationsDifferences elevations (now (old .entry)) (now (new .entry))) (sheet 0 (now (out .entry))) ⌝ }
+{
+    let mut elevation: u16 = 1;
+    let mut azimuth: u16 = 0;
+    let mut i: usize = 6;
+    let mut j: usize = 6;
+    let mut count: usize = 0;
+    while elevation <= elevations {
+        count = compare_zones(&old[i..], &new[j..], elevation, azimuth, out, count);
+        i += size_of(&old[i..]);
+        j += size_of(&new[j..]);
+        azimuth += 1;
+        if azimuth as usize == AZIMUTHS {
+            azimuth = 0;
+            elevation += 1;
+        }
+    }
+    count
+}
+
+// Whether all differences have room. Where as many have room as two maps can have, they need not be counted.
+fn has_room(old: &[u8], new: &[u8], elevations: u16, out: &mut [u16]) -> bool
+    requires { ⌜ Checked elevations (now old) (now new) ⌝ }
+    ensures { λ r. ⌜ (r ≡ leb (length (listOf (now (old .entry)) (now (new .entry)))) (length (now (out .entry)))) × (now (out .exit) ≡ now (out .entry)) ⌝ }
+{
+    if MOST <= out.len() {
+        return true;
+    }
+    let count = compare_azimuths(old, new, elevations, &mut out[0..0]);
+    SIZE * count <= out.len()
+}
+
+// Two checked bodies of so many elevation segments.
+fn compare_checked(old: &[u8], new: &[u8], older: u16, newer: u16, out: &mut [u16]) -> CompareAnswer
+    requires { ⌜ Counts older (now old) × Counts newer (now new) ⌝ }
+    ensures { λ r. ⌜ Promise tellCompare (comparisonOf (now (old .entry)) (now (new .entry)) (now (out .entry))) r (now (out .exit)) ⌝ }
+{
+    let elevations = least(older, newer);
+    if !has_room(old, new, elevations, out) {
+        return CompareAnswer::Refused(refusal::OUTPUT_SMALL);
+    }
+    let count = compare_azimuths(old, new, elevations, out);
+    CompareAnswer::Compared(older, newer, count as u32)
+}
+
+// Two bodies 15: their elevation segments and the number of their differences, each listed as six halfwords.
+pub fn compare(old: &[u8], new: &[u8], out: &mut [u16]) -> CompareAnswer
+    ensures { λ r. ⌜ Promise tellCompare (comparisonOf (now (old .entry)) (now (new .entry)) (now (out .entry))) r (now (out .exit)) ⌝ }
+{
+    match filter::check_map(old) {
+        MapAnswer::Refused(number) => CompareAnswer::Refused(number),
+        MapAnswer::Map(_, _, older) => match filter::check_map(new) {
+            MapAnswer::Refused(number) => CompareAnswer::Refused(number),
+            MapAnswer::Map(_, _, newer) => { compare_checked(old, new, older, newer, out) }
+        },
+    }
+}
