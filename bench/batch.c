@@ -105,7 +105,7 @@ TASK(write_radial)
 
 TASK(map)
 {
-    return ASK(map)(sweep.map, sweep.map_size).elevations;
+    return ASK(map)(sweep.map.bytes, sweep.map.size).elevations;
 }
 
 enum { QUERIES = 5 };
@@ -114,8 +114,26 @@ TASK(map_code)
 {
     uint64_t sum = 0;
     for (uint64_t i = 0; i < QUERIES; i++)
-        sum += ASK(map_code)(sweep.map, sweep.map_size, 1 + i, 70 * i, 100 * i).code;
+        sum += ASK(map_code)(sweep.map.bytes, sweep.map.size, 1 + i, 70 * i, 100 * i).code;
     return sum;
+}
+
+/* The differences, and the last kilometre of the first one. */
+static inline uint64_t compare_with(const struct map *m)
+{
+    ANSWER(comparison) r
+        = ASK(compare_maps)(sweep.map.bytes, sweep.map.size, m->bytes, m->size, sweep.list, MOST_HALFWORDS);
+    return r.differences + sweep.list[3];
+}
+
+TASK(compare_near)
+{
+    return compare_with(&sweep.near);
+}
+
+TASK(compare_apart)
+{
+    return compare_with(&sweep.apart);
 }
 
 const struct batch JOINED(SIDE, batches)[] = {
@@ -130,5 +148,7 @@ const struct batch JOINED(SIDE, batches)[] = {
     { "write_radial", RADIALS, JOINED(SIDE, task_write_radial) },
     { "map", 1, JOINED(SIDE, task_map) },
     { "map_code", QUERIES, JOINED(SIDE, task_map_code) },
+    { "compare_near", 1, JOINED(SIDE, task_compare_near) },
+    { "compare_apart", 1, JOINED(SIDE, task_compare_apart) },
     { NULL, 0, NULL },
 };

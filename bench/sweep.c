@@ -43,5 +43,7 @@ void make_sweep(void)
     struct chance c = { 720 };
     make_recording(&c);
     make_set(&c);
-    sweep.map_size = make_map(sweep.map, 5, 4, &c);
+    sweep.map.size = make_map(sweep.map.bytes, 5, 4, &c);
+    sweep.near.size = make_near_map(sweep.near.bytes, sweep.map.bytes, 100, &c);
+    sweep.apart.size = make_map(sweep.apart.bytes, 5, 4, &c);
 }

@@ -1,7 +1,7 @@
 /*
  * What the benchmark works on: the sample recording's shape scaled to one sweep. 720 radials of nine blocks each (REF
- * with 1,832 gates, VEL, SW, ZDR, RHO with 1,192 of 8 bits, PHI with 1,192 of 16), a set of 128 full segments, and a
- * filter map of five elevation segments.
+ * with 1,832 gates, VEL, SW, ZDR, RHO with 1,192 of 8 bits, PHI with 1,192 of 16), a set of 128 full segments, a filter
+ * map of five elevation segments, and two to compare it with.
  */
 #ifndef SWEEP_H
 #define SWEEP_H
@@ -9,14 +9,22 @@
 #include <stddef.h>
 #include <stdint.h>
 
-enum { RADIALS = 720, BODY = 9304, FRAME = BODY + 28, LONG_BODY = 307200, SEGMENTS = 128 };
+enum { RADIALS = 720, BODY = 9304, FRAME = BODY + 28, LONG_BODY = 307200, SEGMENTS = 128, LONG_MAP = 147606 };
+enum { MOST_HALFWORDS = 421200 }; /* of a list of differences */
+
+struct map {
+    uint8_t bytes[LONG_MAP];
+    size_t size;
+};
 
 struct sweep {
     uint8_t recording[RADIALS * FRAME]; /* frame i begins at i * FRAME, its message 12 and its body 28 bytes after that */
     uint8_t long_body[LONG_BODY];
     uint8_t set[LONG_BODY + SEGMENTS * 28]; /* long_body in 128 frames, out of order */
-    uint8_t map[147606];
-    size_t map_size;
+    struct map map;
+    struct map near;  /* the same but for one azimuth in 100 */
+    struct map apart; /* of the same shape, its zones by chance too */
+    uint16_t list[MOST_HALFWORDS];
     uint8_t out[LONG_BODY + SEGMENTS * 28];
 };
 

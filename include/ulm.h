@@ -358,6 +358,28 @@ typedef struct ulm_map_code_answer {
 ulm_map_code_answer ulm_map_code(const uint8_t *body, size_t len, uint64_t elevation, uint64_t azimuth,
                                  uint64_t kilometre);
 
+typedef struct ulm_comparison_answer {
+    uint32_t refusal;
+    uint32_t old_elevations; /* elevation segments of the old map, 1 to 5 */
+    uint32_t new_elevations; /* and of the new one */
+    uint32_t differences;    /* how many are listed, at most 70,200 */
+} ulm_comparison_answer;
+
+/*
+ * Compares the bodies of two filter maps and lists each difference as six halfwords: elevation segment (from 1),
+ * azimuth (0-359), first and last kilometre (0-511), old code, new code. The output has room for n halfwords and gets
+ * the machine's own numbers, not big-endian ones.
+ *
+ * A difference is a run of kilometres of one azimuth on which the codes differ, as long as both stay the same: the end
+ * of a zone at which neither code changes ends no run. Order is by elevation segment, azimuth, kilometre. Elevation
+ * segments that only one of the maps has aren't compared, nor are date and minutes.
+ * An azimuth has at most 39 differences, so at most 421,200 halfwords are written. Both maps may be the same memory.
+ *
+ * Refusals, in order: those of ulm_map for the old map, those for the new one, 13.
+ */
+ulm_comparison_answer ulm_compare_maps(const uint8_t *old_map, size_t old_len, const uint8_t *new_map, size_t new_len,
+                                       uint16_t *out, size_t n);
+
 #ifdef __cplusplus
 }
 #endif

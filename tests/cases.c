@@ -50,6 +50,13 @@ static void add_bytes(const uint8_t *p, size_t n)
     text[text_length] = 0;
 }
 
+static void add_halfwords(const uint16_t *p, size_t n)
+{
+    add("x");
+    for (size_t i = 0; i < n; i++)
+        add("%04x", p[i]);
+}
+
 /* A question's words after the entry: numbers, and bytes. */
 static char *words[MOST_WORDS];
 static size_t word_count;
@@ -256,9 +263,8 @@ static void ask_censor(void)
     struct bytes b = bytes(0);
     JOINED(SIDE, censor_answer) r = ASK(censor)(b.at, b.n);
     if (accepted(r.refusal, 0)) {
-        add("censor %u x", r.count);
-        for (size_t i = 0; i < 150; i++)
-            add("%04x", r.regions[i]);
+        add("censor %u ", r.count);
+        add_halfwords(r.regions, 150);
     }
     free(b.at);
 }
@@ -289,6 +295,21 @@ static void ask_map_code(void)
     free(b.at);
 }
 
+/* The room is counted in halfwords. */
+static void ask_compare(void)
+{
+    struct bytes old_map = bytes(1), new_map = bytes(2);
+    lend(number(0) < MOST_ROOM / 2 ? 2 * number(0) : MOST_ROOM);
+    uint16_t *list = (uint16_t *)(void *)output;
+    JOINED(SIDE, comparison_answer) r = ASK(compare_maps)(old_map.at, old_map.n, new_map.at, new_map.n, list, room / 2);
+    if (accepted(r.refusal, 12 * (uint64_t)r.differences)) {
+        add("compare %u %u %u ", r.old_elevations, r.new_elevations, r.differences);
+        add_halfwords(list, 6 * (size_t)r.differences);
+    }
+    free(old_map.at);
+    free(new_map.at);
+}
+
 static const struct {
     const char *entry;
     size_t words;
@@ -307,6 +328,7 @@ static const struct {
     { "write-censor", 2, ask_write_censor },
     { "map", 1, ask_map },
     { "map-code", 4, ask_map_code },
+    { "compare", 3, ask_compare },
 };
 
 static void ask(const char *entry)

@@ -8,6 +8,7 @@
 #include <string.h>
 #include <unistd.h>
 
+#include "kilometres.h"
 #include "lend.h"
 #include "make.h"
 #include "plain.h"
@@ -17,7 +18,7 @@
 
 enum entry {
     FRAME, HEADER, SET, WRITE, RADIAL, BLOCK, GATES, GATE, VALUE, REQUEST, WRITE_REQUEST, CENSOR, WRITE_CENSOR, MAP,
-    MAP_CODE, ENTRIES
+    MAP_CODE, COMPARE, ENTRIES
 };
 
 enum { LAST_REFUSAL = 26 };
@@ -45,6 +46,7 @@ static const struct {
     [WRITE_CENSOR] = { "write-censor", "n", ONLY(13) | FROM(23, 24) },
     [MAP] = { "map", "", FROM(23, 24) },
     [MAP_CODE] = { "map-code", "nnn", ONLY(21) | FROM(23, 24) },
+    [COMPARE] = { "compare", "n", ONLY(13) | FROM(23, 24) },
 };
 
 static uint64_t answers[ENTRIES][LAST_REFUSAL + 1];
@@ -57,10 +59,12 @@ enum { MOST_FIELDS = 16 };
 static struct {
     enum entry entry;
     uint64_t numbers[6];
-    const void *bytes; /* the input; only VALUE has none */
-    size_t n;          /* in bytes */
-    int halfwords;     /* the input is a list of them */
-    const char *side;  /* who is asked, for a fault */
+    const void *bytes;     /* the input; only VALUE has none */
+    size_t n;              /* in bytes */
+    int halfwords;         /* the input is a list of them */
+    const uint8_t *second; /* the other input; only COMPARE has one */
+    size_t second_n;
+    const char *side;      /* who is asked, for a fault */
     size_t fields;
     struct {
         const char *name;
@@ -68,11 +72,10 @@ static struct {
     } field[MOST_FIELDS];
 } now;
 
-static void write_input(void)
+static void write_input(const uint8_t *bytes, size_t n)
 {
-    const uint8_t *bytes = now.bytes;
     printf(" x");
-    for (size_t i = 0; i < now.n; i++)
+    for (size_t i = 0; i < n; i++)
         printf("%02x", bytes[now.halfwords ? i ^ 1 : i]); /* a halfword's high byte first */
 }
 
@@ -82,7 +85,9 @@ static void write_question(void)
     for (size_t i = 0; entries[now.entry].arguments[i] != 0; i++)
         printf(entries[now.entry].arguments[i] == 'x' ? " x%08" PRIx64 : " %" PRIu64, now.numbers[i]);
     if (now.entry != VALUE)
-        write_input();
+        write_input(now.bytes, now.n);
+    if (now.entry == COMPARE)
+        write_input(now.second, now.second_n);
     printf("\n");
 }
 
@@ -106,12 +111,13 @@ static void fault(int signal)
 
 /* ---- Lent memory ---- */
 
-static struct lent input, output;
+static struct lent input, second, output;
 static struct chance ways;
 static int heap;
 
 /* What an output holds before the call, and what the plain implementation makes of it. */
-static uint8_t before[MOST_BYTES], expected[MOST_BYTES];
+static uint8_t before[MOST_BYTES];
+static _Alignas(uint16_t) uint8_t expected[MOST_BYTES];
 
 void compare_open(uint64_t seed, int on_heap)
 {
@@ -121,6 +127,7 @@ void compare_open(uint64_t seed, int on_heap)
     sigaction(SIGILL, &action, NULL);
     sigaction(SIGFPE, &action, NULL);
     lent_open(&input, MOST_BYTES);
+    lent_open(&second, MOST_BYTES);
     lent_open(&output, MOST_BYTES);
     seed_of_run = seed;
     ways.state = ~seed;
@@ -152,11 +159,22 @@ static const uint8_t *lend_bytes(void)
     return lend(&input, now.bytes, now.n, any_way(), (unsigned)below(&ways, 64));
 }
 
+static const uint8_t *lend_second(void)
+{
+    return lend(&second, now.second, now.second_n, any_way(), (unsigned)below(&ways, 64));
+}
+
+/* Halfwords lie at even places, unless there are none. */
+static uint16_t *lend_halfwords(struct lent *l, const void *bytes, size_t n)
+{
+    unsigned odd = (unsigned)below(&ways, 64);
+    return (uint16_t *)(void *)lend(l, bytes, n, any_way(), n == 0 ? odd : odd & ~1u);
+}
+
 static const uint16_t *lend_list(void)
 {
     now.side = "libulm";
-    unsigned odd = (unsigned)below(&ways, 64);
-    return (const uint16_t *)(void *)lend(&input, now.bytes, now.n, any_way(), now.n == 0 ? odd : odd & ~1u);
+    return lend_halfwords(&input, now.bytes, now.n);
 }
 
 /* The output's contents before a call begin at any of 256 places, so that no byte is the same each time. */
@@ -198,17 +216,34 @@ static void same(const char *name, uint64_t plain, uint64_t ulm)
 #define SAME_EACH_HEADER                                                                                               \
     SAME(size), SAME(channel), SAME(type), SAME(sequence), SAME(date), SAME(ms), SAME(segments), SAME(number)
 
+/* The first of n halfwords that differs, and its place. */
+static void same_halfwords(const char *place, const char *name, const uint16_t *plain, const uint16_t *ulm, size_t n)
+{
+    for (size_t i = 0; i < n; i++)
+        if (plain[i] != ulm[i]) {
+            same(place, i, i);
+            same(name, plain[i], ulm[i]);
+            return;
+        }
+}
+
+static void settle_input(struct lent *l, const void *bytes)
+{
+    if (l->n != 0 && memcmp(l->at, bytes, l->n) != 0)
+        fail("an input was changed");
+    if (!taken_back(l))
+        fail("memory beside an input was changed");
+}
+
 static void settle(void)
 {
     for (size_t i = 0; i < now.fields; i++)
         if (now.field[i].plain != now.field[i].ulm)
             fail("the answers differ");
-    if (now.entry != VALUE) {
-        if (now.n != 0 && memcmp(input.at, now.bytes, now.n) != 0)
-            fail("the input was changed");
-        if (!taken_back(&input))
-            fail("memory beside the input was changed");
-    }
+    if (now.entry != VALUE)
+        settle_input(&input, now.bytes);
+    if (now.entry == COMPARE)
+        settle_input(&second, now.second);
     answers[now.entry][now.field[0].plain]++;
     inputs++;
 }
@@ -346,12 +381,7 @@ void compare_censor(const uint8_t *body, size_t n)
     plain_censor_answer p = plain_censor(body, n);
     ulm_censor_answer u = ulm_censor(lend_bytes(), n);
     SAME(refusal), SAME(count);
-    for (size_t i = 0; i < 150; i++)
-        if (p.regions[i] != u.regions[i]) {
-            same("regions from 0, at", i, i);
-            same("regions", p.regions[i], u.regions[i]);
-            break;
-        }
+    same_halfwords("regions from 0, at", "regions", p.regions, u.regions, 150);
     settle();
 }
 
@@ -379,6 +409,35 @@ void compare_map_code(const uint8_t *body, size_t n, uint64_t elevation, uint64_
     ulm_map_code_answer u = ulm_map_code(lend_bytes(), n, elevation, azimuth, kilometre);
     SAME(refusal), SAME(code);
     settle();
+}
+
+/* Whether the plain implementation's list, or its refusal where there is no room for one, is what single kilometres
+ * give. */
+static int as_by_kilometres(const uint8_t *old_map, const uint8_t *new_map, size_t room, plain_comparison_answer p)
+{
+    static uint16_t list[MAP_HALFWORDS];
+    size_t n = list_by_kilometres(old_map, new_map, list);
+    return n > room ? p.refusal == 13 : p.refusal == 0 && n == 6 * p.differences && memcmp(list, expected, 2 * n) == 0;
+}
+
+size_t compare_comparison(const uint8_t *old_map, size_t old_n, const uint8_t *new_map, size_t new_n, size_t room)
+{
+    ask(COMPARE, old_map, old_n, room, 0, 0);
+    now.second = new_map;
+    now.second_n = new_n;
+    const uint16_t *wanted = (const uint16_t *)(const void *)expected;
+    plain_comparison_answer p
+        = plain_compare_maps(old_map, old_n, new_map, new_n, (uint16_t *)(void *)expect_output(2 * room), room);
+    if ((p.refusal == 0 || p.refusal == 13) && !as_by_kilometres(old_map, new_map, room, p))
+        fail("the plain implementation's differences are not those of single kilometres");
+    uint16_t *out = lend_halfwords(&output, contents, 2 * room);
+    const uint8_t *old_lent = lend_bytes(), *new_lent = lend_second();
+    ulm_comparison_answer u = ulm_compare_maps(old_lent, old_n, new_lent, new_n, out, room);
+    SAME(refusal), SAME(old_elevations), SAME(new_elevations), SAME(differences);
+    same_halfwords("list from 0, at", "list", wanted, out, 6 * p.differences);
+    settle_output(u.refusal, 12 * (uint64_t)u.differences);
+    settle();
+    return p.differences;
 }
 
 /* ---- What was reached ---- */

@@ -29,6 +29,8 @@ void compare_censor(const uint8_t *body, size_t n);
 void compare_write_censor(const uint16_t *list, size_t n, size_t room);
 void compare_map(const uint8_t *body, size_t n);
 void compare_map_code(const uint8_t *body, size_t n, uint64_t elevation, uint64_t azimuth, uint64_t kilometre);
+/* Gives the number of differences. */
+size_t compare_comparison(const uint8_t *old_map, size_t old_n, const uint8_t *new_map, size_t new_n, size_t room);
 
 /* How many inputs were compared. */
 uint64_t compared(void);

@@ -15,6 +15,7 @@
 #include <time.h>
 
 #include "compare.h"
+#include "kilometres.h"
 #include "make.h"
 
 #define COUNT(a) (sizeof(a) / sizeof *(a))
@@ -916,6 +917,8 @@ static void censor_by_chance(void)
 
 /* ---- Filter maps ---- */
 
+enum { LONG_MAP = 6 + 1800 * 82 };
+
 static const uint64_t far_numbers[] = { UINT64_MAX,           UINT64_MAX - 359,     UINT64_MAX / 360,
                                         UINT64_MAX / 360 + 2, UINT64_C(1) << 32,    (UINT64_C(1) << 32) + 1,
                                         UINT64_C(1) << 63,    65536,                UINT32_MAX };
@@ -1022,7 +1025,7 @@ static void short_map_edges(void)
 
 static void map_edges(void)
 {
-    static uint8_t bytes[147606];
+    static uint8_t bytes[LONG_MAP];
     static const uint32_t zones[] = { 1, 3, 20 };
     compare_map(NULL, 0);
     compare_map_code(NULL, 0, 1, 0, 0);
@@ -1036,24 +1039,31 @@ static void map_edges(void)
     }
 }
 
+/* A map as long as can be, each azimuth the same: 20 zones of that many kilometres from the first end on, but for the
+ * last one. Two such maps, one code and half a zone apart, differ in every kilometre. */
+static size_t make_long_map(uint8_t *out, uint32_t first_end, uint32_t kilometres, uint32_t first_code)
+{
+    size_t n = make_map_header(out, 5, &dice);
+    uint8_t *azimuth = out + n;
+    put(azimuth, 2, 20);
+    for (uint32_t k = 0; k < 20; k++) {
+        put(azimuth + 2 + 4 * k, 2, (first_code + 2 * k) % 3);
+        put(azimuth + 4 + 4 * k, 2, k == 19 ? 511 : first_end + kilometres * k);
+    }
+    for (size_t i = 0; i < 1800; i++, n += 82)
+        memmove(out + n, azimuth, 82);
+    return n;
+}
+
 /* Five elevations, and the longest map there is. */
 static void long_map_edges(void)
 {
-    struct chance twenty = { 0 };
     message_size = make_map(message, 5, 4, &dice);
     ask_all_codes(5);
+    size_t n = make_long_map(message, 0, 5, 0);
     put(message, 2, 65535);
     put(message + 2, 2, 1440);
-    put(message + 4, 2, 5);
-    uint8_t azimuth[82];
-    put(azimuth, 2, 20);
-    for (size_t k = 0; k < 20; k++) {
-        put(azimuth + 2 + 4 * k, 2, below(&twenty, 3));
-        put(azimuth + 4 + 4 * k, 2, k == 19 ? 511 : 5 * k);
-    }
-    for (size_t i = 0; i < 1800; i++)
-        memcpy(message + 6 + 82 * i, azimuth, 82);
-    for (message_size = 147604; message_size <= 147608; message_size++)
+    for (message_size = n - 2; message_size <= n + 2; message_size++)
         ask_map();
 }
 
@@ -1064,6 +1074,197 @@ static void map_by_chance(void)
     damage();
     ask_map();
     ask_code();
+}
+
+/* ---- Two filter maps ---- */
+
+/* The map that the message is compared with. */
+static uint8_t other[MOST_BYTES];
+static size_t other_size;
+
+static void swap_maps(void)
+{
+    static uint8_t kept[MOST_BYTES];
+    size_t n = message_size;
+    memcpy(kept, message, n);
+    start_from(other, other_size);
+    memcpy(other, kept, n);
+    other_size = n;
+}
+
+static size_t ask_comparison(size_t room)
+{
+    return compare_comparison(other, other_size, message, message_size, room);
+}
+
+enum { ELEVATION_HALFWORDS = 360 * AZIMUTH_HALFWORDS };
+
+/* With room enough, and with each room around none, around one difference and around what is needed. */
+static void ask_rooms(void)
+{
+    size_t needed = 6 * ask_comparison(MAP_HALFWORDS);
+    size_t rooms[] = { 0, 1, 5, 6, 7, needed - 7, needed - 6, needed - 5, needed - 1, needed, needed + 1, needed + 7 };
+    for (size_t i = 0; i < COUNT(rooms); i++)
+        if (rooms[i] <= needed + 7) /* else it would be below 0 */
+            ask_comparison(rooms[i]);
+}
+
+/* The message and the other one, each as the old map. */
+static void ask_both_ways(void)
+{
+    size_t room = one_in(4) ? pick(100) : ELEVATION_HALFWORDS;
+    ask_comparison(room);
+    compare_comparison(message, message_size, other, other_size, room);
+}
+
+/* Cuts the message, which is a map, to its first elevation segments. */
+static void keep_elevations(uint32_t elevations)
+{
+    message_size = 6;
+    for (uint32_t i = 0; i < 360 * elevations; i++)
+        message_size += 2 + 4 * get(message + message_size, 2);
+    put(message + 4, 2, elevations);
+}
+
+/* Every pair of elevation counts, of maps made apart and of maps that are nearly the same; and the same map twice. */
+static void elevation_edges(void)
+{
+    static const uint32_t zones[] = { 1, 3, 20 };
+    for (uint32_t i = 0; i < 50; i++) {
+        other_size = make_map(other, 5, zones[i % 3], &dice);
+        message_size = i < 25 ? make_map(message, 5, zones[i / 3 % 3], &dice)
+                              : make_near_map(message, other, 1 + (uint32_t)pick(300), &dice);
+        keep_elevations(1 + i % 5);
+        swap_maps();
+        keep_elevations(1 + i / 5 % 5);
+        ask_rooms();
+        start_from(other, other_size);
+        ask_rooms();
+    }
+}
+
+/* An azimuth with any of four ends beside 511: a bit of `ends` for each. */
+static size_t make_ends(uint8_t *out, uint32_t ends, uint32_t codes)
+{
+    static const uint32_t places[] = { 0, 1, 255, 510, 511 };
+    size_t zones = 0;
+    for (size_t k = 0; k < COUNT(places); k++)
+        if (((ends | 16) >> k & 1) != 0) {
+            put(out + 2 + 4 * zones, 2, pick(codes));
+            put(out + 4 + 4 * zones, 2, places[k]);
+            zones++;
+        }
+    put(out, 2, zones);
+    return 2 + 4 * zones;
+}
+
+static size_t make_ends_map(uint8_t *out, uint32_t divisor, uint32_t codes)
+{
+    size_t n = make_map_header(out, 1, &dice);
+    for (uint32_t i = 0; i < 360; i++)
+        n += make_ends(out + n, i / divisor % 16, codes);
+    return n;
+}
+
+/* Each set of ends beside each: shared ones and others, with codes that change there or don't. */
+static void shared_end_edges(void)
+{
+    for (uint32_t i = 0; i < 64; i++) {
+        other_size = make_ends_map(other, 1, 2 + i % 2);
+        message_size = make_ends_map(message, 16, 2 + i / 2 % 2);
+        ask_both_ways();
+    }
+}
+
+/* As many differences as there can be, 39 to each azimuth, of one kilometre or of more. */
+static void most_differences_edges(void)
+{
+    for (uint32_t half = 1; half <= 13; half += 12) {
+        other_size = make_long_map(other, half - 1, 2 * half, 0);
+        message_size = make_long_map(message, 2 * half - 1, 2 * half, 1);
+        if (6 * ask_comparison(MAP_HALFWORDS) != MAP_HALFWORDS) {
+            fprintf(stderr, "not as many differences as there can be\n");
+            exit(2);
+        }
+        ask_rooms();
+        swap_maps();
+        ask_rooms();
+    }
+}
+
+/* Small maps that are nearly the same, one of them cut at each byte, and with each byte another. */
+static void each_byte_edges(void)
+{
+    static uint8_t bytes[LONG_MAP];
+    other_size = make_map(other, 1, 1, &dice);
+    size_t n = make_near_map(bytes, other, 100, &dice);
+    for (size_t i = 0; i < n; i++) {
+        start_from(bytes, i);
+        ask_both_ways();
+        start_from(bytes, n);
+        message[i] ^= (uint8_t)(1 + pick(255));
+        ask_both_ways();
+    }
+}
+
+/* Each of two maps whole, cut off, too long, or with a field out of range at its beginning or its end. */
+static void refused_pairs(void)
+{
+    static uint8_t bytes[LONG_MAP];
+    size_t n = make_map(bytes, 1, 1, &dice);
+    patch_count = 0;
+    limit(0, 0, n);
+    cut(0);
+    cut(5);
+    limit(0, 2, 1);
+    limit(4, 2, 5);
+    limit(n - 2, 2, 511);
+    for (size_t i = 0; i < patch_count * patch_count; i++) {
+        start_from(bytes, n);
+        apply(&patches[i / patch_count]);
+        swap_maps();
+        start_from(bytes, n);
+        apply(&patches[i % patch_count]);
+        ask_comparison(one_in(2) ? 0 : ELEVATION_HALFWORDS);
+    }
+}
+
+static void comparison_edges(void)
+{
+    static uint8_t bytes[LONG_MAP];
+    static const uint32_t zones[] = { 3, 20 };
+    for (size_t room = 0; room <= 1; room++)
+        compare_comparison(NULL, 0, NULL, 0, room);
+    elevation_edges();
+    shared_end_edges();
+    most_differences_edges();
+    each_byte_edges();
+    refused_pairs();
+    for (size_t i = 0; i < COUNT(zones); i++) {
+        other_size = make_map(other, 1, zones[i], &dice);
+        size_t n = message_size = make_near_map(message, other, 20, &dice);
+        memcpy(bytes, message, n);
+        patches_of_map(200);
+        each_patch(bytes, n, 300, ask_both_ways);
+    }
+}
+
+static void comparison_by_chance(void)
+{
+    uint32_t elevations = one_in(8) ? 1 + (uint32_t)pick(5) : 1, zones = one_in(6) ? 20 : 1 + (uint32_t)pick(3);
+    other_size = make_map(other, elevations, zones, &dice);
+    if (one_in(3))
+        message_size = make_map(message, one_in(4) ? 1 + (uint32_t)pick(5) : elevations, 1 + (uint32_t)pick(20), &dice);
+    else
+        message_size = make_near_map(message, other, 1 + (uint32_t)pick(400), &dice);
+    for (unsigned left = 2; left > 0; left--) {
+        swap_maps();
+        if (one_in(4)) {
+            patches_of_map(60);
+            damage();
+        }
+    }
+    ask_comparison(room_near(6 * ask_comparison(elevations * ELEVATION_HALFWORDS)));
 }
 
 /* ---- The run ---- */
@@ -1085,9 +1286,10 @@ static void edges(void)
     censor_edges();
     map_edges();
     long_map_edges();
+    comparison_edges();
 }
 
-/* Of sixteen steps. Radials are asked four questions each; maps are long and so are few. */
+/* Of sixteen steps. Radials are asked four questions each; maps are long and so are few, pairs of them fewer. */
 static void step(void)
 {
     switch (pick(16)) {
@@ -1098,7 +1300,7 @@ static void step(void)
     case 8: value_by_chance(); break;
     case 9: request_by_chance(); break;
     case 10: case 11: censor_by_chance(); break;
-    case 12: map_by_chance(); break;
+    case 12: one_in(4) ? comparison_by_chance() : map_by_chance(); break;
     default: radial_by_chance(); break;
     }
 }

@@ -1,10 +1,11 @@
 """What the program and the loader must write for the sample, computed apart from the library: python3 tests/golden.py
 
-It writes the files of tests/golden/ and examples/sample.totals from examples/sample.rec and examples/sample.map, by offsets
-of the interface document and with nothing checked: the sample is sound.
+It writes the files of tests/golden/ and examples/sample.totals from examples/sample.rec, examples/sample.map and
+examples/later.map, by offsets of the interface document and with nothing checked: the sample is sound.
 """
 import datetime
 import decimal
+import itertools
 import math
 import pathlib
 import struct
@@ -123,14 +124,62 @@ def totals_lines(recording, wanted):
     yield f"{wanted}: codes sum to {sum(every)}, values to {values:.6f}\n"
 
 
+def map_codes(body):
+    """The codes of each azimuth of each elevation segment, kilometre by kilometre."""
+    at, elevations = 6, []
+    for _ in range(struct.unpack_from(">H", body, 4)[0]):
+        elevations.append([])
+        for _ in range(360):
+            end, codes = at + 2 + 4 * struct.unpack_from(">H", body, at)[0], []
+            for code, last in struct.iter_unpack(">HH", body[at + 2 : end]):
+                codes += [code] * (last + 1 - len(codes))
+            elevations[-1].append(codes)
+            at = end
+    return elevations
+
+
 def map_line(body, elevation, azimuth, kilometre):
-    """The code of a kilometre: the first zone that ends there or later."""
-    at = 6
-    for _ in range(360 * (elevation - 1) + azimuth):
-        at += 2 + 4 * struct.unpack_from(">H", body, at)[0]
-    zones = struct.iter_unpack(">HH", body[at + 2 : at + 2 + 4 * struct.unpack_from(">H", body, at)[0]])
-    code = next(code for code, end in zones if kilometre <= end)
+    code = map_codes(body)[elevation - 1][azimuth][kilometre]
     return f"code {code}, {MAP_CODES[code]}\n"
+
+
+def differences(old, new):
+    """Each difference of two maps: elevation segment, azimuth, first and last kilometre, old and new code."""
+    for elevation, azimuths in enumerate(zip(map_codes(old), map_codes(new)), 1):
+        for azimuth, codes in enumerate(zip(*azimuths)):
+            first = 0
+            for pair, run in itertools.groupby(zip(*codes)):
+                last = first + len(list(run)) - 1
+                if pair[0] != pair[1]:
+                    yield elevation, azimuth, first, last, *pair
+                first = last + 1
+
+
+def compare_lines(old, new):
+    found, tally = list(differences(old, new)), {}
+    for elevation, azimuth, first, last, *pair in found:
+        where = f"kilometre {first}" if first == last else f"kilometres {first} to {last}"
+        yield f"elevation {elevation}, azimuth {azimuth}, {where}: {', now '.join(MAP_CODES[code] for code in pair)}\n"
+        for cell in itertools.product((elevation, "all"), (tuple(pair), "all")):
+            tally[cell] = tally.get(cell, 0) + last + 1 - first
+    yield "no difference\n" if not found else f"{len(found)} difference{'s' if len(found) > 1 else ''}\n"
+    few, many = sorted(counts := [len(map_codes(body)) for body in (old, new)])
+    if few < many:
+        segments = f" {many}" if many == few + 1 else f"s {few + 1} to {many}"
+        whose = "new" if counts[0] < counts[1] else "old"
+        yield f"not compared: elevation segment{segments}, which only the {whose} map has\n"
+    if found:
+        yield from table_lines(tally, few)
+
+
+def table_lines(tally, elevations):
+    columns = [*range(1, elevations + 1), "all"]
+    yield "\nkilometres changed, of 184320 (360 azimuths of 512) in an elevation segment:\n"
+    yield "".join(f"{column:>10}" for column in columns) + "  elevation segment\n"
+    for row in [*itertools.product(range(3), repeat=2), "all"]:
+        if ("all", row) in tally:
+            says = row if row == "all" else ", now ".join(MAP_CODES[code] for code in row)
+            yield "".join(f"{tally.get((column, row), 0):>10}" for column in columns) + f"  {says}\n"
 
 
 def write(name, content, folder=HERE / "golden"):
@@ -146,6 +195,8 @@ if __name__ == "__main__":
     for moment in ("REF", "PHI"):
         write(f"gates-{moment}", gate_lines(first_body, moment))
         write(f"picture-{moment}.pgm", picture(recorded, moment))
-    write("map", map_line((EXAMPLES / "sample.map").read_bytes(), 2, 100, 250))
+    sample, later = ((EXAMPLES / name).read_bytes() for name in ("sample.map", "later.map"))
+    write("map", map_line(sample, 2, 100, 250))
+    write("compare", compare_lines(sample, later))
     every_moment = ("REF", "VEL", "SW", "ZDR", "PHI", "RHO")
     write("sample.totals", (line for m in every_moment for line in totals_lines(recorded, m)), EXAMPLES)

@@ -120,6 +120,12 @@ SIZE(ulm_map_code_answer, 8);
 AT(ulm_map_code_answer, refusal, 0);
 AT(ulm_map_code_answer, code, 4);
 
+SIZE(ulm_comparison_answer, 16);
+AT(ulm_comparison_answer, refusal, 0);
+AT(ulm_comparison_answer, old_elevations, 4);
+AT(ulm_comparison_answer, new_elevations, 8);
+AT(ulm_comparison_answer, differences, 12);
+
 /* ---- As the library writes them ---- */
 
 /* What stands where in an answer; a list ends with width 0. */
@@ -462,6 +468,29 @@ static void check_map(void)
     CHECK_RETURNED(no_code, { 0, 4, 21 }, { 4, 4, 0 });
 }
 
+/* One difference, at elevation 3 and azimuth 4: its six numbers are different ones. */
+static void check_comparison(void)
+{
+    static uint8_t old_map[6 + 6 * 360 * 4], new_map[6 + 6 * 360 * 3];
+    static const uint16_t wanted[] = { 3, 4, 0, 511, 1, 2, 0xA5A5 };
+    uint16_t list[7];
+    struct chance c = { 4 };
+    size_t zone = 6 + 6 * (360 * 2 + 4) + 2;
+    make_map(old_map, 4, 1, &c);
+    put(old_map + zone, 2, 1);
+    memcpy(new_map, old_map, sizeof new_map);
+    put(new_map + 4, 2, 3);
+    put(new_map + zone, 2, 2);
+    memset(list, 0xA5, sizeof list);
+    ulm_comparison_answer compared = ulm_compare_maps(old_map, sizeof old_map, new_map, sizeof new_map, list, 6);
+    CHECK_RETURNED(compared, { 0, 4, 0 }, { 4, 4, 4 }, { 8, 4, 3 }, { 12, 4, 1 });
+    for (size_t i = 0; i < 7; i++)
+        if (list[i] != wanted[i])
+            fail("ulm_compare_maps", "list", 2 * i, list[i], wanted[i]);
+    ulm_comparison_answer refused = ulm_compare_maps(old_map, sizeof old_map, new_map, sizeof new_map, list, 5);
+    CHECK_RETURNED(refused, { 0, 4, 13 }, { 4, 4, 0 }, { 8, 4, 0 }, { 12, 4, 0 });
+}
+
 int main(void)
 {
     make_body();
@@ -477,7 +506,8 @@ int main(void)
     check_request();
     check_censor();
     check_map();
+    check_comparison();
     if (!failed)
-        printf("15 functions, every member in its place\n");
+        printf("16 functions, every member in its place\n");
     return failed;
 }

@@ -123,14 +123,58 @@ static size_t make_zones(uint8_t *out, uint32_t zones, struct chance *c)
     return 2 + 4 * zones;
 }
 
-size_t make_map(uint8_t *out, uint32_t elevations, uint32_t most_zones, struct chance *c)
+size_t make_map_header(uint8_t *out, uint32_t elevations, struct chance *c)
 {
     put(out, 2, 1 + below(c, 65535));
     put(out + 2, 2, below(c, 1441));
     put(out + 4, 2, elevations);
-    size_t n = 6;
+    return 6;
+}
+
+size_t make_map(uint8_t *out, uint32_t elevations, uint32_t most_zones, struct chance *c)
+{
+    size_t n = make_map_header(out, elevations, c);
     for (uint32_t i = 0; i < 360 * elevations; i++)
         n += make_zones(out + n, 1 + (uint32_t)below(c, most_zones), c);
+    return n;
+}
+
+/* Changes a zone of an azimuth, or the end between it and the next one, where there is one. */
+static void change_zone(uint8_t *azimuth, struct chance *c)
+{
+    uint32_t zones = (uint32_t)get(azimuth, 2), k = (uint32_t)below(c, zones);
+    uint8_t *zone = azimuth + 2 + 4 * k;
+    uint64_t start = k == 0 ? 0 : get(zone - 2, 2) + 1, end = get(zone + 2, 2);
+    switch (below(c, 3)) {
+    case 0:
+        put(zone, 2, (get(zone, 2) + 1 + below(c, 2)) % 3);
+        break;
+    case 1:
+        if (zones < 20 && start < end) {
+            memmove(zone + 4, zone, 4 * (zones - k));
+            put(zone + 2, 2, start + below(c, end - start));
+            put(azimuth, 2, zones + 1);
+        }
+        break;
+    default:
+        if (k + 1 < zones)
+            put(zone + 2, 2, start + below(c, get(zone + 6, 2) - start));
+        break;
+    }
+}
+
+size_t make_near_map(uint8_t *out, const uint8_t *map, uint32_t one_azimuth_in, struct chance *c)
+{
+    uint32_t elevations = (uint32_t)get(map + 4, 2);
+    size_t n = make_map_header(out, elevations, c), at = 6;
+    for (uint32_t i = 0; i < 360 * elevations; i++) {
+        size_t size = 2 + 4 * get(map + at, 2);
+        memcpy(out + n, map + at, size);
+        if (below(c, one_azimuth_in) == 0)
+            change_zone(out + n, c);
+        n += 2 + 4 * get(out + n, 2);
+        at += size;
+    }
     return n;
 }
 

@@ -45,8 +45,13 @@ size_t make_radial(uint8_t *out, const struct make_radial *r, struct chance *c);
 
 extern const uint32_t make_names[6]; /* of the moments */
 
-/* A map's body with at most that many zones to an azimuth. */
+/* A map's header alone, and a whole body with at most that many zones to an azimuth. */
+size_t make_map_header(uint8_t *out, uint32_t elevations, struct chance *c);
 size_t make_map(uint8_t *out, uint32_t elevations, uint32_t most_zones, struct chance *c);
+
+/* A map's body like another one's, at another date and time. One azimuth in so many, by chance, has a zone with another
+ * code, one that is two of the same code, or one that ends elsewhere. */
+size_t make_near_map(uint8_t *out, const uint8_t *map, uint32_t one_azimuth_in, struct chance *c);
 
 /* A censor body's numbers: the count, then six for each region. */
 size_t make_censor(uint16_t *out, uint32_t count, struct chance *c);

@@ -28,7 +28,8 @@ enum {
     LAST_AZIMUTH = 359,
     AZIMUTHS = 360,
     MOST_ZONES = 20,
-    LAST_KILOMETRE = 511
+    LAST_KILOMETRE = 511,
+    DIFFERENCE = 6
 };
 
 /* A bit for each type: 1 to 13, 15, 18, 31. */
@@ -664,4 +665,73 @@ plain_map_code_answer plain_map_code(const uint8_t *body, size_t len, uint64_t e
     while (get16(p + 2) < kilometre)
         p += 4;
     return (plain_map_code_answer){ 0, get16(p) };
+}
+
+/* ---- Two filter maps ---- */
+
+static inline void put_difference(uint16_t *d, uint32_t elevation, uint32_t azimuth, uint32_t first, uint32_t last,
+                                  uint32_t old_code, uint32_t new_code)
+{
+    d[0] = (uint16_t)elevation;
+    d[1] = (uint16_t)azimuth;
+    d[2] = (uint16_t)first;
+    d[3] = (uint16_t)last;
+    d[4] = (uint16_t)old_code;
+    d[5] = (uint16_t)new_code;
+}
+
+/* The differences of an azimuth, by its zones in both maps; listed where there is an output. Each step goes to the end
+ * of a zone, whichever comes first; a difference that goes on there is put once more, with its new last kilometre. */
+static inline uint32_t azimuth_differences(const uint8_t *p, const uint8_t *q, uint32_t elevation, uint32_t azimuth,
+                                           uint16_t *out)
+{
+    uint32_t count = 0, begun = 0, before = 0; /* codes that are equal, so the first difference goes on from none */
+    for (uint32_t first = 0, last; first <= LAST_KILOMETRE; first = last + 1) {
+        uint32_t old_code = get16(p), old_end = get16(p + 2), new_code = get16(q), new_end = get16(q + 2);
+        uint32_t codes = old_code << 16 | new_code;
+        last = old_end < new_end ? old_end : new_end;
+        if (codes != before)
+            begun = first;
+        count += (codes != before) & (old_code != new_code);
+        if (out != NULL && old_code != new_code)
+            put_difference(out + DIFFERENCE * (count - 1), elevation, azimuth, begun, last, old_code, new_code);
+        before = codes;
+        p += 4 * (old_end <= new_end);
+        q += 4 * (new_end <= old_end);
+    }
+    return count;
+}
+
+/* The differences of two maps that are accepted, listed where there is an output. */
+static inline size_t map_differences(const uint8_t *old_map, const uint8_t *new_map, uint32_t elevations, uint16_t *out)
+{
+    const uint8_t *p = old_map + 6, *q = new_map + 6;
+    size_t count = 0;
+    for (uint32_t i = 0; i < AZIMUTHS * elevations; i++) {
+        size_t old_size = 2 + 4 * get16(p), new_size = 2 + 4 * get16(q);
+        /* Of two maps of one site most azimuths are the same byte for byte. */
+        if (old_size != new_size || memcmp(p, q, old_size) != 0)
+            count += azimuth_differences(p + 2, q + 2, 1 + i / AZIMUTHS, i % AZIMUTHS,
+                                         out == NULL ? NULL : out + DIFFERENCE * count);
+        p += old_size;
+        q += new_size;
+    }
+    return count;
+}
+
+plain_comparison_answer plain_compare_maps(const uint8_t *old_map, size_t old_len, const uint8_t *new_map,
+                                           size_t new_len, uint16_t *out, size_t n)
+{
+    plain_map_answer old = plain_map(old_map, old_len);
+    if (old.refusal != 0)
+        return (plain_comparison_answer){ .refusal = old.refusal };
+    plain_map_answer new = plain_map(new_map, new_len);
+    if (new.refusal != 0)
+        return (plain_comparison_answer){ .refusal = new.refusal };
+    uint32_t elevations = old.elevations < new.elevations ? old.elevations : new.elevations;
+    size_t count = map_differences(old_map, new_map, elevations, NULL);
+    if (n < DIFFERENCE * count)
+        return (plain_comparison_answer){ .refusal = 13 };
+    map_differences(old_map, new_map, elevations, out);
+    return (plain_comparison_answer){ 0, old.elevations, new.elevations, (uint32_t)count };
 }

@@ -1,7 +1,8 @@
 /*
- * The rules of document 01 in plain C, written from the paper apart from the library: the other side of the
- * differential test, and the yardstick of the benchmark. Answers have the members that the paper names; `refusal` is 0
- * or the paper's number, and a refused answer is 0 otherwise (but `next` of a frame, which is the place that was given).
+ * The rules of document 01 and of its changes in plain C, written from the paper apart from the library: the other side
+ * of the differential test, and the yardstick of the benchmark. Answers have the members that the paper names;
+ * `refusal` is 0 or the paper's number, and a refused answer is 0 otherwise (but `next` of a frame, which is the place
+ * that was given).
  */
 #ifndef PLAIN_H
 #define PLAIN_H
@@ -65,6 +66,10 @@ typedef struct {
     uint32_t refusal, code;
 } plain_map_code_answer;
 
+typedef struct {
+    uint32_t refusal, old_elevations, new_elevations, differences;
+} plain_comparison_answer;
+
 plain_frame_answer plain_frame(const uint8_t *buf, size_t len, size_t place);
 plain_header_answer plain_header(const uint8_t *msg, size_t len);
 plain_set_answer plain_set(const uint8_t *buf, size_t len, uint8_t *out, size_t out_len);
@@ -82,5 +87,7 @@ plain_written_answer plain_write_censor(const uint16_t *list, size_t n, uint8_t 
 plain_map_answer plain_map(const uint8_t *body, size_t len);
 plain_map_code_answer plain_map_code(const uint8_t *body, size_t len, uint64_t elevation, uint64_t azimuth,
                                      uint64_t kilometre);
+plain_comparison_answer plain_compare_maps(const uint8_t *old_map, size_t old_len, const uint8_t *new_map,
+                                           size_t new_len, uint16_t *out, size_t n);
 
 #endif

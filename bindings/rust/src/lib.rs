@@ -29,7 +29,10 @@ mod radial;
 pub mod raw;
 mod refusal;
 
-pub use clutter::{censor, map, map_code, request, write_censor, write_request, Censor, Map, Region};
+pub use clutter::{
+    censor, compare_maps, map, map_code, request, write_censor, write_request, Censor, Comparison, Difference, Map,
+    Region, COMPARISON_ROOM,
+};
 pub use frame::{frame, frames, header, set, write, Frame, Frames, Header, Kind, Message, Set};
 pub use radial::{
     block, gate, gates, radial, value, Block, Constant, Gate, Gates, Moment, Name, Radial, DPHI, DREF, DRHO, DSW, DVEL,

@@ -136,6 +136,15 @@ pub struct MapCodeAnswer {
     pub code: u32,
 }
 
+#[repr(C)]
+#[derive(Clone, Copy)]
+pub struct ComparisonAnswer {
+    pub refusal: u32,
+    pub old_elevations: u32,
+    pub new_elevations: u32,
+    pub differences: u32,
+}
+
 extern "C" {
     pub fn ulm_frame(buf: *const u8, len: usize, place: usize) -> FrameAnswer;
     pub fn ulm_header(msg: *const u8, len: usize) -> HeaderAnswer;
@@ -162,4 +171,12 @@ extern "C" {
     pub fn ulm_write_censor(list: *const u16, n: usize, out: *mut u8, out_len: usize) -> WrittenAnswer;
     pub fn ulm_map(body: *const u8, len: usize) -> MapAnswer;
     pub fn ulm_map_code(body: *const u8, len: usize, elevation: u64, azimuth: u64, kilometre: u64) -> MapCodeAnswer;
+    pub fn ulm_compare_maps(
+        old_map: *const u8,
+        old_len: usize,
+        new_map: *const u8,
+        new_len: usize,
+        out: *mut u16,
+        n: usize,
+    ) -> ComparisonAnswer;
 }

@@ -1,4 +1,5 @@
-//! The numbered cases of document 01, and what the wrapper adds: parts with lifetimes, refusals with words.
+//! The numbered cases of document 01, two maps compared, and what the wrapper adds: parts with lifetimes, refusals with
+//! words.
 
 use ulm::{Block, Gate, Kind, Message, Name, Refusal};
 
@@ -50,12 +51,21 @@ fn radial(length: u16, moments: &[(usize, &Name, &[u8])]) -> Vec<u8> {
     body
 }
 
-/// A map of one elevation segment: the zones given for azimuth 0, one zone of code 1 for the others.
-fn map(zones: &[(u16, u16)]) -> Vec<u8> {
-    let mut numbers = vec![1, 0, 1, zones.len() as u16];
-    numbers.extend(zones.iter().flat_map(|(code, end)| [*code, *end]));
-    numbers.extend([1, 1, 511].repeat(359));
+/// A map of so many elevation segments: in each the zones given for azimuth 0, one zone of code 1 for the others.
+fn map(elevations: u16, zones: &[(u16, u16)]) -> Vec<u8> {
+    let mut segment = vec![zones.len() as u16];
+    segment.extend(zones.iter().flat_map(|(code, end)| [*code, *end]));
+    segment.extend([1, 1, 511].repeat(359));
+    let numbers = [vec![1, 0, elevations], segment.repeat(elevations as usize)].concat();
     numbers.into_iter().flat_map(u16::to_be_bytes).collect()
+}
+
+/// What differs between two maps: elevation segment, first and last kilometre, old and new code, all at azimuth 0.
+fn differences(old: &[u8], new: &[u8]) -> Vec<(u16, u16, u16, u16, u16)> {
+    let mut out = vec![7; ulm::COMPARISON_ROOM];
+    let comparison = ulm::compare_maps(old, new, &mut out).unwrap();
+    assert!(comparison.differences().all(|d| d.azimuth == 0));
+    comparison.differences().map(|d| (d.elevation, d.first, d.last, d.old, d.new)).collect()
 }
 
 #[test]
@@ -183,7 +193,7 @@ fn the_part_lives_as_long_as_the_body() {
 
 #[test]
 fn cases_13_and_14_maps() {
-    let accepted = map(&[(0, 100), (2, 511)]);
+    let accepted = map(1, &[(0, 100), (2, 511)]);
     let head = ulm::map(&accepted).unwrap();
     assert_eq!((head.date, head.minutes, head.elevations), (1, 0, 1));
     assert_eq!(ulm::map_code(&accepted, 1, 0, 100), Ok(0));
@@ -191,9 +201,55 @@ fn cases_13_and_14_maps() {
     assert_eq!(ulm::map_code(&accepted, 2, 0, 0), Err(Refusal::ASKED_FOR));
     assert_eq!(ulm::map_code(&accepted, 1, 360, 0), Err(Refusal::ASKED_FOR));
     assert_eq!(ulm::map_code(&accepted, 1, 0, u64::MAX), Err(Refusal::ASKED_FOR));
-    assert_eq!(ulm::map(&map(&[(0, 100), (1, 100), (2, 511)])), Err(Refusal::FIELD));
-    assert_eq!(ulm::map(&map(&[(0, 100)])), Err(Refusal::FIELD));
+    assert_eq!(ulm::map(&map(1, &[(0, 100), (1, 100), (2, 511)])), Err(Refusal::FIELD));
+    assert_eq!(ulm::map(&map(1, &[(0, 100)])), Err(Refusal::FIELD));
     assert_eq!(ulm::map(&accepted[..accepted.len() - 1]), Err(Refusal::LENGTH));
+}
+
+#[test]
+fn what_differs_between_two_maps() {
+    let old = map(1, &[(0, 100), (2, 511)]);
+    assert_eq!(differences(&old, &old), []);
+    let (another_date, another_time) = (with(&old, 1, 9), with(&old, 3, 9));
+    assert_eq!((differences(&old, &another_date), differences(&old, &another_time)), (vec![], vec![]));
+    assert_eq!(differences(&old, &map(1, &[(0, 100), (2, 510), (1, 511)])), [(1, 511, 511, 2, 1)]);
+    assert_eq!(differences(&old, &map(1, &[(0, 99), (2, 511)])), [(1, 100, 100, 0, 2)]);
+    // An end at which neither code changes is no end of a run, in either map or in both.
+    let (whole, cut) = (map(1, &[(1, 511)]), map(1, &[(2, 50), (2, 100), (2, 511)]));
+    assert_eq!(differences(&whole, &cut), [(1, 0, 511, 1, 2)]);
+    assert_eq!(differences(&cut, &whole), [(1, 0, 511, 2, 1)]);
+    assert_eq!(differences(&map(1, &[(1, 100), (1, 511)]), &cut), [(1, 0, 511, 1, 2)]);
+    assert_eq!(differences(&old, &whole), [(1, 0, 100, 0, 1), (1, 101, 511, 2, 1)]);
+}
+
+#[test]
+fn maps_of_one_and_of_five_elevation_segments() {
+    let (one, five) = (map(1, &[(0, 511)]), map(5, &[(2, 511)]));
+    let mut out = [7; 8];
+    let comparison = ulm::compare_maps(&one, &five, &mut out).unwrap();
+    assert_eq!((comparison.old_elevations, comparison.new_elevations), (1, 5));
+    assert_eq!(comparison.numbers, [1, 0, 0, 511, 0, 2]);
+    assert_eq!(comparison.differences().len(), 1);
+    assert_eq!(out[6..], [7; 2]);
+    assert_eq!(differences(&five, &one), [(1, 0, 511, 2, 0)]);
+    let segments: Vec<_> = (1..=5).map(|elevation| (elevation, 0, 511, 2, 1)).collect();
+    assert_eq!(differences(&five, &map(5, &[(1, 511)])), segments);
+    let neither = ulm::compare_maps(&five, &five, &mut []).unwrap();
+    assert_eq!((neither.old_elevations, neither.new_elevations, neither.numbers), (5, 5, &[][..]));
+}
+
+#[test]
+fn comparisons_refused() {
+    let (old, new) = (map(1, &[(0, 511)]), map(1, &[(0, 100), (1, 511)]));
+    let mut out = [7; 5];
+    assert_eq!(ulm::compare_maps(&old, &new, &mut out), Err(Refusal::OUTPUT_SMALL));
+    assert_eq!(out, [7; 5]);
+    assert_eq!(ulm::compare_maps(&old, &new, &mut [7; 6]).unwrap().numbers, [1, 0, 101, 511, 0, 1]);
+    let (short, wrong) = (&old[..old.len() - 1], map(1, &[(3, 511)]));
+    assert_eq!(ulm::compare_maps(short, &wrong, &mut out), Err(Refusal::LENGTH));
+    assert_eq!(ulm::compare_maps(&wrong, short, &mut out), Err(Refusal::FIELD));
+    assert_eq!(ulm::compare_maps(&old, short, &mut out), Err(Refusal::LENGTH));
+    assert_eq!(out, [7; 5]);
 }
 
 #[test]

@@ -27,4 +27,5 @@ fn declarations_have_the_headers_layout() {
     layout!(CensorAnswer, 308, refusal 0, count 4, regions 8);
     layout!(MapAnswer, 16, refusal 0, date 4, minutes 8, elevations 12);
     layout!(MapCodeAnswer, 8, refusal 0, code 4);
+    layout!(ComparisonAnswer, 16, refusal 0, old_elevations 4, new_elevations 8, differences 12);
 }

@@ -5,8 +5,14 @@ use crate::words;
 
 const NUMBERS: usize = 6;
 
-// What the words say, and the place where the next one is looked for. The bytes' digits stand from `from` to `at`. Of the line: its entry,
-// where its name ends, where its answer begins, and whether it asks for one.
+// Where the digits of a word stand, or the bytes that they were turned into.
+pub struct Span {
+    pub from: usize,
+    pub to: usize,
+}
+
+// What the words say, and the place where the next one is looked for. `digits`: those of the last word that has some; `before`: those of
+// the one before it. Of the line: its entry, where its name ends, where its answer begins, and whether it asks for one.
 pub struct Args {
     pub entry: usize,
     pub title: usize,
@@ -17,7 +23,8 @@ pub struct Args {
     pub count: usize,
     pub numbers: [u64; 6],
     pub name: [u8; 4],
-    pub from: usize,
+    pub before: Span,
+    pub digits: Span,
 }
 
 fn start(at: usize, good: bool) -> Args {
@@ -31,11 +38,13 @@ fn start(at: usize, good: bool) -> Args {
         count: 0,
         numbers: [0; 6],
         name: [0; 4],
-        from: 0,
+        before: Span { from: 0, to: 0 },
+        digits: Span { from: 0, to: 0 },
     }
 }
 
-// `b`, `h`, `w`, `n`: a number of 8, 16, 32, 64 bits; `m`: four bytes, a name; `l`: halfwords; `x`: bytes. Bytes and halfwords come last.
+// `b`, `h`, `w`, `n`: a number of 8, 16, 32, 64 bits; `m`: four bytes, a name; `l`: halfwords; `x`: bytes. Bytes and halfwords come last, in
+// one word or two.
 pub fn parsed(question: &[u8], at: usize, shape: &[u8]) -> Args {
     let mut a = start(at, 0 < shape.len());
     let mut i = 0;
@@ -127,8 +136,11 @@ fn with_digits(a: Args, word: &[u8], kind: u8, from: usize) -> Args {
     if word[0] != b'x' {
         return bad(a);
     }
+    let before = a.digits;
+    let digits = Span { from, to: a.at };
     let mut a = a;
-    a.from = from;
+    a.before = before;
+    a.digits = digits;
     a
 }
 

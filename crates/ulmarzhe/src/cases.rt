@@ -1,5 +1,6 @@
 // The case runner: each line of a file asks the library a question, and its answer is compared or written.
 use crate::args::Args;
+use crate::args::Span;
 use crate::entries;
 use crate::lines;
 use crate::lines::Line;
@@ -54,12 +55,31 @@ fn has_failed(l: Line) -> bool {
 fn one_line(l: Line, window: &mut [u8; WINDOW], sheet: &mut [u8; SHEET]) {
     let r = l.reading;
     let a = question(part(window, r.from, l.end), l.skips);
-    let to = if a.good {
-        words::decoded(window, sum(r.from, a.from), sum(r.from, a.at))
-    } else {
-        0
-    };
-    case(part(window, r.from, l.end), a, less(to, r.from), sheet);
+    let a = in_bytes(a, r.from, window);
+    case(part(window, r.from, l.end), a, sheet);
+}
+
+// A question whose digits are turned into bytes in their place, in a line that begins at `start`. Where they say none it is no question.
+fn in_bytes(a: Args, start: usize, window: &mut [u8; WINDOW]) -> Args {
+    let mut a = a;
+    if !a.good {
+        return a;
+    }
+    let before = bytes_of(a.before, start, window);
+    let digits = bytes_of(a.digits, start, window);
+    a.before = before;
+    a.digits = digits;
+    a.good = before.from <= before.to && digits.from <= digits.to;
+    a
+}
+
+// Where the digits say no bytes, the span ends before it begins.
+fn bytes_of(s: Span, start: usize, window: &mut [u8; WINDOW]) -> Span {
+    let to = words::decoded(window, sum(start, s.from), sum(start, s.to));
+    Span {
+        from: s.from,
+        to: less(to, start),
+    }
 }
 
 // A line's question. One that is too long for the window is none.
@@ -96,21 +116,21 @@ fn equals_sign(line: &[u8]) -> usize {
     line.len()
 }
 
-// A case whose bytes stand in the line up to `to`; where that is 0, a line that is no case.
-fn case(line: &[u8], a: Args, to: usize, sheet: &mut [u8; SHEET]) {
+fn case(line: &[u8], a: Args, sheet: &mut [u8; SHEET]) {
     let name = part(line, 0, a.title);
-    if to == 0 {
+    if !a.good {
         verdict(name, MALFORMED, sheet);
         return;
     }
     let expected = part(line, a.answer, line.len());
     let s = opened(a.asks, name, sheet);
-    let s = answered(a, part(line, a.from, to), s, expected, sheet);
+    let s = answered(a, line, s, expected, sheet);
     closed(name, s, expected, sheet);
 }
 
-fn answered(a: Args, body: &[u8], s: Sink, expected: &[u8], sheet: &mut [u8; SHEET]) -> Sink {
-    let t = told_of(a, body, sheet);
+fn answered(a: Args, line: &[u8], s: Sink, expected: &[u8], sheet: &mut [u8; SHEET]) -> Sink {
+    let body = within(line, a.digits);
+    let t = told_of(a, within(line, a.before), body, sheet);
     let s = sink::say(s, sheet, t);
     if t.which == told::RADIAL {
         return blocks(s, sheet, body, t.count);
@@ -118,8 +138,12 @@ fn answered(a: Args, body: &[u8], s: Sink, expected: &[u8], sheet: &mut [u8; SHE
     sink::bytes(s, sheet, expected, t.length)
 }
 
-// The library is asked.
-fn told_of(a: Args, body: &[u8], sheet: &mut [u8; SHEET]) -> Told {
+fn within(line: &[u8], s: Span) -> &[u8] {
+    part(line, s.from, s.to)
+}
+
+// The library is asked about a body, or about two.
+fn told_of(a: Args, old: &[u8], body: &[u8], sheet: &mut [u8; SHEET]) -> Told {
     let n = a.numbers;
     let name = a.name;
     let entry = a.entry;
@@ -138,6 +162,7 @@ fn told_of(a: Args, body: &[u8], sheet: &mut [u8; SHEET]) -> Told {
             n[1] as usize,
             n[2] as usize,
         ),
+        entries::COMPARE => writers::of_maps(n[0], old, body, sheet),
         _ => writers::written(entry, n, body, sheet),
     }
 }

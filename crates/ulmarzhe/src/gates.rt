@@ -10,6 +10,7 @@ use crate::real;
 use crate::recording;
 use crate::recording::Carried;
 use crate::recording::Walk;
+use crate::recording::paged;
 use crate::window::WINDOW;
 use frame::FrameAnswer;
 use gate::GateAnswer;
@@ -46,12 +47,6 @@ fn in_frame(w: Walk, place: u64, name: [u8; 4], stream: &[u8], sheet: &mut [u8; 
             sheet,
         ),
     }
-}
-
-fn paged(w: Walk, page: usize) -> Walk {
-    let mut w = w;
-    w.page = page;
-    w
 }
 
 fn in_message(

@@ -6,6 +6,8 @@ mod entries;
 mod gates;
 mod lines;
 mod listing;
+mod lists;
+mod maps;
 mod page;
 mod part;
 mod picture;
@@ -20,10 +22,12 @@ mod words;
 mod writers;
 
 use filter::CodeAnswer;
+use lists::LIST;
 use page::SHEET;
 use recording::ROWS;
 use recording::SURVEY;
 use recording::Walk;
+use window::Reading;
 use window::WINDOW;
 use words::Number;
 
@@ -40,16 +44,18 @@ const PICTURE: usize = 4;
 
 const MAP: usize = 5;
 
-const WHY: usize = 6;
+const COMPARE: usize = 6;
 
-const HELP: usize = 7;
+const WHY: usize = 7;
+
+const HELP: usize = 8;
 
 fn main() {
     let mut word = io::buffer();
     let length = os::arg(1, &mut word);
     let command = words::which(
         &word[..length],
-        b"cases;frames;radials;gates;picture;map;why;help",
+        b"cases;frames;radials;gates;picture;map;compare;why;help",
     );
     if !is_right(command, os::arg_count()) {
         wrong(command);
@@ -62,6 +68,7 @@ fn main() {
         GATES => run_gates(),
         PICTURE => run_picture(),
         MAP => run_map(),
+        COMPARE => run_compare(),
         WHY => run_why(),
         _ => help(),
     }
@@ -73,7 +80,7 @@ fn is_right(command: usize, count: usize) -> bool {
         CASES => 3 <= count,
         FRAMES | RADIALS | WHY => count == 3,
         GATES => count == 5,
-        PICTURE => count == 4,
+        PICTURE | COMPARE => count == 4,
         MAP => count == 6,
         HELP => count == 2,
         _ => false,
@@ -88,7 +95,7 @@ fn wrong(command: usize) {
 
 fn wrong_line(command: usize, sheet: &mut [u8; SHEET]) {
     let list =
-        b"cases FILE...;frames RECORDING;radials RECORDING;gates RECORDING PLACE MOMENT;picture RECORDING MOMENT;map FILE ELEVATION AZIMUTH KILOMETRE;why NUMBER;help";
+        b"cases FILE...;frames RECORDING;radials RECORDING;gates RECORDING PLACE MOMENT;picture RECORDING MOMENT;map FILE ELEVATION AZIMUTH KILOMETRE;compare OLD NEW;why NUMBER;help";
     let mut at = page::text(sheet, 0, b"ulmarzhe: the command line should be: ulmarzhe ");
     let form = words::pick(list, command);
     if command <= HELP {
@@ -301,9 +308,8 @@ fn run_map() {
     }
     let mut window = [0u8; WINDOW];
     let mut sheet = [0u8; SHEET];
-    let r = window::whole(window::begun(fd, 0), &mut window);
+    let r = read_map(fd, 0, b"map", &mut window);
     if r.failed {
-        os::fail(b"map");
         return;
     }
     libc::close(fd);
@@ -314,8 +320,19 @@ fn run_map() {
         azimuth.value as usize,
         kilometre.value as usize,
     );
-    let at = code_line(answer, &mut sheet);
+    let at = maps::code_line(answer, &mut sheet);
     page::send(libc::STDOUT_FILENO, &sheet, at);
+}
+
+// A file is read into the window from a place on, or it is said why it cannot be.
+fn read_map(fd: i32, from: usize, name: &[u8], window: &mut [u8; WINDOW]) -> Reading {
+    let mut r = window::begun(fd, 0);
+    r.fill = from;
+    let r = window::whole(r, window);
+    if r.failed {
+        os::fail(name);
+    }
+    r
 }
 
 // A file longer than the window is longer than any map, and refused alike.
@@ -329,14 +346,58 @@ fn mapped(
     filter::code_at(part::part(window, 0, fill), elevation, azimuth, kilometre)
 }
 
-fn code_line(answer: CodeAnswer, sheet: &mut [u8; SHEET]) -> usize {
-    let list = b"code #, bypass filter\n;code #, bypass map in control\n;code #, force filter\n";
-    match answer {
-        CodeAnswer::Refused(n) => why::refusal(sheet, 0, n),
-        CodeAnswer::Code(code) => {
-            page::filled(sheet, 0, words::pick(list, code as usize), &[code as u64])
-        }
+fn run_compare() {
+    let old = open_arg(2);
+    if old < 0 {
+        return;
     }
+    let new = open_arg(3);
+    if new < 0 {
+        return;
+    }
+    let mut window = [0u8; WINDOW];
+    let mut sheet = [0u8; SHEET];
+    let mut list = [0u16; LIST];
+    both(old, new, &mut window, &mut list, &mut sheet);
+}
+
+// The new map stands in the window behind the old one.
+fn both(
+    old: i32,
+    new: i32,
+    window: &mut [u8; WINDOW],
+    list: &mut [u16; LIST],
+    sheet: &mut [u8; SHEET],
+) {
+    let r = read_map(old, 0, b"old map", window);
+    if r.failed {
+        return;
+    }
+    libc::close(old);
+    let end = if r.fill < maps::LONG {
+        r.fill
+    } else {
+        maps::LONG
+    };
+    let r = read_map(new, end, b"new map", window);
+    if r.failed {
+        return;
+    }
+    let w = recording::begun(new, 0, 0, picture::empty());
+    ended(compared(w, window, end, r.fill, list, sheet), sheet);
+}
+
+fn compared(
+    w: Walk,
+    window: &[u8; WINDOW],
+    end: usize,
+    fill: usize,
+    list: &mut [u16; LIST],
+    sheet: &mut [u8; SHEET],
+) -> Walk {
+    let old = part::part(window, 0, end);
+    let new = part::part(window, end, fill);
+    maps::compared(w, old, new, list, sheet)
 }
 
 fn run_why() {
@@ -371,6 +432,8 @@ ulmarzhe picture RECORDING MOMENT
     a PGM picture on standard output: a row a radial, a column a gate, the codes as they lie
 ulmarzhe map FILE ELEVATION AZIMUTH KILOMETRE
     the code there of a clutter filter map; FILE is the body of message 15
+ulmarzhe compare OLD NEW
+    a line a difference of two clutter filter maps, then a table of the kilometres changed; OLD and NEW are bodies of message 15
 ulmarzhe why NUMBER
     a refusal in words
 ulmarzhe cases FILE...

@@ -198,6 +198,12 @@ fn stopped(w: Walk, mode: u8, n: u8, sheet: &mut [u8; SHEET]) -> Walk {
     walk_at(w.reading, page, true, w.picture)
 }
 
+pub fn paged(w: Walk, page: usize) -> Walk {
+    let mut w = w;
+    w.page = page;
+    w
+}
+
 // The page is written out once it is filled beyond a place.
 pub fn emptied(w: Walk, most: usize, sheet: &[u8; SHEET]) -> Walk {
     if w.page <= most {

@@ -34,7 +34,7 @@ pub fn met(s: Sink, expected: &[u8]) -> bool {
 
 pub fn say(s: Sink, sheet: &mut [u8; SHEET], t: Told) -> Sink {
     let list =
-        b"no #;touched;end;frame # # # # #;header # # # # # # # #;set # # # # # # # # x;wrote x;radial x~ # # # x~ # # # # # x~ # # #; | # # x~; | # # x~ x~ # # # # # # # x~ x~;gates x;below;folded;value x~;request #;censor # x;map # # #;code #";
+        b"no #;touched;end;frame # # # # #;header # # # # # # # #;set # # # # # # # # x;wrote x;radial x~ # # # x~ # # # # # x~ # # #; | # # x~; | # # x~ x~ # # # # # # # x~ x~;gates x;below;folded;value x~;request #;censor # x;map # # #;code #;compare # # # x";
     let values = t.values;
     let mut s = s;
     s.at = page::filled(sheet, s.at, words::pick(list, t.which), &values);

@@ -44,6 +44,8 @@ pub const MAP: usize = 16;
 
 pub const CODE: usize = 17;
 
+pub const COMPARED: usize = 18;
+
 pub fn three(which: usize, a: u64, b: u64, c: u64) -> Told {
     Told {
         which,

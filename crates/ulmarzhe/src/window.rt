@@ -1,7 +1,7 @@
 // A file of any length, read by windows: what is looked at lies whole in the window, or is too long for it.
 use crate::part::sum;
 
-pub const WINDOW: usize = 1703936;
+pub const WINDOW: usize = 2359296;
 
 // As much is read at a time as stays near the processor.
 const AT_ONCE: usize = 262144;

@@ -1,27 +1,29 @@
 // The entries whose answer has bytes: they lie in the room behind the page, which is lent full of a pattern. Where a refusal changed a
-// byte of what was lent, or an acceptance one past its length, the answer is `touched`.
+// byte of what was lent, or an acceptance one past its length, the answer is `touched`. A list of halfwords is lent apart, alike.
 use crate::entries;
+use crate::lists;
+use crate::lists::LIST;
 use crate::page::PAGE;
 use crate::page::ROOM;
 use crate::page::SHEET;
 use crate::part::sum;
 use crate::part::wide16;
+use crate::part::wide32;
 use crate::readers;
 use crate::told;
 use crate::told::Told;
+use compare::CompareAnswer;
 use lookup::MomentAnswer;
 use sets::SetAnswer;
 use wire::WriteAnswer;
 use writer::Given;
 
-const LIST: usize = 425984;
-
 // Sets and writers: the room that is lent is as large as the question says, and never larger than an answer needs.
 pub fn written(entry: usize, n: [u64; 6], body: &[u8], sheet: &mut [u8; SHEET]) -> Told {
     let room = if entry == entries::WRITE {
-        room_of(n[5])
+        room_of(n[5], ROOM)
     } else {
-        room_of(n[0])
+        room_of(n[0], ROOM)
     };
     let end = sum(PAGE, room);
     lay(sheet, end);
@@ -58,11 +60,11 @@ fn wrote(answer: WriteAnswer) -> Told {
     }
 }
 
-fn room_of(room: u64) -> usize {
-    if room < ROOM as u64 {
+fn room_of(room: u64, most: usize) -> usize {
+    if room < most as u64 {
         return room as usize;
     }
-    ROOM
+    most
 }
 
 fn touched() -> Told {
@@ -119,37 +121,57 @@ fn given(n: [u64; 6]) -> Given {
 // The writers of messages 9 and 8.
 fn of_list(entry: usize, body: &[u8], room: &mut [u8]) -> Told {
     let mut list = [0u16; LIST];
-    let count = listed(body, &mut list);
+    let count = lists::listed(body, &mut list);
     by_list(entry, &list, count, room)
 }
 
 fn by_list(entry: usize, list: &[u16; LIST], count: usize, room: &mut [u8]) -> Told {
-    let numbers = first(list, count);
+    let numbers = lists::first(list, count);
     if entry == entries::WRITE_REQUEST {
         return wrote(request::write_request(numbers, room));
     }
     wrote(clutter::write_censor(numbers, room))
 }
 
-fn first(list: &[u16], count: usize) -> &[u16] {
-    if count <= list.len() {
-        return &list[0..count];
-    }
-    list
+// The comparison of two maps, its differences put into the room.
+pub fn of_maps(room: u64, old: &[u8], new: &[u8], sheet: &mut [u8; SHEET]) -> Told {
+    let mut list = [0u16; LIST];
+    compared(room_of(room, LIST), old, new, &mut list, sheet)
 }
 
-// The halfwords that stand in bytes, and how many they are.
-fn listed(bytes: &[u8], list: &mut [u16; LIST]) -> usize {
-    let count = bytes.len() / 2;
-    let mut n = 0;
-    while n < count {
-        if LIST <= n {
-            return n;
-        }
-        list[n] = wire::fetch16(bytes, n as u32 * 2);
-        n += 1;
+fn compared(
+    room: usize,
+    old: &[u8],
+    new: &[u8],
+    list: &mut [u16; LIST],
+    sheet: &mut [u8; SHEET],
+) -> Told {
+    lists::lay(list, room);
+    let t = lent_list(old, new, list, room);
+    let count = t.length / 2;
+    if lists::kept(list, count, room) {
+        lists::spread(lists::first(list, count), sheet);
+        return t;
     }
-    n
+    touched()
+}
+
+fn lent_list(old: &[u8], new: &[u8], list: &mut [u16], room: usize) -> Told {
+    if list.len() < room {
+        return touched();
+    }
+    maps_told(compare::compare(old, new, &mut list[0..room]))
+}
+
+fn maps_told(answer: CompareAnswer) -> Told {
+    match answer {
+        CompareAnswer::Refused(n) => told::refused(n),
+        CompareAnswer::Compared(old, new, count) => {
+            let mut t = told::three(told::COMPARED, wide16(old), wide16(new), wide32(count));
+            t.length = count as usize * 12;
+            t
+        }
+    }
 }
 
 // The regions of message 8, all places, put into the room.
@@ -159,25 +181,8 @@ pub fn of_censor(body: &[u8], sheet: &mut [u8; SHEET]) -> Told {
         return told::refused(c.number);
     }
     let regions = c.regions;
-    spread(&regions, sheet);
+    lists::spread(&regions, sheet);
     told::followed(told::CENSOR, wide16(c.count), 300)
-}
-
-fn spread(regions: &[u16; 150], sheet: &mut [u8; SHEET]) {
-    let mut i = 0;
-    while i < 150 {
-        sheet[PAGE + i * 2] = high(regions[i]);
-        sheet[PAGE + i * 2 + 1] = low(regions[i]);
-        i += 1;
-    }
-}
-
-fn high(x: u16) -> u8 {
-    (x / 256) as u8
-}
-
-fn low(x: u16) -> u8 {
-    (x % 256) as u8
 }
 
 // A moment's gates, put into the room.

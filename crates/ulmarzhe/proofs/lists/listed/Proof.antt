@@ -1,7 +1,7 @@
 use Prim.Native.Nat.{_-_}
 use borrow.Author.Needs.{needs}
-use Rattle.ulmarzhe.proofs.writers.listed.Statement.{statement}
-use Rattle.ulmarzhe.proofs.writers.listed.Tie as tie
+use Rattle.ulmarzhe.proofs.lists.listed.Statement.{statement}
+use Rattle.ulmarzhe.proofs.lists.listed.Tie as tie
 
 abbrev Inv-loop : tie.InvT-loop
 Inv-loop bytes list₀ count n₀ list n = Unit {0}

@@ -1,22 +1,26 @@
-use Prim.Native.Nat.{_-_, _≤_}
+use lib.ListN.{length}
+use Prim.Native.Nat.{_-_}
 use borrow.Author.Needs.{needs}
-use Rattle.ulmarzhe.proofs.writers.spread.Statement.{statement}
-use Rattle.ulmarzhe.proofs.writers.spread.Tie as tie
+use Rattle.ulmarzhe.proofs.lists.spread.Statement.{statement}
+use Rattle.ulmarzhe.proofs.lists.spread.Tie as tie
 
 abbrev Inv-loop : tie.InvT-loop
-Inv-loop regions sheet₀ i₀ sheet i = i ≤ 150
+Inv-loop list sheet₀ i₀ sheet i = Unit {0}
 
 abbrev μ-loop : tie.MeasureT-loop
-μ-loop regions sheet₀ i₀ sheet i = 150 - i
+μ-loop list sheet₀ i₀ sheet i = length list - i
 
 loop-holds : tie.Need-loop-holds Inv-loop μ-loop
 loop-holds c = search needs
 
+returns : tie.Need-returns Inv-loop μ-loop
+returns c = search needs
+
 mul-high : tie.Need-mul-high Inv-loop μ-loop
 mul-high c = search needs
 
-element-copy-out-high : tie.Need-element-copy-out-high Inv-loop μ-loop
-element-copy-out-high c = search needs
+shared-slice-read-high : tie.Need-shared-slice-read-high Inv-loop μ-loop
+shared-slice-read-high c = search needs
 
 high-requires : tie.Need-high-requires Inv-loop μ-loop
 high-requires c κs = search needs
@@ -33,8 +37,8 @@ element-write-sheet c = search needs
 mul-low : tie.Need-mul-low Inv-loop μ-loop
 mul-low c = search needs
 
-element-copy-out-low : tie.Need-element-copy-out-low Inv-loop μ-loop
-element-copy-out-low c = search needs
+shared-slice-read-low : tie.Need-shared-slice-read-low Inv-loop μ-loop
+shared-slice-read-low c = search needs
 
 low-requires : tie.Need-low-requires Inv-loop μ-loop
 low-requires c κs = search needs
@@ -60,8 +64,8 @@ loop-less c = search needs
 loop-again : tie.Need-loop-again Inv-loop μ-loop
 loop-again c = search needs
 
-returns : tie.Need-returns Inv-loop μ-loop
-returns c = search needs
+returns-2 : tie.Need-returns-2 Inv-loop μ-loop
+returns-2 c = search needs
 
 pub spread-spec : {M : Type 1} → statement M
 spread-spec =
@@ -70,14 +74,15 @@ spread-spec =
     Inv-loop
     μ-loop
     loop-holds
+    returns
     mul-high
-    element-copy-out-high
+    shared-slice-read-high
     high-requires
     mul-sheet
     add-sheet
     element-write-sheet
     mul-low
-    element-copy-out-low
+    shared-slice-read-low
     low-requires
     mul-sheet-2
     add-sheet-2
@@ -86,4 +91,4 @@ spread-spec =
     add-i
     loop-less
     loop-again
-    returns)
+    returns-2)
