@@ -119,21 +119,30 @@ TASK(map_code)
 }
 
 /* The differences, and the last kilometre of the first one. */
-static inline uint64_t compare_with(const struct map *m)
+static inline uint64_t compare_with(const struct map *m, size_t room)
 {
-    ANSWER(comparison) r
-        = ASK(compare_maps)(sweep.map.bytes, sweep.map.size, m->bytes, m->size, sweep.list, MOST_HALFWORDS);
+    ANSWER(comparison) r = ASK(compare_maps)(sweep.map.bytes, sweep.map.size, m->bytes, m->size, sweep.list, room);
     return r.differences + sweep.list[3];
 }
 
 TASK(compare_near)
 {
-    return compare_with(&sweep.near);
+    return compare_with(&sweep.near, MOST_HALFWORDS);
 }
 
 TASK(compare_apart)
 {
-    return compare_with(&sweep.apart);
+    return compare_with(&sweep.apart, MOST_HALFWORDS);
+}
+
+TASK(compare_near_less)
+{
+    return compare_with(&sweep.near, MOST_HALFWORDS - 1);
+}
+
+TASK(compare_apart_less)
+{
+    return compare_with(&sweep.apart, MOST_HALFWORDS - 1);
 }
 
 const struct batch JOINED(SIDE, batches)[] = {
@@ -150,5 +159,7 @@ const struct batch JOINED(SIDE, batches)[] = {
     { "map_code", QUERIES, JOINED(SIDE, task_map_code) },
     { "compare_near", 1, JOINED(SIDE, task_compare_near) },
     { "compare_apart", 1, JOINED(SIDE, task_compare_apart) },
+    { "compare_near_less", 1, JOINED(SIDE, task_compare_near_less) },
+    { "compare_apart_less", 1, JOINED(SIDE, task_compare_apart_less) },
     { NULL, 0, NULL },
 };
