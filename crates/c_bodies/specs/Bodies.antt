@@ -1,13 +1,15 @@
--- Messages 8, 9 and 15 as C receives them. "On a refusal every other field is 0."
+-- Messages 8, 9 and 15 and the comparison of two messages 15, as C receives them. "On a refusal every other field is 0."
 use Prim.Native.Nat.{ℕ}
 use mathlib.Core.List.{List}
 use Rattle.wire.specs.Answers.{Answer, refused, given}
 use Rattle.clutter.specs.Promises.{shown}
 use Rattle.map.specs.Reading.{Summary}
+use Rattle.differences.specs.Comparing.{Comparison}
 use Rattle.c_bodies.specs.declared.UlmRequest.{UlmRequest}
 use Rattle.c_bodies.specs.declared.UlmCensor.{UlmCensor}
 use Rattle.c_bodies.specs.declared.UlmMap.{UlmMap}
 use Rattle.c_bodies.specs.declared.UlmMapCode.{UlmMapCode}
+use Rattle.c_bodies.specs.declared.UlmComparison.{UlmComparison}
 
 abbrev pub requestFace : Answer ℕ → UlmRequest
 requestFace (refused n) = record { refusal = n; code = 0 }
@@ -24,3 +26,12 @@ mapFace (given s) = record { refusal = 0; date = s .date; minutes = s .minutes; 
 abbrev pub mapCodeFace : Answer ℕ → UlmMapCode
 mapCodeFace (refused n) = record { refusal = n; code = 0 }
 mapCodeFace (given code) = record { refusal = 0; code = code }
+
+abbrev pub comparisonFace : Answer Comparison → UlmComparison
+comparisonFace (refused n) = record { refusal = n; «old_elevations» = 0; «new_elevations» = 0; differences = 0 }
+comparisonFace (given c) = record {
+  refusal = 0;
+  «old_elevations» = c .oldElevations;
+  «new_elevations» = c .newElevations;
+  differences = c .differences;
+}

@@ -1,11 +1,13 @@
-// Messages 8, 9 and 15 as C receives them, and the writers of 8 and 9.
+// Messages 8, 9 and 15 as C receives them, the writers of 8 and 9, and the comparison of two messages 15.
 ghost use mathlib.Core.Path.{_≡_};
 ghost use Rattle.request.specs.Request.{requestOf, requestWritten};
 ghost use Rattle.clutter.specs.Censor.{censorOf, censorWritten};
 ghost use Rattle.map.specs.Reading.{summaryOf, codeOf};
+ghost use Rattle.differences.specs.Comparing.{comparisonOf};
 ghost use Rattle.c_lent.specs.Lent.{Leaves, writtenFace};
-ghost use Rattle.c_bodies.specs.Bodies.{requestFace, censorFace, mapFace, mapCodeFace};
+ghost use Rattle.c_bodies.specs.Bodies.{requestFace, censorFace, mapFace, mapCodeFace, comparisonFace};
 use c_lent::UlmWritten;
+use compare::CompareAnswer;
 use filter::CodeAnswer;
 use filter::MapAnswer;
 use request::RequestAnswer;
@@ -35,6 +37,14 @@ pub struct UlmMap {
 pub struct UlmMapCode {
     pub refusal: u32,
     pub code: u32,
+}
+
+#[repr(C)]
+pub struct UlmComparison {
+    pub refusal: u32,
+    pub old_elevations: u32,
+    pub new_elevations: u32,
+    pub differences: u32,
 }
 
 pub fn request(body: &[u8]) -> UlmRequest
@@ -119,5 +129,25 @@ fn map_code_with(refusal: u8, code: u16) -> UlmMapCode
     UlmMapCode {
         refusal: refusal as u32,
         code: code as u32,
+    }
+}
+
+pub fn compare_maps(old: &[u8], new: &[u8], out: &mut [u16]) -> UlmComparison
+    ensures { λ r. ⌜ Leaves comparisonFace (comparisonOf (now (old .entry)) (now (new .entry)) (now (out .entry))) r (now (out .exit)) ⌝ }
+{
+    match compare::compare(old, new, out) {
+        CompareAnswer::Compared(older, newer, count) => comparison_with(0, older, newer, count),
+        CompareAnswer::Refused(number) => comparison_with(number, 0, 0, 0),
+    }
+}
+
+fn comparison_with(refusal: u8, older: u16, newer: u16, count: u32) -> UlmComparison
+    ensures { λ r. ⌜ r ≡ record { refusal = refusal; «old_elevations» = older; «new_elevations» = newer; differences = count } ⌝ }
+{
+    UlmComparison {
+        refusal: refusal as u32,
+        old_elevations: older as u32,
+        new_elevations: newer as u32,
+        differences: count,
     }
 }

@@ -11,11 +11,13 @@ ghost use Rattle.gate.specs.Value.{valueOf, gateOf};
 ghost use Rattle.request.specs.Request.{requestOf, requestWritten};
 ghost use Rattle.clutter.specs.Censor.{censorOf, censorWritten};
 ghost use Rattle.map.specs.Reading.{summaryOf, codeOf};
+ghost use Rattle.differences.specs.Comparing.{comparisonOf};
 ghost use Rattle.c_lent.specs.Lent.{Leaves, writtenFace};
 ghost use Rattle.c_frames.specs.Frames.{frameFace, headerFace, setFace};
 ghost use Rattle.c_radials.specs.Radials.{radialFace, blockFace, gatesFace, worthFace};
-ghost use Rattle.c_bodies.specs.Bodies.{requestFace, censorFace, mapFace, mapCodeFace};
+ghost use Rattle.c_bodies.specs.Bodies.{requestFace, censorFace, mapFace, mapCodeFace, comparisonFace};
 use c_bodies::UlmCensor;
+use c_bodies::UlmComparison;
 use c_bodies::UlmMap;
 use c_bodies::UlmMapCode;
 use c_bodies::UlmRequest;
@@ -149,4 +151,11 @@ pub extern "C" fn ulm_map_code(
     ensures { λ r. ⌜ r ≡ mapCodeFace (codeOf (now (body .entry)) elevation azimuth kilometre) ⌝ }
 {
     c_bodies::map_code(body, elevation, azimuth, kilometre)
+}
+
+#[no_mangle]
+pub extern "C" fn ulm_compare_maps(old: &[u8], new: &[u8], out: &mut [u16]) -> UlmComparison
+    ensures { λ r. ⌜ Leaves comparisonFace (comparisonOf (now (old .entry)) (now (new .entry)) (now (out .entry))) r (now (out .exit)) ⌝ }
+{
+    c_bodies::compare_maps(old, new, out)
 }

@@ -1,0 +1,60 @@
+use Rattle.compare.specs.Answers.{tellCompare}
+use Rattle.c_bodies.specs.Bodies.{comparisonFace}
+use Rattle.c_lent.proofs.LentLaws.{leaves-of}
+use borrow.Author.Needs.{needs}
+use Rattle.c_bodies.proofs.compare_maps.Statement.{statement}
+use Rattle.c_bodies.proofs.compare_maps.Tie as tie
+use Rattle.c_bodies.proofs.compare_maps.Reads as reads
+use Rattle.c_bodies.proofs.compare_maps.Lts as lts
+use Rattle.c_bodies.proofs.comparison_with.Reads as comparison-with-reads
+use Rattle.compare.proofs.compare.Reads as compare-reads
+
+-- src/lib.rt:138:11
+compare-requires : tie.Need-compare-requires
+compare-requires c κs = search needs
+
+-- src/lib.rt:139:33
+enum-known-older : tie.Need-enum-known-older
+enum-known-older c = search needs
+
+-- src/lib.rt:139:57
+comparison-with-requires : tie.Need-comparison-with-requires
+comparison-with-requires c κs = search needs
+
+-- src/lib.rt:140:32
+enum-known-number : tie.Need-enum-known-number
+enum-known-number c = search needs
+
+-- src/lib.rt:140:43
+comparison-with-requires-2 : tie.Need-comparison-with-requires-2
+comparison-with-requires-2 c κs = search needs
+
+-- src/lib.rt:135:1
+same-length : tie.Need-same-length
+same-length c = search needs
+
+-- src/lib.rt:135:1
+returns : tie.Need-returns
+returns c = leaves-of tellCompare comparisonFace _ (c .before .before .before .before .before .before .compare .result) _ _ (c .before .before .before .before .before .before .compare .ensures) (simp (c .comparison-with .ensures, c .before .before .older .given .1))
+
+-- src/lib.rt:135:1
+same-length-2 : tie.Need-same-length-2
+same-length-2 c = search needs
+
+-- src/lib.rt:135:1
+returns-2 : tie.Need-returns-2
+returns-2 c = leaves-of tellCompare comparisonFace _ (c .before .before .before .before .before .before .compare .result) _ _ (c .before .before .before .before .before .before .compare .ensures) (simp (c .comparison-with2 .ensures, c .before .before .number .given .1))
+
+pub compare-maps-spec : {M : Type 1} → statement M
+compare-maps-spec =
+    tie.close
+    (tie.spec
+    compare-requires
+    enum-known-older
+    comparison-with-requires
+    enum-known-number
+    comparison-with-requires-2
+    same-length
+    returns
+    same-length-2
+    returns-2)
