@@ -3,6 +3,7 @@ pub mod SheetLaws
 pub mod StretchLaws
 pub mod ZoneWalk
 pub mod TurnLaws
+pub mod ZoneNumbers
 pub mod AzimuthWalk
 pub mod EntryLaws
 pub mod OneAnswer

@@ -4,10 +4,27 @@ use native.Mathlib.Nat.{add-zero, zero-add, suc-add}
 use native.Mathlib.Omega.{arith}
 use mathlib.Core.Path.{_≡_, refl, sym, ap, _∙_}
 use mathlib.Core.Bool.{Bool, true, false, not}
-use mathlib.Core.List.{List, _++_}
+use mathlib.Core.List.{List, [], _++_}
 use borrow.Author.Tests.{eq-eqb}
-use Rattle.wire.specs.Checks.{both}
+use Rattle.wire.specs.Checks.{pick, both}
 use Rattle.differences.specs.Differences.{Difference, stay, stretch, stretches}
+
+-- codes that are the same list nothing
+module _ (elevation azimuth : ℕ) (codes : ℕ → ℕ) where
+  stretch-none : (first next : ℕ) → stretch elevation azimuth codes codes first next ≡ []
+  stretch-none first next = simp (eq-eqb (codes first) (codes first) refl)
+
+  pub stretches-none : (first next left : ℕ) → stretches elevation azimuth codes codes first next left ≡ []
+  unfolding stretches
+  stretches-none first next zero = stretch-none first next
+  stretches-none first next (suc left) =
+      go (stay codes codes first next) (stretches-none first (suc next) left)
+      (ap (λ (l : List Difference). l ++ stretches elevation azimuth codes codes next (suc next) left) (stretch-none first next)
+      ∙ stretches-none next (suc next) left)
+    where
+      go : (t : Bool) {l m : List Difference} → l ≡ [] → m ≡ [] → pick t l m ≡ []
+      go true e f = e
+      go false e f = f
 
 module _ (elevation azimuth : ℕ) (old new : ℕ → ℕ) where
   -- the codes at a kilometre are those of the first

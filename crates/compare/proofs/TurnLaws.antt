@@ -10,12 +10,12 @@ use borrow.Author.Tests.{ltb-true, ltb-false, eqb-true, eqb-false}
 use Rattle.wire.specs.Numbers.{fetched}
 use Rattle.wire.specs.Checks.{pick, both, AllHold}
 use Rattle.wire.proofs.CheckLaws.{never, both-true}
-use Rattle.map.specs.Map.{codeFrom}
+use Rattle.map.specs.Map.{Zone, codeFrom}
 use Rattle.map.specs.Reading.{azimuthPart}
 use Rattle.differences.specs.Differences.{Difference, stay, stretch, stretches}
 use Rattle.compare.specs.Sheets.{Sheet, sheet, onto, zonesDifferences}
 use Rattle.compare.proofs.SheetLaws.{onto-append, onto-count, onto-length}
-use Rattle.compare.proofs.StretchLaws.{Same, same-stay, part-stays, part-ends, from-first, stretches-last}
+use Rattle.compare.proofs.StretchLaws.{Same, same-stay, part-stays, part-ends, from-first, stretches-last, stretches-none}
 use Rattle.compare.proofs.ZoneWalk.{Facing, facing-first, facing-low, facing-high, facing-code, facing-past}
 
 abbrev codes : List ℕ → ℕ → ℕ
@@ -32,6 +32,14 @@ pub record Walking (old new : List ℕ) (elevation azimuth count : ℕ) (out₀ 
   pub atNew : Facing new j next
   pub same : onto (stretches elevation azimuth (codes old) (codes new) first next (512 - next)) (sheet listed out)
       ≡ onto (zonesDifferences elevation azimuth old new) (sheet count out₀)
+
+-- azimuths that have the same zones
+pub none-listed : (old new : List ℕ) (elevation azimuth count : ℕ) (out : List ℕ) → azimuthPart .read old ≡ azimuthPart .read new
+    → sheet count out ≡ onto (zonesDifferences elevation azimuth old new) (sheet count out)
+none-listed old new elevation azimuth count out e =
+    ap (λ (ds : List Difference). onto ds (sheet count out))
+    (sym
+    (ap (λ (zs : List Zone). stretches elevation azimuth (codeFrom 0 zs) (codes new) 0 1 511) e ∙ stretches-none elevation azimuth (codes new) 0 1 511))
 
 module _ (p q : ℕ) where
   abbrev lesser : ℕ

@@ -5,7 +5,7 @@ use filter::MapAnswer;
 use wire::refusal;
 ghost use mathlib.Core.Path.{_≡_};
 ghost use Prim.Native.Nat.{_+_, _*_, _≤_, _<_};
-ghost use mathlib.Core.Bool.{not};
+ghost use mathlib.Core.Bool.{true, not};
 ghost use mathlib.Core.List.{[], _∷_};
 ghost use lib.Dec.{ltb, leb, eqb};
 ghost use lib.ListN.{length};
@@ -100,7 +100,27 @@ fn list(
     count + 1
 }
 
-// The azimuth that a part of each body begins with: the zones of both are walked side by side, from one end of either to the next.
+// Whether the azimuths that two parts begin with have the same zones, zone by zone.
+fn alike(old: &[u8], new: &[u8]) -> bool
+    requires { ⌜ AllHold (azimuthPart .checks (now old)) × AllHold (azimuthPart .checks (now new)) ⌝ }
+    ensures { λ r. ⌜ (r ≡ true → azimuthPart .read (now (old .entry)) ≡ azimuthPart .read (now (new .entry))) ⌝ }
+{
+    let count = wire::fetch16(old, 0);
+    if count != wire::fetch16(new, 0) {
+        return false;
+    }
+    let end = 2 + 4 * count as usize;
+    let mut at: usize = 2;
+    while at < end {
+        if wire::fetch32(&old[at..at + 4], 0) != wire::fetch32(&new[at..at + 4], 0) {
+            return false;
+        }
+        at += 4;
+    }
+    true
+}
+
+// The azimuth that a part of each body begins with. Most are alike; the zones of others are walked side by side, from one end of either to the next.
 fn compare_zones(
     old: &[u8],
     new: &[u8],
@@ -112,6 +132,9 @@ fn compare_zones(
     requires { ⌜ AllHold (azimuthPart .checks (now old)) × AllHold (azimuthPart .checks (now new)) × (count + 512 ≤ mostCounted) ⌝ }
     ensures { λ r. ⌜ sheet r (now (out .exit)) ≡ onto (zonesDifferences elevation azimuth (now (old .entry)) (now (new .entry))) (sheet count (now (out .entry))) ⌝ }
 {
+    if alike(old, new) {
+        return count;
+    }
     let mut i: u32 = 2;
     let mut j: u32 = 2;
     let mut next: u16 = 0;

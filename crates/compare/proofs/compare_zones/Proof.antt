@@ -10,7 +10,7 @@ use lib.Dec.{eqb}
 use Rattle.wire.specs.Checks.{both}
 use Rattle.compare.specs.Sheets.{Sheet, mostCounted}
 use Rattle.compare.proofs.ZoneWalk.{facing-place}
-use Rattle.compare.proofs.TurnLaws.{Walking, Midway, walking-start, turn-low, midway-on, midway-turn, midway-is, walking-done, not-true, not-false}
+use Rattle.compare.proofs.TurnLaws.{Walking, Midway, none-listed, walking-start, turn-low, midway-on, midway-turn, midway-is, walking-done, not-true, not-false}
 use borrow.Author.Needs.{needs}
 use Rattle.compare.proofs.compare_zones.Statement.{statement}
 use Rattle.compare.proofs.compare_zones.Tie as tie
@@ -23,6 +23,14 @@ Inv-loop old new elevation azimuth out₀ count i₀ j₀ next₀ first₀ was�
 abbrev μ-loop : tie.MeasureT-loop
 μ-loop old new elevation azimuth out₀ count i₀ j₀ next₀ first₀ was₀ is₀ listed₀ out i j next first was is listed = 512 - next
 
+alike-requires : tie.Need-alike-requires Inv-loop μ-loop
+alike-requires c κs = let s = c .before .before .before in (s .pre .0, s .pre .1)
+
+returns : tie.Need-returns Inv-loop μ-loop
+returns c =
+    let a = c .before .before .before .before .before .args in
+    none-listed (now (a .old)) (now (a .new)) (a .elevation) (a .azimuth) (a .count) (now (a .out)) (c .before .alike .ensures (c .if1 .taken))
+
 fetch16-requires : tie.Need-fetch16-requires Inv-loop μ-loop
 fetch16-requires c κs = search needs
 
@@ -31,7 +39,7 @@ fetch16-requires-2 c κs = search needs
 
 loop-holds : tie.Need-loop-holds Inv-loop μ-loop
 loop-holds c =
-    let s = c .before .before .before .before .before in
+    let s = c .before .before .before .before .before .before .before in
     let a = s .args in (
       omega arith,
       omega arith,
@@ -55,27 +63,27 @@ changed-requires c κs = search needs
 
 list-requires : tie.Need-list-requires Inv-loop μ-loop
 list-requires c κs =
-    let s = c .before .before .before .before .before .before .before .before .before .before .before .before in
+    let s = c .before .before .before .before .before .before .before .before .before .before .before .before .before .before in
     let a = s .args in
     let l = c .before .before .before .before .before .before .loop in (
       omega (arith, l .inv .4 .few, l .inv .4 .near, s .pre .2),
       turn-low (now (a .old)) (now (a .new)) (s .pre .0) (s .pre .1) (a .elevation) (a .azimuth) (a .count) (now (a .out)) (l .out) (l .i) (l .j) (l .next) (l .first) (l .was) (l .is) (l .listed)
           (l .inv .4) (c .before .before .before .before .before .loop-test .taken) (c .before .before .before .before .fetch163 .result) (c .before .before .before .fetch164 .result)
           (c .before .before .before .before .fetch163 .ensures) (c .before .before .before .fetch164 .ensures)
-          (not-true _ (sym (c .before .before .changed .ensures) ∙ c .before .if1 .taken)),
+          (not-true _ (sym (c .before .before .changed .ensures) ∙ c .before .if2 .taken)),
     )
 
 -- after the stretch was ended or not
-joined : (c : tie.Joined1 Inv-loop μ-loop)
-    → let s = c .before .before .before .before .before .before .before .before .before .before .before in
+joined : (c : tie.Joined2 Inv-loop μ-loop)
+    → let s = c .before .before .before .before .before .before .before .before .before .before .before .before .before in
     let a = s .args in
     let l = c .before .before .before .before .before .loop in
     Midway (now (a .old)) (now (a .new)) (s .pre .0) (s .pre .1) (a .elevation) (a .azimuth) (a .count) (now (a .out)) (l .out) (l .i) (l .j) (l .next) (l .first) (l .was) (l .is) (l .listed)
     (l .inv .4) (c .before .before .before .before .loop-test .taken) (c .before .before .before .fetch163 .result) (c .before .before .fetch164 .result)
     (c .before .before .before .fetch163 .ensures) (c .before .before .fetch164 .ensures)
-    (c .if1 .out) (c .if1 .first) (c .if1 .was) (c .if1 .is) (c .if1 .listed)
+    (c .if2 .out) (c .if2 .first) (c .if2 .was) (c .if2 .is) (c .if2 .listed)
 joined c =
-    let s = c .before .before .before .before .before .before .before .before .before .before .before in
+    let s = c .before .before .before .before .before .before .before .before .before .before .before .before .before in
     let a = s .args in
     let l = c .before .before .before .before .before .loop in
     let near = c .before .before .before .before .loop-test .taken in
@@ -84,25 +92,25 @@ joined c =
     ⊎-elim
     (λ t.
     midway-is (now (a .old)) (now (a .new)) (s .pre .0) (s .pre .1) (a .elevation) (a .azimuth) (a .count) (now (a .out)) (l .out) (l .i) (l .j) (l .next) (l .first) (l .was) (l .is)
-    (l .listed) (l .inv .4) near (f .result) (g .result) (f .ensures) (g .ensures) (c .if1 .out) (t .2 .last .0) (c .if1 .first) (l .next) (c .if1 .was) (f .result) (c .if1 .is) (g .result)
-    (c .if1 .listed) (t .2 .result) (t .5) (t .6) (t .7) (t .8) (t .9)
+    (l .listed) (l .inv .4) near (f .result) (g .result) (f .ensures) (g .ensures) (c .if2 .out) (t .2 .last .0) (c .if2 .first) (l .next) (c .if2 .was) (f .result) (c .if2 .is) (g .result)
+    (c .if2 .listed) (t .2 .result) (t .5) (t .6) (t .7) (t .8) (t .9)
     (midway-turn (now (a .old)) (now (a .new)) (s .pre .0) (s .pre .1) (a .elevation) (a .azimuth) (a .count) (now (a .out)) (l .out) (l .i) (l .j) (l .next) (l .first) (l .was) (l .is)
     (l .listed) (l .inv .4) near (f .result) (g .result) (f .ensures) (g .ensures) (t .2 .last .0) (t .2 .result)
     (not-true _ (sym (c .before .changed .ensures) ∙ t .0 .taken)) (t .2 .ensures)))
     (λ t.
     midway-is (now (a .old)) (now (a .new)) (s .pre .0) (s .pre .1) (a .elevation) (a .azimuth) (a .count) (now (a .out)) (l .out) (l .i) (l .j) (l .next) (l .first) (l .was) (l .is)
-    (l .listed) (l .inv .4) near (f .result) (g .result) (f .ensures) (g .ensures) (c .if1 .out) (l .out) (c .if1 .first) (l .first) (c .if1 .was) (l .was) (c .if1 .is) (l .is)
-    (c .if1 .listed) (l .listed) (t .1) (t .2) (t .3) (t .4) (t .5)
+    (l .listed) (l .inv .4) near (f .result) (g .result) (f .ensures) (g .ensures) (c .if2 .out) (l .out) (c .if2 .first) (l .first) (c .if2 .was) (l .was) (c .if2 .is) (l .is)
+    (c .if2 .listed) (l .listed) (t .1) (t .2) (t .3) (t .4) (t .5)
     (midway-on (now (a .old)) (now (a .new)) (s .pre .0) (s .pre .1) (a .elevation) (a .azimuth) (a .count) (now (a .out)) (l .out) (l .i) (l .j) (l .next) (l .first) (l .was) (l .is)
     (l .listed) (l .inv .4) near (f .result) (g .result) (f .ensures) (g .ensures)
     (not-false _ (sym (c .before .changed .ensures) ∙ t .0 .left))))
-    (c .if1 .came)
+    (c .if2 .came)
 
 -- after the turn
 turned : (c : tie.After-past2 Inv-loop μ-loop)
-    → let s = c .before .before .before .before .before .before .before .before .before .before .before .before .before .before .before .before in
+    → let s = c .before .before .before .before .before .before .before .before .before .before .before .before .before .before .before .before .before .before in
     let l = c .before .before .before .before .before .before .before .before .before .before .loop in
-    let j = c .before .before .before .before .before .if1 in
+    let j = c .before .before .before .before .before .if2 in
     let end = c .before .before .least .result in
     (l .next < end + 1) × (end ≤ 511) × (length (j .out) ≡ length (l .out))
     × Walking (now (s .args .old)) (now (s .args .new)) (s .args .elevation) (s .args .azimuth) (s .args .count) (now (s .args .out)) (j .out) (c .before .past .result) (c .past2 .result)
@@ -142,7 +150,7 @@ loop-less c = let l = c .before .before .before .before .before .before .before 
 
 loop-again : tie.Need-loop-again Inv-loop μ-loop
 loop-again c =
-    let s = c .before .before .before .before .before .before .before .before .before .before .before .before .before .before .before .before in
+    let s = c .before .before .before .before .before .before .before .before .before .before .before .before .before .before .before .before .before .before in
     let l = c .before .before .before .before .before .before .before .before .before .before .loop in
     let t = turned c in
     let n = c .before .before .least .result + 1 in (
@@ -155,7 +163,7 @@ loop-again c =
 
 list-requires-2 : tie.Need-list-requires-2 Inv-loop μ-loop
 list-requires-2 c κs =
-    let s = c .before .before .before .before .before .before .before .before in
+    let s = c .before .before .before .before .before .before .before .before .before .before in
     let l = c .before .before .loop in
     (omega (arith, l .inv .4 .few, l .inv .4 .near, s .pre .2), omega (arith, c .before .loop-test .left))
 
@@ -164,9 +172,9 @@ same-length c =
     let l = c .before .before .before .before .before .loop in
     c .before .before .list2 .kept .0 ∙ l .inv .3
 
-returns : tie.Need-returns Inv-loop μ-loop
-returns c =
-    let s = c .before .before .before .before .before .before .before .before .before .before .before in
+returns-2 : tie.Need-returns-2 Inv-loop μ-loop
+returns-2 c =
+    let s = c .before .before .before .before .before .before .before .before .before .before .before .before .before in
     let a = s .args in
     let l = c .before .before .before .before .before .loop in
     c .before .before .list2 .ensures
@@ -179,6 +187,8 @@ compare-zones-spec =
     (tie.spec
     Inv-loop
     μ-loop
+    alike-requires
+    returns
     fetch16-requires
     fetch16-requires-2
     loop-holds
@@ -199,4 +209,4 @@ compare-zones-spec =
     loop-again
     list-requires-2
     same-length
-    returns)
+    returns-2)
