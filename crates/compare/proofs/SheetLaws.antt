@@ -1,21 +1,21 @@
 -- Differences laid on a sheet one after the other. Assumes nothing.
-use Prim.Native.Nat.{ℕ, zero, suc, _+_, _*_, _-_, _≤_, _<_}
-use native.Mathlib.Nat.{add-zero, suc-add}
+use Prim.Native.Nat.{ℕ, suc, _+_, _*_, _-_, _≤_, _<_}
+use native.Mathlib.Nat.{add-zero}
 use native.Mathlib.Omega.{arith}
 use mathlib.Core.Path.{_≡_, refl, sym, ap, _∙_}
 use mathlib.Core.Bool.{Bool, true, false}
-use mathlib.Core.List.{List, [], _∷_, _++_, append-assoc}
+use mathlib.Core.List.{List, [], _∷_, _++_}
+use mir.Val.{boolByte}
 use lib.Dec.{leb}
 use lib.ListN.{length, take, drop, set, length-drop, length-append}
-use lib.Seq.{drop-drop, length-take-le}
+use lib.Seq.{length-take-le}
 use native.Mathlib.Numerals.{add-one}
-use borrow.Author.Tests.{leb-true, le-leb, lt-leb, eq-eqb, ne-eqb}
+use borrow.Author.Tests.{leb-true, le-leb, lt-leb}
 use Rattle.wire.specs.Checks.{pick}
-use Rattle.wire.specs.Writing.{filled}
-use Rattle.differences.specs.Differences.{Difference, stretch}
+use Rattle.differences.specs.Differences.{Difference}
 use Rattle.differences.specs.Comparing.{halfwords}
 use Rattle.differences.proofs.Most.{halfwords-length}
-use Rattle.compare.specs.Sheets.{Sheet, sheet, lay, onto}
+use Rattle.compare.specs.Sheets.{Sheet, sheet, lay, onto, oneIf}
 
 -- six halfwords stored one after the other in six places
 pub six-stored : (out : List ℕ) (a b c d e f : ℕ) → length out ≡ 6 → set (set (set (set (set (set out 0 a) 1 b) 2 c) 3 d) 4 e) 5 f ≡ a ∷ b ∷ c ∷ d ∷ e ∷ f ∷ []
@@ -84,28 +84,30 @@ onto-length [] s = refl
 onto-length (d ∷ ds) s = onto-length ds (lay d s) ∙ lay-length d s
 
 -- ---- a stretch, as `list` lists it
+pub byte-one : (t : Bool) → boolByte t ≤ 1
+byte-one true = omega arith
+byte-one false = omega arith
+
 module _ (elevation azimuth first next old new count : ℕ) (out : List ℕ) where
-  difference : Difference
+  abbrev difference : Difference
   difference = record { elevation = elevation; azimuth = azimuth; first = first; last = next - 1; old = old; new = new }
 
-  pub list-same : old ≡ new → sheet count out ≡ onto (stretch elevation azimuth (λ k. old) (λ k. new) first next) (sheet count out)
-  list-same e = simp (eq-eqb old new e)
+  -- what `list` is asked for
+  abbrev asked : Bool → Sheet
+  asked lists = onto (oneIf lists elevation azimuth first next old new) (sheet count out)
 
-  module _ (apart : old ≡ new → ⊥) where
-    listed : onto (stretch elevation azimuth (λ k. old) (λ k. new) first next) (sheet count out) ≡ lay difference (sheet count out)
-    unfolding difference
-    listed = simp (ne-eqb old new apart)
+  pub list-counted : (lists : Bool) → length out < 6 * count + 6 → sheet (count + boolByte lists) out ≡ asked lists
+  list-counted true h = ap (λ (n : ℕ). sheet n out) (add-one count) ∙ sym (lay-none difference count out h)
+  list-counted false h = ap (λ (n : ℕ). sheet n out) (add-zero count)
 
-    pub list-counted : length out < 6 * count + 6
-        → sheet (count + 1) out ≡ onto (stretch elevation azimuth (λ k. old) (λ k. new) first next) (sheet count out)
-    list-counted h = ap (λ (n : ℕ). sheet n out) (add-one count) ∙ sym (listed ∙ lay-none difference count out h)
+  pub list-none : (lists : Bool) → lists ≡ false → sheet count out ≡ asked lists
+  list-none lists e = ap asked (sym e)
 
-    pub list-laid : (n : ℕ) (six : List ℕ) → n ≡ 6 → six ≡ elevation ∷ azimuth ∷ first ∷ (next - 1) ∷ old ∷ new ∷ [] → 6 * count + 6 ≤ length out
-        → sheet (count + 1) (take (6 * count) out ++ (six ++ drop n (drop (6 * count) out)))
-        ≡ onto (stretch elevation azimuth (λ k. old) (λ k. new) first next) (sheet count out)
-    unfolding difference
-    list-laid n six e f h =
-        ap (λ (k : ℕ). sheet k (take (6 * count) out ++ (six ++ drop n (drop (6 * count) out)))) (add-one count)
-        ∙ ap (λ (k : ℕ). sheet (suc count) (take (6 * count) out ++ (six ++ drop k (drop (6 * count) out)))) e
-        ∙ ap (λ (l : List ℕ). sheet (suc count) (take (6 * count) out ++ (l ++ drop 6 (drop (6 * count) out)))) f
-        ∙ sym (listed ∙ lay-six difference count out h)
+  pub list-laid : (lists : Bool) (n : ℕ) (six : List ℕ) → lists ≡ true → n ≡ 6 → six ≡ elevation ∷ azimuth ∷ first ∷ (next - 1) ∷ old ∷ new ∷ []
+      → 6 * count + 6 ≤ length out
+      → sheet (count + 1) (take (6 * count) out ++ (six ++ drop n (drop (6 * count) out))) ≡ asked lists
+  list-laid lists n six t e f h =
+      ap (λ (k : ℕ). sheet k (take (6 * count) out ++ (six ++ drop n (drop (6 * count) out)))) (add-one count)
+      ∙ ap (λ (k : ℕ). sheet (suc count) (take (6 * count) out ++ (six ++ drop k (drop (6 * count) out)))) e
+      ∙ ap (λ (l : List ℕ). sheet (suc count) (take (6 * count) out ++ (l ++ drop 6 (drop (6 * count) out)))) f
+      ∙ sym (ap asked t ∙ lay-six difference count out h)

@@ -1,21 +1,21 @@
 -- The walk over the zones of both azimuths, turn by turn. Assumes nothing.
-use Prim.Native.Nat.{ℕ, zero, suc, _+_, _-_, _≤_, _<_}
+use Prim.Native.Nat.{ℕ, _+_, _-_, _≤_, _<_}
 use native.Mathlib.Omega.{arith}
 use mathlib.Core.Path.{_≡_, refl, sym, ap, _∙_, subst}
-use mathlib.Core.Bool.{Bool, true, false, not}
-use mathlib.Core.List.{List, [], _∷_, _++_}
+use mathlib.Core.Bool.{Bool, true, false, not, _&&_, _||_}
+use mathlib.Core.List.{List, [], _∷_}
 use lib.Dec.{ltb, eqb}
 use lib.ListN.{length}
-use borrow.Author.Tests.{ltb-true, ltb-false, eqb-true, eqb-false}
+use borrow.Author.Tests.{ltb-true, ltb-false, eqb-true, eqb-false, not-true}
 use Rattle.wire.specs.Numbers.{fetched}
 use Rattle.wire.specs.Checks.{pick, both, AllHold}
 use Rattle.wire.proofs.CheckLaws.{never, both-true}
 use Rattle.map.specs.Map.{Zone, codeFrom}
 use Rattle.map.specs.Reading.{azimuthPart}
 use Rattle.differences.specs.Differences.{Difference, stay, stretch, stretches}
-use Rattle.compare.specs.Sheets.{Sheet, sheet, onto, zonesDifferences}
-use Rattle.compare.proofs.SheetLaws.{onto-append, onto-count, onto-length}
-use Rattle.compare.proofs.StretchLaws.{Same, same-stay, part-stays, part-ends, from-first, stretches-last, stretches-none}
+use Rattle.compare.specs.Sheets.{Sheet, sheet, onto, oneIf, zonesDifferences}
+use Rattle.compare.proofs.SheetLaws.{onto-append, onto-count}
+use Rattle.compare.proofs.StretchLaws.{same-stay, part-stays, part-ends, from-first, stretches-last, stretches-none}
 use Rattle.compare.proofs.ZoneWalk.{Facing, facing-first, facing-low, facing-high, facing-code, facing-past}
 
 abbrev codes : List ℕ → ℕ → ℕ
@@ -72,6 +72,18 @@ stretch-coded elevation azimuth first next was is old new e f =
     ap (λ (c : ℕ). stretch elevation azimuth (λ k. c) (λ k. is) first next) e
     ∙ ap (λ (c : ℕ). stretch elevation azimuth (λ k. old first) (λ k. c) first next) f
 
+-- a stretch as it is asked to be listed
+stretch-if : (elevation azimuth first next was is : ℕ)
+    → oneIf (not (eqb was is)) elevation azimuth first next was is ≡ stretch elevation azimuth (λ k. was) (λ k. is) first next
+stretch-if elevation azimuth first next was is = go (eqb was is)
+  where
+    d : Difference
+    d = record { elevation = elevation; azimuth = azimuth; first = first; last = next - 1; old = was; new = is }
+
+    go : (t : Bool) → pick (not t) (d ∷ []) [] ≡ pick t [] (d ∷ [])
+    go true = refl
+    go false = refl
+
 stretch-one : (elevation azimuth first next was is : ℕ) → length (stretch elevation azimuth (λ k. was) (λ k. is) first next) ≤ 1
 stretch-one elevation azimuth first next was is = go (eqb was is)
   where
@@ -82,13 +94,14 @@ stretch-one elevation azimuth first next was is = go (eqb was is)
     go true = omega arith
     go false = omega arith
 
-pub not-true : (t : Bool) → not t ≡ true → t ≡ false
-not-true true e = never (cc e)
-not-true false e = refl
+-- one of two codes changes unless both stay
+one-changes : (s t : Bool) → not s || not t ≡ not (both s t)
+one-changes true t = refl
+one-changes false t = refl
 
-pub not-false : (t : Bool) → not t ≡ false → t ≡ true
-not-false true e = refl
-not-false false e = never (cc e)
+first-of : (s t : Bool) → s && t ≡ true → s ≡ true
+first-of true t e = refl
+first-of false t e = e
 
 never-both : {A : Type 0} → true ≡ false → A
 never-both e = never (cc e)
@@ -139,8 +152,12 @@ module _ (old new : List ℕ) (checkedOld : AllHold (azimuthPart .checks old)) (
                 never-both (sym g ∙ stay-is ∙ s)
             go false e = let f = eqb-false first next e in omega (arith, w .low, f)
 
-        pub turn-low : both (eqb was code) (eqb is other) ≡ false → 1 ≤ next
-        turn-low s = omega (arith, begun-before s)
+        -- so it is listed only before a kilometre that is not the first
+        pub turn-low : (not (eqb was code) || not (eqb is other)) && not (eqb was is) ≡ true → 1 ≤ next
+        turn-low e =
+            let f = first-of (not (eqb was code) || not (eqb is other)) (not (eqb was is)) e in
+            let s = not-true (both (eqb was code) (eqb is other)) (sym (one-changes (eqb was code) (eqb is other)) ∙ f) in
+            omega (arith, begun-before s)
 
         turn-few : (listed′ : ℕ) (out′ : List ℕ) → both (eqb was code) (eqb is other) ≡ false
             → sheet listed′ out′ ≡ onto (stretch elevation azimuth (λ k. was) (λ k. is) first next) (sheet listed out) → listed′ ≤ count + next
@@ -166,10 +183,10 @@ module _ (old new : List ℕ) (checkedOld : AllHold (azimuthPart .checks old)) (
             end-new : end ≤ fetched 2 new (j + 2)
             end-new = omega (arith, qIs, endIs, least-new p q)
 
-            pub end-high : end ≤ 511
+            end-high : end ≤ 511
             end-high = let h = facing-high old checkedOld i next (w .atOld) near in omega (arith, end-old, h)
 
-            pub end-more : next < end + 1
+            end-more : next < end + 1
             end-more = omega (arith, end-low)
 
             at-old : Facing old i′ (end + 1)
@@ -188,95 +205,89 @@ module _ (old new : List ℕ) (checkedOld : AllHold (azimuthPart .checks old)) (
             other-on : (k : ℕ) → next ≤ k → k ≤ end → codes new k ≡ other
             other-on k l u = facing-code new checkedNew j next (w .atNew) near k l (omega (arith, end-new)) ∙ sym otherIs
 
-            -- where the codes stay, so does the stretch
-            pub walking-on : both (eqb was code) (eqb is other) ≡ true
-                → Walking old new elevation azimuth count out₀ out
-                i′ j′ (end + 1) first was is listed
-            walking-on s =
-                let q = both-true (eqb was code) (eqb is other) s in
-                let a = eqb-true was code (q .0) in
-                let b = eqb-true is other (q .1) in
-                record {
-                  low = omega (arith, w .low, end-low);
-                  near = w .near;
-                  few = w .few;
-                  wasOld = w .wasOld;
-                  isNew = w .isNew;
-                  atOld = at-old;
-                  atNew = at-new;
-                  same =
-                      ap (λ (ds : List Difference). onto ds (sheet listed out))
-                      (sym
-                      (part-stays elevation azimuth (codes old) (codes new) first next end end-low end-high
-                      (λ k l u. (sym (w .wasOld) ∙ a ∙ sym (code-on k l u), sym (w .isNew) ∙ b ∙ sym (other-on k l u)))))
-                      ∙ w .same;
-                }
+            module _ (out′ : List ℕ) (first′ listed′ : ℕ) where
+              abbrev Walks : Type 0
+              Walks = Walking old new elevation azimuth count out₀ out′ i′ j′ (end + 1) first′ code other listed′
 
-            -- where one changes, the stretch is listed, and another one begins
-            pub walking-turn : (out′ : List ℕ) (listed′ : ℕ) → both (eqb was code) (eqb is other) ≡ false
-                → sheet listed′ out′ ≡ onto (stretch elevation azimuth (λ k. was) (λ k. is) first next) (sheet listed out)
-                → Walking old new elevation azimuth count out₀ out′
-                i′ j′ (end + 1) next code other listed′
-            walking-turn out′ listed′ s e =
-                let begun = stretches elevation azimuth (codes old) (codes new) next (end + 1) (512 - (end + 1)) in
-                let ended = stretch elevation azimuth (codes old) (codes new) first next in
-                record {
-                  low = omega (arith, end-low);
-                  near = near;
-                  few = turn-few listed′ out′ s e;
-                  wasOld = sym code-next;
-                  isNew = sym other-next;
-                  atOld = at-old;
-                  atNew = at-new;
-                  same =
-                      ap (λ (t : Sheet). onto begun t)
-                      (e ∙ ap (λ (ds : List Difference). onto ds (sheet listed out))
-                      (stretch-coded elevation azimuth first next was is (codes old) (codes new) (w .wasOld) (w .isNew)))
-                      ∙ sym (onto-append ended begun (sheet listed out))
-                      ∙ ap (λ (ds : List Difference). onto ds (sheet listed out))
-                      (sym
-                      (part-ends elevation azimuth (codes old) (codes new) first next end end-low end-high (stay-is ∙ s)
-                      (λ k l u. (code-next ∙ sym (code-on k l u), other-next ∙ sym (other-on k l u)))))
-                      ∙ w .same;
-                }
+              -- where the codes stay, so does the stretch
+              walking-on : both (eqb was code) (eqb is other) ≡ true → first′ ≡ first → sheet listed′ out′ ≡ sheet listed out → Walks
+              walking-on s f e =
+                  let q = both-true (eqb was code) (eqb is other) s in
+                  let a = eqb-true was code (q .0) in
+                  let b = eqb-true is other (q .1) in
+                  let l : listed′ ≡ listed = ap (λ (t : Sheet). t .count) e in
+                  record {
+                    low = omega (arith, f, w .low, end-low);
+                    near = omega (arith, f, w .near);
+                    few = omega (arith, f, l, w .few);
+                    wasOld = sym a ∙ w .wasOld ∙ ap (codes old) (sym f);
+                    isNew = sym b ∙ w .isNew ∙ ap (codes new) (sym f);
+                    atOld = at-old;
+                    atNew = at-new;
+                    same =
+                        ap (λ (k : ℕ). onto (stretches elevation azimuth (codes old) (codes new) k (end + 1) (512 - (end + 1))) (sheet listed′ out′)) f
+                        ∙ ap (λ (t : Sheet). onto (stretches elevation azimuth (codes old) (codes new) first (end + 1) (512 - (end + 1))) t) e
+                        ∙ ap (λ (ds : List Difference). onto ds (sheet listed out))
+                        (sym
+                        (part-stays elevation azimuth (codes old) (codes new) first next end end-low end-high
+                        (λ k l u. (sym (w .wasOld) ∙ a ∙ sym (code-on k l u), sym (w .isNew) ∙ b ∙ sym (other-on k l u)))))
+                        ∙ w .same;
+                  }
 
-        -- what a turn comes to after the stretch was ended or not, whichever zone ends first
-        abbrev pub Midway : List ℕ → ℕ → ℕ → ℕ → ℕ → Type 0
-        Midway out′ first′ was′ is′ listed′ =
-            (p q end i′ j′ : ℕ) → p ≡ fetched 2 old (i + 2) → q ≡ fetched 2 new (j + 2) → end ≡ pick (ltb p q) p q → i′ ≡ pick (eqb p end) (i + 4) i
-            → j′ ≡ pick (eqb q end) (j + 4) j
-            → (next < end + 1) × (end ≤ 511) × (length out′ ≡ length out) × Walking old new elevation azimuth count out₀ out′ i′ j′ (end + 1) first′ was′ is′ listed′
+              -- where one changes, the stretch is listed, and another one begins
+              walking-turn : both (eqb was code) (eqb is other) ≡ false → first′ ≡ next
+                  → sheet listed′ out′ ≡ onto (stretch elevation azimuth (λ k. was) (λ k. is) first next) (sheet listed out) → Walks
+              walking-turn s f e =
+                  let begun = stretches elevation azimuth (codes old) (codes new) next (end + 1) (512 - (end + 1)) in
+                  let ended = stretch elevation azimuth (codes old) (codes new) first next in
+                  record {
+                    low = omega (arith, f, end-low);
+                    near = omega (arith, f, near);
+                    few = omega (arith, f, turn-few listed′ out′ s e);
+                    wasOld = sym code-next ∙ ap (codes old) (sym f);
+                    isNew = sym other-next ∙ ap (codes new) (sym f);
+                    atOld = at-old;
+                    atNew = at-new;
+                    same =
+                        ap (λ (k : ℕ). onto (stretches elevation azimuth (codes old) (codes new) k (end + 1) (512 - (end + 1))) (sheet listed′ out′)) f
+                        ∙ ap (λ (t : Sheet). onto begun t)
+                        (e ∙ ap (λ (ds : List Difference). onto ds (sheet listed out))
+                        (stretch-coded elevation azimuth first next was is (codes old) (codes new) (w .wasOld) (w .isNew)))
+                        ∙ sym (onto-append ended begun (sheet listed out))
+                        ∙ ap (λ (ds : List Difference). onto ds (sheet listed out))
+                        (sym
+                        (part-ends elevation azimuth (codes old) (codes new) first next end end-low end-high (stay-is ∙ s)
+                        (λ k l u. (code-next ∙ sym (code-on k l u), other-next ∙ sym (other-on k l u)))))
+                        ∙ w .same;
+                  }
 
-        pub midway-on : both (eqb was code) (eqb is other) ≡ true → Midway out first was is listed
-        midway-on s p q end i′ j′ pIs qIs endIs iIs jIs = (
-          end-more p q end i′ j′ pIs qIs endIs iIs jIs,
-          end-high p q end i′ j′ pIs qIs endIs iIs jIs,
-          refl,
-          walking-on p q end i′ j′ pIs qIs endIs iIs jIs s,
-        )
+              -- both as the loop has it
+              pub walking-next : first′ ≡ pick (not (eqb was code) || not (eqb is other)) next first
+                  → sheet listed′ out′
+                  ≡ onto (oneIf ((not (eqb was code) || not (eqb is other)) && not (eqb was is)) elevation azimuth first next was is) (sheet listed out)
+                  → (next < end + 1) × (end ≤ 511) × Walking old new elevation azimuth count out₀ out′ i′ j′ (end + 1) first′ code other listed′
+              walking-next f e = (
+                end-more,
+                end-high,
+                go (both (eqb was code) (eqb is other)) refl (f ∙ ap (λ (t : Bool). pick t next first) changes)
+                    (e ∙ ap (λ (t : Bool). onto (oneIf (t && not (eqb was is)) elevation azimuth first next was is) (sheet listed out)) changes),
+              )
+                where
+                  changes : not (eqb was code) || not (eqb is other) ≡ not (both (eqb was code) (eqb is other))
+                  changes = one-changes (eqb was code) (eqb is other)
 
-        pub midway-turn : (out′ : List ℕ) (listed′ : ℕ) → both (eqb was code) (eqb is other) ≡ false
-            → sheet listed′ out′ ≡ onto (stretch elevation azimuth (λ k. was) (λ k. is) first next) (sheet listed out) → Midway out′ next code other listed′
-        midway-turn out′ listed′ s e p q end i′ j′ pIs qIs endIs iIs jIs = (
-          end-more p q end i′ j′ pIs qIs endIs iIs jIs,
-          end-high p q end i′ j′ pIs qIs endIs iIs jIs,
-          ap (λ (t : Sheet). length (t .out)) e ∙ onto-length (stretch elevation azimuth (λ k. was) (λ k. is) first next) (sheet listed out),
-          walking-turn p q end i′ j′ pIs qIs endIs iIs jIs out′ listed′ s e,
-        )
-
-        pub midway-is : (o o′ : List ℕ) (f f′ w w′ n n′ l l′ : ℕ) → o ≡ o′ → f ≡ f′ → w ≡ w′ → n ≡ n′ → l ≡ l′ → Midway o′ f′ w′ n′ l′ → Midway o f w n l
-        midway-is o o′ f f′ w w′ n n′ l l′ eo ef ew en el m =
-            subst (λ (x : List ℕ). Midway x f w n l) (sym eo)
-            (subst (λ (x : ℕ). Midway o′ x w n l) (sym ef)
-            (subst (λ (x : ℕ). Midway o′ f′ x n l) (sym ew)
-            (subst (λ (x : ℕ). Midway o′ f′ w′ x l) (sym en)
-            (subst (λ (x : ℕ). Midway o′ f′ w′ n′ x) (sym el) m))))
+                  go : (t : Bool) → both (eqb was code) (eqb is other) ≡ t → first′ ≡ pick (not t) next first
+                      → sheet listed′ out′ ≡ onto (oneIf (not t && not (eqb was is)) elevation azimuth first next was is) (sheet listed out) → Walks
+                  go true s g q = walking-on s g q
+                  go false s g q =
+                      walking-turn s g (q ∙ ap (λ (ds : List Difference). onto ds (sheet listed out)) (stretch-if elevation azimuth first next was is))
 
     -- past the last kilometre the open stretch is the last
     pub walking-done : (out : List ℕ) (i j next first was is listed : ℕ) → Walking old new elevation azimuth count out₀ out i j next first was is listed → 511 < next
-        → onto (stretch elevation azimuth (λ k. was) (λ k. is) first next) (sheet listed out) ≡ onto (zonesDifferences elevation azimuth old new) (sheet count out₀)
+        → onto (oneIf (not (eqb was is)) elevation azimuth first next was is) (sheet listed out) ≡ onto (zonesDifferences elevation azimuth old new) (sheet count out₀)
     walking-done out i j next first was is listed w far =
         ap (λ (ds : List Difference). onto ds (sheet listed out))
-        (stretch-coded elevation azimuth first next was is (codes old) (codes new) (w .wasOld) (w .isNew)
+        (stretch-if elevation azimuth first next was is
+        ∙ stretch-coded elevation azimuth first next was is (codes old) (codes new) (w .wasOld) (w .isNew)
         ∙ sym (stretches-last elevation azimuth (codes old) (codes new) first next (512 - next) (omega arith)))
         ∙ w .same

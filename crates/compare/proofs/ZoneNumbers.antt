@@ -8,7 +8,6 @@ use lib.Seq.{length-take-le}
 use Rattle.wire.specs.Numbers.{num, fetched, Octets}
 use Rattle.wire.specs.Checks.{AllHold}
 use Rattle.wire.proofs.NumberLaws.{num-two, num-four, num-drop, num-take, num-fits, fetched-whole}
-use Rattle.map.specs.Map.{Zone}
 use Rattle.map.specs.Reading.{value, after, zonesIn, azimuthPart}
 use Rattle.map.proofs.Accepted.{azimuth-long}
 use Rattle.filter.proofs.PartLaws.{fetched-value, next-value}

@@ -1,6 +1,7 @@
 -- What the inner functions answer: differences listed one after the other as far as the output has room for them, and counted beyond.
-use Prim.Native.Nat.{ℕ, suc, _+_, _*_, _≤_}
+use Prim.Native.Nat.{ℕ, suc, _+_, _*_, _-_, _≤_}
 use mathlib.Core.Path.{_≡_}
+use mathlib.Core.Bool.{Bool}
 use mathlib.Core.List.{List, [], _∷_, _++_}
 use lib.Dec.{leb}
 use lib.ListN.{length, take, drop}
@@ -32,6 +33,11 @@ lay d s =
 abbrev pub onto : List Difference → Sheet → Sheet
 onto [] s = s
 onto (d ∷ ds) s = onto ds (lay d s)
+
+-- a stretch of kilometres that ends before the next one, or none
+abbrev pub oneIf : Bool → ℕ → ℕ → ℕ → ℕ → ℕ → ℕ → List Difference
+oneIf lists elevation azimuth first next old new =
+    pick lists (record { elevation = elevation; azimuth = azimuth; first = first; last = next - 1; old = old; new = new } ∷ []) []
 
 -- the azimuth that a part of each body begins with, both checked
 abbrev pub zonesDifferences : ℕ → ℕ → List ℕ → List ℕ → List Difference

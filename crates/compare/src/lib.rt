@@ -5,18 +5,17 @@ use filter::MapAnswer;
 use wire::refusal;
 ghost use mathlib.Core.Path.{_≡_};
 ghost use Prim.Native.Nat.{_+_, _*_, _≤_, _<_};
-ghost use mathlib.Core.Bool.{true, not};
+ghost use mathlib.Core.Bool.{true};
 ghost use mathlib.Core.List.{[], _∷_};
 ghost use lib.Dec.{ltb, leb, eqb};
 ghost use lib.ListN.{length};
 ghost use Rattle.wire.specs.Answers.{Promise};
 ghost use Rattle.wire.specs.Numbers.{fetched};
-ghost use Rattle.wire.specs.Checks.{pick, both, AllHold};
+ghost use Rattle.wire.specs.Checks.{pick, AllHold};
 ghost use Rattle.map.specs.Reading.{azimuthPart};
-ghost use Rattle.differences.specs.Differences.{stretch};
 ghost use Rattle.differences.specs.Comparing.{comparisonOf};
 ghost use Rattle.compare.specs.Answers.{tellCompare};
-ghost use Rattle.compare.specs.Sheets.{mostCounted, sheet, onto, zonesDifferences, elevationsDifferences, listOf, Has, Counts, Checked};
+ghost use Rattle.compare.specs.Sheets.{mostCounted, sheet, onto, oneIf, zonesDifferences, elevationsDifferences, listOf, Has, Counts, Checked};
 
 // The halfwords that a difference takes.
 const SIZE: usize = 6;
@@ -50,14 +49,14 @@ fn past(at: u32, end: u16, kilometre: u16) -> u32
     at
 }
 
-// Whether two codes are no longer those of a stretch.
-fn changed(was: u16, is: u16, old: u16, new: u16) -> bool
-    ensures { λ r. ⌜ r ≡ not (both (eqb was old) (eqb is new)) ⌝ }
+// The first kilometre of the stretch that goes on or begins at the next one.
+fn begun(ends: bool, first: u16, next: u16) -> u16
+    ensures { λ r. ⌜ r ≡ pick ends next first ⌝ }
 {
-    if was == old {
-        return is != new;
+    if ends {
+        return next;
     }
-    true
+    first
 }
 
 // A difference, stored in six halfwords.
@@ -73,10 +72,12 @@ fn put(out: &mut [u16], elevation: u16, azimuth: u16, first: u16, last: u16, old
     out[5] = new;
 }
 
-// A stretch of kilometres that ends before the next one, listed after so many differences if its codes differ and there is room for it.
+// A stretch of kilometres that ends before the next one: listed after so many differences, or only counted where there is no room for it.
+// Room is asked for first, so that where there is none at all, as while differences are counted, there is no branch on what is listed.
 fn list(
     out: &mut [u16],
     count: usize,
+    lists: bool,
     elevation: u16,
     azimuth: u16,
     first: u16,
@@ -84,16 +85,16 @@ fn list(
     old: u16,
     new: u16,
 ) -> usize
-    requires { ⌜ (count ≤ mostCounted) × (1 ≤ next) ⌝ }
-    ensures { λ r. ⌜ sheet r (now (out .exit)) ≡ onto (stretch elevation azimuth (λ k. old) (λ k. new) first next) (sheet count (now (out .entry))) ⌝ }
+    requires { ⌜ (count ≤ mostCounted) × (lists ≡ true → 1 ≤ next) ⌝ }
+    ensures { λ r. ⌜ sheet r (now (out .exit)) ≡ onto (oneIf lists elevation azimuth first next old new) (sheet count (now (out .entry))) ⌝ }
 {
-    if old == new {
-        return count;
-    }
     let at = SIZE * count;
     let end = at + SIZE;
     if out.len() < end {
-        return count + 1;
+        return count + lists as usize;
+    }
+    if !lists {
+        return count;
     }
     let last = next - 1;
     put(&mut out[at..end], elevation, azimuth, first, last, old, new);
@@ -121,6 +122,7 @@ fn alike(old: &[u8], new: &[u8]) -> bool
 }
 
 // The azimuth that a part of each body begins with. Most are alike; the zones of others are walked side by side, from one end of either to the next.
+// Which ends come first and where a stretch ends could not be foreseen: the only branch on it is in `list`, where there is room.
 fn compare_zones(
     old: &[u8],
     new: &[u8],
@@ -145,12 +147,12 @@ fn compare_zones(
     while next as usize <= LAST_KILOMETRE {
         let code = wire::fetch16(old, i);
         let other = wire::fetch16(new, j);
-        if changed(was, is, code, other) {
-            listed = list(out, listed, elevation, azimuth, first, next, was, is);
-            first = next;
-            was = code;
-            is = other;
-        }
+        let ends = (was != code) | (is != other);
+        let lists = ends & (was != is);
+        listed = list(out, listed, lists, elevation, azimuth, first, next, was, is);
+        first = begun(ends, first, next);
+        was = code;
+        is = other;
         let end_old = wire::fetch16(old, i + 2);
         let end_new = wire::fetch16(new, j + 2);
         let end = least(end_old, end_new);
@@ -158,7 +160,8 @@ fn compare_zones(
         j = past(j, end_new, end);
         next = end + 1;
     }
-    list(out, listed, elevation, azimuth, first, next, was, is)
+    let lists = was != is;
+    list(out, listed, lists, elevation, azimuth, first, next, was, is)
 }
 
 // The bytes that the azimuth takes which a part begins with.

@@ -1,26 +1,20 @@
-use Prim.Native.Nat.{ℕ, _+_, _*_, _≤_}
+use Prim.Native.Nat.{ℕ, _≤_}
 use denote.Ref.{now}
 use native.Mathlib.Omega.{arith}
-use mathlib.Core.Path.{_≡_, refl, sym, ap, _∙_}
+use mathlib.Core.Path.{sym, ap, _∙_}
 use mathlib.Core.List.{List}
 use lib.ListN.{length}
-use borrow.Author.Tests.{leb-true, leb-false}
+use borrow.Author.Tests.{leb-true, leb-false, not-true, not-false}
 use Rattle.wire.specs.Writing.{filled}
 use Rattle.wire.proofs.AnswerLaws.{kept}
 use Rattle.differences.specs.Comparing.{comparisonOf}
 use Rattle.compare.specs.declared.CompareAnswer.the-variants.{Compared, Refused}
 use Rattle.compare.specs.Answers.{tellCompare}
 use Rattle.compare.specs.Sheets.{sheet, onto, elevationsDifferences, listOf, Checked}
-use Rattle.compare.proofs.TurnLaws.{not-true, not-false}
 use Rattle.compare.proofs.EntryLaws.{present-is, has-old, has-new, counted, listed, room-most, room-refused, all-given}
 use borrow.Author.Needs.{needs}
 use Rattle.compare.proofs.compare_checked.Statement.{statement}
 use Rattle.compare.proofs.compare_checked.Tie as tie
-use Rattle.compare.proofs.compare_checked.Reads as reads
-use Rattle.compare.proofs.compare_checked.Lts as lts
-use Rattle.compare.proofs.compare_azimuths.Reads as compare-azimuths-reads
-use Rattle.compare.proofs.has_room.Reads as has-room-reads
-use Rattle.compare.proofs.least.Reads as least-reads
 
 least-requires : tie.Need-least-requires
 least-requires c κs = search needs

@@ -1,17 +1,11 @@
-use Prim.Native.Nat.{ℕ, _+_, _-_, _≤_, _<_}
+use borrow.Author.Needs.{needs}
+use Prim.Native.Nat.{_+_, _-_, _≤_, _<_}
 use denote.Ref.{now}
 use native.Mathlib.Omega.{arith}
-use mathlib.Core.Path.{_≡_, refl, sym, ap, _∙_, subst}
-use mathlib.Core.Bool.{true, false, not}
-use mathlib.Core.Logic.{⊎-elim}
-use mathlib.Core.List.{List}
+use mathlib.Core.Path.{_≡_, refl, _∙_}
 use lib.ListN.{length}
-use lib.Dec.{eqb}
-use Rattle.wire.specs.Checks.{both}
-use Rattle.compare.specs.Sheets.{Sheet, mostCounted}
 use Rattle.compare.proofs.ZoneWalk.{facing-place}
-use Rattle.compare.proofs.TurnLaws.{Walking, Midway, none-listed, walking-start, turn-low, midway-on, midway-turn, midway-is, walking-done, not-true, not-false}
-use borrow.Author.Needs.{needs}
+use Rattle.compare.proofs.TurnLaws.{Walking, none-listed, walking-start, turn-low, walking-next, walking-done}
 use Rattle.compare.proofs.compare_zones.Statement.{statement}
 use Rattle.compare.proofs.compare_zones.Tie as tie
 
@@ -58,68 +52,44 @@ fetch16-requires-3 c κs = search needs
 fetch16-requires-4 : tie.Need-fetch16-requires-4 Inv-loop μ-loop
 fetch16-requires-4 c κs = search needs
 
-changed-requires : tie.Need-changed-requires Inv-loop μ-loop
-changed-requires c κs = search needs
-
 list-requires : tie.Need-list-requires Inv-loop μ-loop
 list-requires c κs =
-    let s = c .before .before .before .before .before .before .before .before .before .before .before .before .before .before in
+    let s = c .before .before .before .before .before .before .before .before .before .before .before .before in
     let a = s .args in
-    let l = c .before .before .before .before .before .before .loop in (
+    let l = c .before .before .before .before .loop in
+    let f = c .before .before .fetch163 in
+    let g = c .before .fetch164 in (
       omega (arith, l .inv .4 .few, l .inv .4 .near, s .pre .2),
-      turn-low (now (a .old)) (now (a .new)) (s .pre .0) (s .pre .1) (a .elevation) (a .azimuth) (a .count) (now (a .out)) (l .out) (l .i) (l .j) (l .next) (l .first) (l .was) (l .is) (l .listed)
-          (l .inv .4) (c .before .before .before .before .before .loop-test .taken) (c .before .before .before .before .fetch163 .result) (c .before .before .before .fetch164 .result)
-          (c .before .before .before .before .fetch163 .ensures) (c .before .before .before .fetch164 .ensures)
-          (not-true _ (sym (c .before .before .changed .ensures) ∙ c .before .if2 .taken)),
+      turn-low (now (a .old)) (now (a .new)) (s .pre .0) (s .pre .1) (a .elevation) (a .azimuth) (a .count) (now (a .out)) (l .out) (l .i) (l .j) (l .next) (l .first) (l .was) (l .is)
+          (l .listed) (l .inv .4) (c .before .before .before .loop-test .taken) (f .result) (g .result) (f .ensures) (g .ensures),
     )
 
--- after the stretch was ended or not
-joined : (c : tie.Joined2 Inv-loop μ-loop)
-    → let s = c .before .before .before .before .before .before .before .before .before .before .before .before .before in
-    let a = s .args in
-    let l = c .before .before .before .before .before .loop in
-    Midway (now (a .old)) (now (a .new)) (s .pre .0) (s .pre .1) (a .elevation) (a .azimuth) (a .count) (now (a .out)) (l .out) (l .i) (l .j) (l .next) (l .first) (l .was) (l .is) (l .listed)
-    (l .inv .4) (c .before .before .before .before .loop-test .taken) (c .before .before .before .fetch163 .result) (c .before .before .fetch164 .result)
-    (c .before .before .before .fetch163 .ensures) (c .before .before .fetch164 .ensures)
-    (c .if2 .out) (c .if2 .first) (c .if2 .was) (c .if2 .is) (c .if2 .listed)
-joined c =
-    let s = c .before .before .before .before .before .before .before .before .before .before .before .before .before in
-    let a = s .args in
-    let l = c .before .before .before .before .before .loop in
-    let near = c .before .before .before .before .loop-test .taken in
-    let f = c .before .before .before .fetch163 in
-    let g = c .before .before .fetch164 in
-    ⊎-elim
-    (λ t.
-    midway-is (now (a .old)) (now (a .new)) (s .pre .0) (s .pre .1) (a .elevation) (a .azimuth) (a .count) (now (a .out)) (l .out) (l .i) (l .j) (l .next) (l .first) (l .was) (l .is)
-    (l .listed) (l .inv .4) near (f .result) (g .result) (f .ensures) (g .ensures) (c .if2 .out) (t .2 .last .0) (c .if2 .first) (l .next) (c .if2 .was) (f .result) (c .if2 .is) (g .result)
-    (c .if2 .listed) (t .2 .result) (t .5) (t .6) (t .7) (t .8) (t .9)
-    (midway-turn (now (a .old)) (now (a .new)) (s .pre .0) (s .pre .1) (a .elevation) (a .azimuth) (a .count) (now (a .out)) (l .out) (l .i) (l .j) (l .next) (l .first) (l .was) (l .is)
-    (l .listed) (l .inv .4) near (f .result) (g .result) (f .ensures) (g .ensures) (t .2 .last .0) (t .2 .result)
-    (not-true _ (sym (c .before .changed .ensures) ∙ t .0 .taken)) (t .2 .ensures)))
-    (λ t.
-    midway-is (now (a .old)) (now (a .new)) (s .pre .0) (s .pre .1) (a .elevation) (a .azimuth) (a .count) (now (a .out)) (l .out) (l .i) (l .j) (l .next) (l .first) (l .was) (l .is)
-    (l .listed) (l .inv .4) near (f .result) (g .result) (f .ensures) (g .ensures) (c .if2 .out) (l .out) (c .if2 .first) (l .first) (c .if2 .was) (l .was) (c .if2 .is) (l .is)
-    (c .if2 .listed) (l .listed) (t .1) (t .2) (t .3) (t .4) (t .5)
-    (midway-on (now (a .old)) (now (a .new)) (s .pre .0) (s .pre .1) (a .elevation) (a .azimuth) (a .count) (now (a .out)) (l .out) (l .i) (l .j) (l .next) (l .first) (l .was) (l .is)
-    (l .listed) (l .inv .4) near (f .result) (g .result) (f .ensures) (g .ensures)
-    (not-false _ (sym (c .before .changed .ensures) ∙ t .0 .left))))
-    (c .if2 .came)
+begun-requires : tie.Need-begun-requires Inv-loop μ-loop
+begun-requires c κs = search needs
 
 -- after the turn
 turned : (c : tie.After-past2 Inv-loop μ-loop)
-    → let s = c .before .before .before .before .before .before .before .before .before .before .before .before .before .before .before .before .before .before in
-    let l = c .before .before .before .before .before .before .before .before .before .before .loop in
-    let j = c .before .before .before .before .before .if2 in
+    → let s = c .before .before .before .before .before .before .before .before .before .before .before .before .before .before .before .before .before .before .before .before .before in
+    let a = s .args in
     let end = c .before .before .least .result in
-    (l .next < end + 1) × (end ≤ 511) × (length (j .out) ≡ length (l .out))
-    × Walking (now (s .args .old)) (now (s .args .new)) (s .args .elevation) (s .args .azimuth) (s .args .count) (now (s .args .out)) (j .out) (c .before .past .result) (c .past2 .result)
-    (end + 1) (j .first) (j .was) (j .is) (j .listed)
+    (c .before .before .before .before .before .before .before .before .before .before .before .before .before .loop .next < end + 1) × (end ≤ 511)
+    × Walking (now (a .old)) (now (a .new)) (a .elevation) (a .azimuth) (a .count) (now (a .out)) (c .before .before .before .before .before .before .before .before .list .last .0) (c .before .past .result) (c .past2 .result)
+    (end + 1) (c .before .before .before .before .before .begun .result) (c .before .before .before .before .before .before .before .before .before .before .before .fetch163 .result) (c .before .before .before .before .before .before .before .before .before .before .fetch164 .result) (c .before .before .before .before .before .before .before .before .list .result)
 turned c =
+    let s = c .before .before .before .before .before .before .before .before .before .before .before .before .before .before .before .before .before .before .before .before .before in
+    let a = s .args in
+    let l = c .before .before .before .before .before .before .before .before .before .before .before .before .before .loop in
+    let near = c .before .before .before .before .before .before .before .before .before .before .before .before .loop-test .taken in
+    let f = c .before .before .before .before .before .before .before .before .before .before .before .fetch163 in
+    let g = c .before .before .before .before .before .before .before .before .before .before .fetch164 in
     let p = c .before .before .before .before .fetch165 in
     let q = c .before .before .before .fetch166 in
-    joined (c .before .before .before .before .before) (p .result) (q .result) (c .before .before .least .result) (c .before .past .result) (c .past2 .result) (p .ensures) (q .ensures)
-    (c .before .before .least .ensures) (c .before .past .ensures) (c .past2 .ensures)
+    let e = c .before .before .least in
+    let m = c .before .before .before .before .before .before .before .before .list in
+    walking-next (now (a .old)) (now (a .new)) (s .pre .0) (s .pre .1) (a .elevation) (a .azimuth) (a .count) (now (a .out)) (l .out) (l .i) (l .j) (l .next) (l .first) (l .was) (l .is)
+    (l .listed) (l .inv .4) near (f .result) (g .result) (f .ensures) (g .ensures) (p .result) (q .result) (e .result) (c .before .past .result) (c .past2 .result)
+    (p .ensures) (q .ensures) (e .ensures) (c .before .past .ensures) (c .past2 .ensures) (m .last .0) (c .before .before .before .before .before .begun .result) (m .result)
+    (c .before .before .before .before .before .begun .ensures) (m .ensures)
 
 add-fetch16 : tie.Need-add-fetch16 Inv-loop μ-loop
 add-fetch16 c = search needs
@@ -146,26 +116,26 @@ add-next : tie.Need-add-next Inv-loop μ-loop
 add-next c = record { fits = omega (arith, turned c .1) }
 
 loop-less : tie.Need-loop-less Inv-loop μ-loop
-loop-less c = let l = c .before .before .before .before .before .before .before .before .before .before .loop in omega (arith, turned c .0, turned c .1, l .inv .2)
+loop-less c = let l = c .before .before .before .before .before .before .before .before .before .before .before .before .before .loop in omega (arith, turned c .0, turned c .1, l .inv .2)
 
 loop-again : tie.Need-loop-again Inv-loop μ-loop
 loop-again c =
-    let s = c .before .before .before .before .before .before .before .before .before .before .before .before .before .before .before .before .before .before in
-    let l = c .before .before .before .before .before .before .before .before .before .before .loop in
+    let s = c .before .before .before .before .before .before .before .before .before .before .before .before .before .before .before .before .before .before .before .before .before in
+    let l = c .before .before .before .before .before .before .before .before .before .before .before .before .before .loop in
     let t = turned c in
     let n = c .before .before .least .result + 1 in (
-      facing-place (now (s .args .old)) (s .pre .0) (c .before .past .result) n (t .3 .atOld),
-      facing-place (now (s .args .new)) (s .pre .1) (c .past2 .result) n (t .3 .atNew),
+      facing-place (now (s .args .old)) (s .pre .0) (c .before .past .result) n (t .2 .atOld),
+      facing-place (now (s .args .new)) (s .pre .1) (c .past2 .result) n (t .2 .atNew),
       omega (arith, t .1),
-      t .2 ∙ l .inv .3,
-      t .3,
+      c .before .before .before .before .before .before .before .before .list .kept .0 ∙ l .inv .3,
+      t .2,
     )
 
 list-requires-2 : tie.Need-list-requires-2 Inv-loop μ-loop
 list-requires-2 c κs =
     let s = c .before .before .before .before .before .before .before .before .before .before in
     let l = c .before .before .loop in
-    (omega (arith, l .inv .4 .few, l .inv .4 .near, s .pre .2), omega (arith, c .before .loop-test .left))
+    (omega (arith, l .inv .4 .few, l .inv .4 .near, s .pre .2), λ e. omega (arith, c .before .loop-test .left))
 
 same-length : tie.Need-same-length Inv-loop μ-loop
 same-length c =
@@ -195,8 +165,8 @@ compare-zones-spec =
     cast-loop
     fetch16-requires-3
     fetch16-requires-4
-    changed-requires
     list-requires
+    begun-requires
     add-fetch16
     fetch16-requires-5
     add-fetch16-2
