@@ -7,11 +7,11 @@ use mathlib.Core.List.{List, [], _∷_}
 use lib.Dec.{ltb, eqb}
 use lib.ListN.{length}
 use borrow.Author.Tests.{ltb-true, ltb-false, eqb-true, eqb-false, not-true}
-use Rattle.wire.specs.Numbers.{fetched}
 use Rattle.wire.specs.Checks.{pick, both, AllHold}
 use Rattle.wire.proofs.CheckLaws.{never, both-true}
 use Rattle.map.specs.Map.{Zone, codeFrom}
 use Rattle.map.specs.Reading.{azimuthPart}
+use Rattle.filter.proofs.QueryLaws.{zoneAt}
 use Rattle.differences.specs.Differences.{Difference, stay, stretch, stretches}
 use Rattle.compare.specs.Sheets.{Sheet, sheet, onto, oneIf, zonesDifferences}
 use Rattle.compare.proofs.SheetLaws.{onto-append, onto-count}
@@ -108,7 +108,7 @@ never-both e = never (cc e)
 
 module _ (old new : List ℕ) (checkedOld : AllHold (azimuthPart .checks old)) (checkedNew : AllHold (azimuthPart .checks new)) (elevation azimuth count : ℕ) (out₀ : List ℕ)
   where
-    pub walking-start : (was is : ℕ) → was ≡ fetched 2 old 2 → is ≡ fetched 2 new 2 → Walking old new elevation azimuth count out₀ out₀ 2 2 0 0 was is count
+    pub walking-start : (was is : ℕ) → was ≡ zoneAt old 2 .code → is ≡ zoneAt new 2 .code → Walking old new elevation azimuth count out₀ out₀ 2 2 0 0 was is count
     walking-start was is e f =
         let a = facing-first old checkedOld in
         let b = facing-first new checkedNew in
@@ -125,7 +125,7 @@ module _ (old new : List ℕ) (checkedOld : AllHold (azimuthPart .checks old)) (
 
     -- the codes of the zones that both walks have come to
     module _ (out : List ℕ) (i j next first was is listed : ℕ) (w : Walking old new elevation azimuth count out₀ out i j next first was is listed) (near : next ≤ 511)
-        (code other : ℕ) (codeIs : code ≡ fetched 2 old i) (otherIs : other ≡ fetched 2 new j)
+        (code other : ℕ) (codeIs : code ≡ zoneAt old i .code) (otherIs : other ≡ zoneAt new j .code)
       where
         code-next : codes old next ≡ code
         code-next = facing-code old checkedOld i next (w .atOld) near next (omega arith) (facing-low old checkedOld i next (w .atOld) near) ∙ sym codeIs
@@ -167,7 +167,7 @@ module _ (old new : List ℕ) (checkedOld : AllHold (azimuthPart .checks old)) (
             omega (arith, c, begun-before s, w .few, stretch-one elevation azimuth first next was is)
 
         -- the end of the zone that ends first, and what stands after it
-        module _ (p q end i′ j′ : ℕ) (pIs : p ≡ fetched 2 old (i + 2)) (qIs : q ≡ fetched 2 new (j + 2)) (endIs : end ≡ pick (ltb p q) p q)
+        module _ (p q end i′ j′ : ℕ) (pIs : p ≡ zoneAt old i .end) (qIs : q ≡ zoneAt new j .end) (endIs : end ≡ pick (ltb p q) p q)
             (iIs : i′ ≡ pick (eqb p end) (i + 4) i) (jIs : j′ ≡ pick (eqb q end) (j + 4) j)
           where
             end-low : next ≤ end
@@ -177,10 +177,10 @@ module _ (old new : List ℕ) (checkedOld : AllHold (azimuthPart .checks old)) (
                 let n = least-above p q next (omega (arith, pIs, l)) (omega (arith, qIs, m)) in
                 omega (arith, endIs, n)
 
-            end-old : end ≤ fetched 2 old (i + 2)
+            end-old : end ≤ zoneAt old i .end
             end-old = omega (arith, pIs, endIs, least-old p q)
 
-            end-new : end ≤ fetched 2 new (j + 2)
+            end-new : end ≤ zoneAt new j .end
             end-new = omega (arith, qIs, endIs, least-new p q)
 
             end-high : end ≤ 511

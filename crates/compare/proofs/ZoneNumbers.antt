@@ -13,43 +13,55 @@ use Rattle.map.proofs.Accepted.{azimuth-long}
 use Rattle.filter.proofs.PartLaws.{fetched-value, next-value}
 use Rattle.filter.proofs.QueryLaws.{zoneAt, zones-more}
 
--- ---- the zone at a place, where n is the length of the part that is lent
-module _ (b : List ℕ) (octets : Octets b) (at n : ℕ) (four : n ≡ 4) (there : at + 4 ≤ length b) where
-  abbrev number : ℕ
-  number = fetched 4 (take n (drop at b)) 0
+-- ---- what `zone_at` fetches, n the length of the part that is lent
+pub number-fetched : (b : List ℕ) (at n : ℕ) → n ≡ 4 → at + 4 ≤ length b → fetched 4 (take n (drop at b)) 0 ≡ num 4 b at
+number-fetched b at n four there =
+    let l : 4 ≤ length (drop at b) = rw length-drop (omega arith) in
+    let e : at + 0 ≡ at = omega arith in
+    ap (λ (k : ℕ). fetched 4 (take k (drop at b)) 0) four
+    ∙ fetched-whole 4 (take 4 (drop at b)) 0 (omega (arith, length-take-le 4 (drop at b) l))
+    ∙ num-take 4 4 (drop at b) 0 (omega arith)
+    ∙ num-drop 4 b at 0
+    ∙ ap (λ (k : ℕ). num 4 b k) e
 
-  number-is : number ≡ num 4 b at
-  number-is =
-      let l : 4 ≤ length (drop at b) = rw length-drop (omega arith) in
-      let e : at + 0 ≡ at = omega arith in
-      ap (λ (k : ℕ). fetched 4 (take k (drop at b)) 0) four
-      ∙ fetched-whole 4 (take 4 (drop at b)) 0 (omega (arith, length-take-le 4 (drop at b) l))
-      ∙ num-take 4 4 (drop at b) 0 (omega arith)
-      ∙ num-drop 4 b at 0
-      ∙ ap (λ (k : ℕ). num 4 b k) e
+-- ---- the zone at a place, in one number
+pub record Read (b : List ℕ) (at zone : ℕ) : Type 0 where
+  pub codeIs : (code : ℕ) → code ≡ zone / 65536 → code ≡ zoneAt b at .code
+  pub endIs : (end : ℕ) → end ≡ zone % 65536 → end ≡ zoneAt b at .end
 
+module _ (b : List ℕ) (octets : Octets b) (at : ℕ) (there : at + 4 ≤ length b) where
   by-halves : num 4 b at ≡ num 2 b at * 65536 + num 2 b (at + 2)
   by-halves =
       let e : at + 2 + 1 ≡ at + 3 = omega arith in
       let f : getD b (at + 2 + 1) 0 ≡ getD b (at + 3) 0 = ap (λ (k : ℕ). getD b k 0) e in
       omega (arith, num-four b at, num-two b at, num-two b (at + 2), f)
 
-  code-is : num 2 b at ≡ zoneAt b at .code
+  first-half : num 2 b at ≡ zoneAt b at .code
   unfolding zoneAt
-  code-is = sym (fetched-whole 2 b at (omega arith)) ∙ fetched-value b at (omega arith)
+  first-half = sym (fetched-whole 2 b at (omega arith)) ∙ fetched-value b at (omega arith)
 
-  end-is : num 2 b (at + 2) ≡ zoneAt b at .end
+  second-half : num 2 b (at + 2) ≡ zoneAt b at .end
   unfolding zoneAt
-  end-is = sym (fetched-whole 2 b (at + 2) (omega arith)) ∙ next-value b at there
+  second-half = sym (fetched-whole 2 b (at + 2) (omega arith)) ∙ next-value b at there
 
   below : num 2 b (at + 2) < 65536
   below = num-fits 2 b (at + 2) octets
 
-  pub code-of-number : number / 65536 ≡ zoneAt b at .code
-  code-of-number = omega (arith, number-is, by-halves, code-is, below)
+  pub zone-read : (zone : ℕ) → zone ≡ num 4 b at → Read b at zone
+  zone-read zone e = record {
+    codeIs = λ code f. omega (arith, e, f, by-halves, first-half, below);
+    endIs = λ end f. omega (arith, e, f, by-halves, second-half, below);
+  }
 
-  pub end-of-number : number % 65536 ≡ zoneAt b at .end
-  end-of-number = omega (arith, number-is, by-halves, end-is, below)
+-- zones are the same if their numbers are
+pub same-zone : (old new : List ℕ) (at zone : ℕ) → Read old at zone → Read new at zone → zoneAt old at ≡ zoneAt new at
+same-zone old new at zone inOld inNew = λ i. record { code = codes i; end = ends i }
+  where
+    codes : zoneAt old at .code ≡ zoneAt new at .code
+    codes = sym (inOld .codeIs (zone / 65536) refl) ∙ inNew .codeIs (zone / 65536) refl
+
+    ends : zoneAt old at .end ≡ zoneAt new at .end
+    ends = sym (inOld .endIs (zone % 65536) refl) ∙ inNew .endIs (zone % 65536) refl
 
 -- ---- two azimuths, the same as far as a place
 pub record Matching (old new : List ℕ) (end at : ℕ) : Type 0 where
@@ -106,16 +118,3 @@ module _ (old new : List ℕ) where
                 inNew = m .inNew;
                 rest = λ q. r (zones-more n at old ∙ (λ i. e i ∷ q i) ∙ sym (zones-more n at new));
               }
-
--- zones are the same if their numbers are
-pub same-zone : (old new : List ℕ) (at n : ℕ) → Octets old → Octets new → n ≡ 4 → at + 4 ≤ length old → at + 4 ≤ length new
-    → fetched 4 (take n (drop at old)) 0 ≡ fetched 4 (take n (drop at new)) 0 → zoneAt old at ≡ zoneAt new at
-same-zone old new at n octetsOld octetsNew four inOld inNew e = λ i. record { code = codes i; end = ends i }
-  where
-    codes : zoneAt old at .code ≡ zoneAt new at .code
-    codes =
-        sym (code-of-number old octetsOld at n four inOld) ∙ ap (λ (k : ℕ). k / 65536) e ∙ code-of-number new octetsNew at n four inNew
-
-    ends : zoneAt old at .end ≡ zoneAt new at .end
-    ends =
-        sym (end-of-number old octetsOld at n four inOld) ∙ ap (λ (k : ℕ). k % 65536) e ∙ end-of-number new octetsNew at n four inNew

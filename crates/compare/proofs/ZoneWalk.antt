@@ -1,21 +1,18 @@
 -- The zone of an azimuth that a walk has come to: it covers the next kilometre. Assumes nothing.
 use Prim.Native.Nat.{ℕ, zero, suc, _+_, _*_, _≤_, _<_}
 use native.Mathlib.Omega.{arith}
-use native.Mathlib.Numerals.{add-one}
 use mathlib.Core.Path.{_≡_, refl, sym, ap, _∙_, subst}
 use mathlib.Core.Bool.{Bool, true, false}
 use mathlib.Core.List.{List, [], _∷_}
 use lib.Dec.{eqb}
 use lib.ListN.{length, drop}
 use borrow.Author.Tests.{le-leb, lt-leb, eqb-true, eqb-false}
-use Rattle.wire.specs.Numbers.{fetched}
 use Rattle.wire.specs.Checks.{pick, AllHold}
-use Rattle.map.specs.Map.{mostZones, Zone, codeFrom}
+use Rattle.map.specs.Map.{Zone, codeFrom}
 use Rattle.map.specs.Reading.{value, after, zonesIn, azimuthPart}
 use Rattle.map.proofs.ZoneLaws.{RisesFrom}
 use Rattle.map.proofs.CheckFacts.{azimuth-facts}
 use Rattle.map.proofs.Accepted.{zones-rise, azimuth-long}
-use Rattle.filter.proofs.PartLaws.{fetched-value, next-value}
 use Rattle.filter.proofs.QueryLaws.{zoneAt, zones-more}
 
 -- ---- ends that rise from a kilometre on to the last
@@ -77,10 +74,10 @@ module _ (b : List ℕ) (checked : AllHold (azimuthPart .checks b)) where
         same = λ k h. refl;
       }
 
-  module _ (at from : ℕ) (here : Facing b at from) where
-    pub facing-most : from ≤ 512
-    facing-most = rises-most from (zonesIn (here .left) (drop at b)) (here .rises)
+  pub first-there : 2 + 4 ≤ length b
+  first-there = let f = azimuth-facts b checked in omega (arith, whole, f .some)
 
+  module _ (at from : ℕ) (here : Facing b at from) where
     pub facing-place : at ≤ 82
     facing-place = omega (arith, here .sized, few)
 
@@ -102,8 +99,8 @@ module _ (b : List ℕ) (checked : AllHold (azimuthPart .checks b)) where
       unfolding l
       more = zone-here (here .left) (here .rises) .more
 
-      there : at + 4 ≤ length b
-      there = omega (arith, here .sized, more, whole)
+      pub facing-there : at + 4 ≤ length b
+      facing-there = omega (arith, here .sized, more, whole)
 
       zones-are : zonesIn (here .left) (drop at b) ≡ zoneAt b at ∷ zonesIn l (drop (at + 4) b)
       zones-are = ap (λ (n : ℕ). zonesIn n (drop at b)) more ∙ zones-more l at b
@@ -114,65 +111,50 @@ module _ (b : List ℕ) (checked : AllHold (azimuthPart .checks b)) where
       same-here : (k : ℕ) → from ≤ k → codeFrom from (zoneAt b at ∷ zonesIn l (drop (at + 4) b)) k ≡ codeFrom 0 (azimuthPart .read b) k
       same-here k h = ap (λ (zs : List Zone). codeFrom from zs k) (sym zones-are) ∙ here .same k h
 
-      end-is : fetched 2 b (at + 2) ≡ zoneAt b at .end
-      unfolding zoneAt
-      end-is = next-value b at there
+      pub facing-low : from ≤ zoneAt b at .end
+      facing-low = rises-here .0
 
-      code-is : fetched 2 b at ≡ zoneAt b at .code
-      unfolding zoneAt
-      code-is = fetched-value b at (omega (arith, there))
-
-      pub facing-low : from ≤ fetched 2 b (at + 2)
-      facing-low = omega (arith, end-is, rises-here .0)
-
-      pub facing-high : fetched 2 b (at + 2) ≤ 511
-      facing-high =
-          let r = rises-most (suc (zoneAt b at .end)) (zonesIn l (drop (at + 4) b)) (rises-here .1) in
-          omega (arith, end-is, r)
+      pub facing-high : zoneAt b at .end ≤ 511
+      facing-high = let r = rises-most (suc (zoneAt b at .end)) (zonesIn l (drop (at + 4) b)) (rises-here .1) in omega (arith, r)
 
       -- its kilometres have its code
-      pub facing-code : (k : ℕ) → from ≤ k → k ≤ fetched 2 b (at + 2) → codeFrom 0 (azimuthPart .read b) k ≡ fetched 2 b at
-      facing-code k h u =
-          let e : k ≤ zoneAt b at .end = omega (arith, end-is) in
-          sym (same-here k h) ∙ code-inside from (zoneAt b at) (zonesIn l (drop (at + 4) b)) k h e ∙ sym code-is
+      pub facing-code : (k : ℕ) → from ≤ k → k ≤ zoneAt b at .end → codeFrom 0 (azimuthPart .read b) k ≡ zoneAt b at .code
+      facing-code k h u = sym (same-here k h) ∙ code-inside from (zoneAt b at) (zonesIn l (drop (at + 4) b)) k h u
 
       -- at a kilometre of it the walk is still there
-      stays : (later : ℕ) → from ≤ later → later ≤ fetched 2 b (at + 2) → Facing b at later
+      stays : (later : ℕ) → from ≤ later → later ≤ zoneAt b at .end → Facing b at later
       stays later h u =
           let zs = zoneAt b at ∷ zonesIn l (drop (at + 4) b) in
           record {
             left = here .left;
             sized = here .sized;
-            rises = subst (λ (ys : List Zone). Rises later ys) (sym zones-are) (omega (arith, end-is), rises-here .1);
+            rises = subst (λ (ys : List Zone). Rises later ys) (sym zones-are) (u, rises-here .1);
             same = λ k g.
                 ap (λ (ys : List Zone). codeFrom later ys k) zones-are ∙ code-late from later zs k (omega arith) g ∙ same-here k (omega arith);
           }
 
       -- after its last it has come to the next one
-      goes-on : Facing b (at + 4) (suc (fetched 2 b (at + 2)))
+      goes-on : Facing b (at + 4) (suc (zoneAt b at .end))
       goes-on =
           let ys = zonesIn l (drop (at + 4) b) in
           record {
             left = l;
             sized = omega (arith, here .sized, more);
-            rises = subst (λ (n : ℕ). Rises (suc n) ys) (sym end-is) (rises-here .1);
+            rises = rises-here .1;
             same = λ k g.
-                let h : zoneAt b at .end < k = omega (arith, end-is) in
-                ap (λ (n : ℕ). codeFrom (suc n) ys k) end-is
-                ∙ sym (code-past from (zoneAt b at) ys k (omega (arith, rises-here .0)) h)
-                ∙ same-here k (omega (arith, rises-here .0));
+                sym (code-past from (zoneAt b at) ys k (omega (arith, rises-here .0)) (omega arith)) ∙ same-here k (omega (arith, rises-here .0));
           }
 
       -- both as `past` has it
-      pub facing-past : (end : ℕ) → from ≤ end → end ≤ fetched 2 b (at + 2)
-          → Facing b (pick (eqb (fetched 2 b (at + 2)) end) (at + 4) at) (end + 1)
-      facing-past end h u = go (eqb (fetched 2 b (at + 2)) end) refl
+      pub facing-past : (end : ℕ) → from ≤ end → end ≤ zoneAt b at .end
+          → Facing b (pick (eqb (zoneAt b at .end) end) (at + 4) at) (end + 1)
+      facing-past end h u = go (eqb (zoneAt b at .end) end) refl
         where
-          go : (t : Bool) → eqb (fetched 2 b (at + 2)) end ≡ t → Facing b (pick t (at + 4) at) (end + 1)
+          go : (t : Bool) → eqb (zoneAt b at .end) end ≡ t → Facing b (pick t (at + 4) at) (end + 1)
           go true e =
-              let q = eqb-true (fetched 2 b (at + 2)) end e in
-              let s : suc (fetched 2 b (at + 2)) ≡ end + 1 = omega (arith, q) in
+              let q = eqb-true (zoneAt b at .end) end e in
+              let s : suc (zoneAt b at .end) ≡ end + 1 = omega (arith, q) in
               subst (λ (k : ℕ). Facing b (at + 4) k) s goes-on
           go false e =
-              let q = eqb-false (fetched 2 b (at + 2)) end e in
-              stays (end + 1) (omega arith) (apart-below end (fetched 2 b (at + 2)) u q)
+              let q = eqb-false (zoneAt b at .end) end e in
+              stays (end + 1) (omega arith) (apart-below end (zoneAt b at .end) u q)

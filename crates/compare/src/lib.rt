@@ -4,13 +4,13 @@ use filter::LAST_KILOMETRE;
 use filter::MapAnswer;
 use wire::refusal;
 ghost use mathlib.Core.Path.{_≡_};
-ghost use Prim.Native.Nat.{_+_, _*_, _≤_, _<_};
+ghost use Prim.Native.Nat.{_+_, _*_, _/_, _%_, _≤_, _<_};
 ghost use mathlib.Core.Bool.{true};
 ghost use mathlib.Core.List.{[], _∷_};
 ghost use lib.Dec.{ltb, leb, eqb};
 ghost use lib.ListN.{length};
 ghost use Rattle.wire.specs.Answers.{Promise};
-ghost use Rattle.wire.specs.Numbers.{fetched};
+ghost use Rattle.wire.specs.Numbers.{num, fetched};
 ghost use Rattle.wire.specs.Checks.{pick, AllHold};
 ghost use Rattle.map.specs.Reading.{azimuthPart};
 ghost use Rattle.differences.specs.Comparing.{comparisonOf};
@@ -22,6 +22,9 @@ const SIZE: usize = 6;
 
 // Those that as many differences take as two maps can have: 39 in each of 360 azimuths of 5 elevation segments.
 const MOST: usize = 421200;
+
+// How many numbers a halfword has.
+const HALFWORD: u32 = 65536;
 
 // The elevation segments of the old and of the new map and the number of differences, or the number of refusal.
 pub enum CompareAnswer {
@@ -39,7 +42,7 @@ fn least(a: u16, b: u16) -> u16
 }
 
 // The zone that counts after a kilometre: the one at a place, or the next one if that one ends there.
-fn past(at: u32, end: u16, kilometre: u16) -> u32
+fn past(at: usize, end: u16, kilometre: u16) -> usize
     requires { ⌜ at < 65536 ⌝ }
     ensures { λ r. ⌜ r ≡ pick (eqb end kilometre) (at + 4) at ⌝ }
 {
@@ -101,6 +104,26 @@ fn list(
     count + 1
 }
 
+// The zone at a place by one fetch, code and end in one number. The part lent has a length that the compiler knows, so it drops the fetch's own test.
+fn zone_at(part: &[u8], at: usize) -> u32
+    requires { ⌜ at + 4 ≤ length (now part) ⌝ }
+    ensures { λ r. ⌜ r ≡ num 4 (now (part .entry)) at ⌝ }
+{
+    wire::fetch32(&part[at..at + 4], 0)
+}
+
+fn code_of(zone: u32) -> u16
+    ensures { λ r. ⌜ r ≡ zone / 65536 ⌝ }
+{
+    (zone / HALFWORD) as u16
+}
+
+fn end_of(zone: u32) -> u16
+    ensures { λ r. ⌜ r ≡ zone % 65536 ⌝ }
+{
+    (zone % HALFWORD) as u16
+}
+
 // Whether the azimuths that two parts begin with have the same zones, zone by zone.
 fn alike(old: &[u8], new: &[u8]) -> bool
     requires { ⌜ AllHold (azimuthPart .checks (now old)) × AllHold (azimuthPart .checks (now new)) ⌝ }
@@ -113,7 +136,7 @@ fn alike(old: &[u8], new: &[u8]) -> bool
     let end = 2 + 4 * count as usize;
     let mut at: usize = 2;
     while at < end {
-        if wire::fetch32(&old[at..at + 4], 0) != wire::fetch32(&new[at..at + 4], 0) {
+        if zone_at(old, at) != zone_at(new, at) {
             return false;
         }
         at += 4;
@@ -137,24 +160,26 @@ fn compare_zones(
     if alike(old, new) {
         return count;
     }
-    let mut i: u32 = 2;
-    let mut j: u32 = 2;
+    let mut i: usize = 2;
+    let mut j: usize = 2;
     let mut next: u16 = 0;
     let mut first: u16 = 0;
-    let mut was = wire::fetch16(old, 2);
-    let mut is = wire::fetch16(new, 2);
+    let mut was = code_of(zone_at(old, i));
+    let mut is = code_of(zone_at(new, j));
     let mut listed = count;
     while next as usize <= LAST_KILOMETRE {
-        let code = wire::fetch16(old, i);
-        let other = wire::fetch16(new, j);
+        let zone_old = zone_at(old, i);
+        let zone_new = zone_at(new, j);
+        let code = code_of(zone_old);
+        let other = code_of(zone_new);
         let ends = (was != code) | (is != other);
         let lists = ends & (was != is);
         listed = list(out, listed, lists, elevation, azimuth, first, next, was, is);
         first = begun(ends, first, next);
         was = code;
         is = other;
-        let end_old = wire::fetch16(old, i + 2);
-        let end_new = wire::fetch16(new, j + 2);
+        let end_old = end_of(zone_old);
+        let end_new = end_of(zone_new);
         let end = least(end_old, end_new);
         i = past(i, end_old, end);
         j = past(j, end_new, end);

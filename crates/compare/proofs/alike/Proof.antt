@@ -1,10 +1,9 @@
 use borrow.Author.Needs.{needs}
-use Prim.Native.Nat.{_+_, _-_}
+use Prim.Native.Nat.{_-_}
 use denote.Ref.{now}
-use native.Mathlib.Omega.{arith}
-use mathlib.Core.Path.{sym, _∙_}
+use mathlib.Core.Path.{_∙_}
 use Rattle.wire.proofs.CheckLaws.{never}
-use Rattle.compare.proofs.ZoneNumbers.{Matching, matching-start, matching-old, matching-new, matching-on, matching-done, same-zone}
+use Rattle.compare.proofs.ZoneNumbers.{zone-read, Matching, matching-start, matching-old, matching-new, matching-on, matching-done, same-zone}
 use Rattle.compare.proofs.alike.Statement.{statement}
 use Rattle.compare.proofs.alike.Tie as tie
 
@@ -38,59 +37,42 @@ loop-holds c =
     let f = c .before .before .fetch16 in
     matching-start (now (s .args .old)) (now (s .args .new)) (f .result) (s .pre .0) (s .pre .1) (f .ensures) (c .if1 .left ∙ c .before .fetch162 .ensures)
 
-add-fetch32 : tie.Need-add-fetch32 Inv-loop μ-loop
-add-fetch32 c = search needs
+zone-at-requires : tie.Need-zone-at-requires Inv-loop μ-loop
+zone-at-requires c κs =
+    let a = c .before .before .before .before .before .before .before .args in
+    let l = c .before .loop in
+    matching-old (now (a .old)) (now (a .new)) _ (l .at) (l .inv) (c .loop-test .taken)
 
-sub-fetch32 : tie.Need-sub-fetch32 Inv-loop μ-loop
-sub-fetch32 c = search needs
-
-part-fetch32-start : tie.Need-part-fetch32-start Inv-loop μ-loop
-part-fetch32-start c = search needs
-
-part-fetch32-end : tie.Need-part-fetch32-end Inv-loop μ-loop
-part-fetch32-end c = search needs
-
-fetch32-requires : tie.Need-fetch32-requires Inv-loop μ-loop
-fetch32-requires c κs = search needs
-
-add-fetch32-2 : tie.Need-add-fetch32-2 Inv-loop μ-loop
-add-fetch32-2 c = search needs
-
-sub-fetch32-2 : tie.Need-sub-fetch32-2 Inv-loop μ-loop
-sub-fetch32-2 c = search needs
-
-part-fetch32-start-2 : tie.Need-part-fetch32-start-2 Inv-loop μ-loop
-part-fetch32-start-2 c = search needs
-
-part-fetch32-end-2 : tie.Need-part-fetch32-end-2 Inv-loop μ-loop
-part-fetch32-end-2 c = search needs
-
-fetch32-requires-2 : tie.Need-fetch32-requires-2 Inv-loop μ-loop
-fetch32-requires-2 c κs = search needs
+zone-at-requires-2 : tie.Need-zone-at-requires-2 Inv-loop μ-loop
+zone-at-requires-2 c κs =
+    let a = c .before .before .before .before .before .before .before .before .args in
+    let l = c .before .before .loop in
+    matching-new (now (a .old)) (now (a .new)) _ (l .at) (l .inv) (c .before .loop-test .taken)
 
 returns-2 : tie.Need-returns-2 Inv-loop μ-loop
 returns-2 c = λ e. never (cc e)
 
 add-at : tie.Need-add-at Inv-loop μ-loop
-add-at c = search needs
+add-at c =
+    let a = c .before .before .before .before .before .before .before .before .before .before .args in
+    let l = c .before .before .before .before .loop in
+    let h = matching-old (now (a .old)) (now (a .new)) _ (l .at) (l .inv) (c .before .before .before .loop-test .taken) in
+    search needs
 
 loop-less : tie.Need-loop-less Inv-loop μ-loop
 loop-less c = search needs
 
 loop-again : tie.Need-loop-again Inv-loop μ-loop
 loop-again c =
-    let s = c .before .before .before .before .before .before .before .before .before .before .before .before in
-    let a = s .args in
-    let l = c .before .before .before .before .before .before .loop in
-    let more = c .before .before .before .before .before .loop-test .taken in
-    let inOld = matching-old (now (a .old)) (now (a .new)) _ (l .at) (l .inv) more in
-    let inNew = matching-new (now (a .old)) (now (a .new)) _ (l .at) (l .inv) more in
+    let a = c .before .before .before .before .before .before .before .before .before .before .args in
+    let l = c .before .before .before .before .loop in
+    let more = c .before .before .before .loop-test .taken in
+    let z = c .before .before .zone-at in
     matching-on (now (a .old)) (now (a .new)) _ (l .at) (l .inv) more
-    (same-zone (now (a .old)) (now (a .new)) (l .at) (l .at + 4 - l .at)
-    (λ i. (c .before .before .before .before .before .before .before .before .before .before .before .shared-slice-known .given i) .fits)
-    (λ i. (c .before .before .before .before .before .before .before .before .before .before .shared-slice-known2 .given i) .fits)
-    (omega arith) inOld inNew
-    (sym (c .before .before .before .fetch32 .ensures) ∙ c .if2 .left ∙ c .before .fetch322 .ensures))
+    (same-zone (now (a .old)) (now (a .new)) (l .at) (z .result)
+    (zone-read (now (a .old)) (λ i. (c .before .before .before .before .before .before .before .before .before .shared-slice-known .given i) .fits) (l .at) (matching-old (now (a .old)) (now (a .new)) _ (l .at) (l .inv) more) (z .result) (z .ensures))
+    (zone-read (now (a .new)) (λ i. (c .before .before .before .before .before .before .before .before .shared-slice-known2 .given i) .fits) (l .at) (matching-new (now (a .old)) (now (a .new)) _ (l .at) (l .inv) more) (z .result)
+    (c .if2 .left ∙ c .before .zone-at2 .ensures)))
 
 returns-3 : tie.Need-returns-3 Inv-loop μ-loop
 returns-3 c =
@@ -111,16 +93,8 @@ alike-spec =
     mul-end
     add-end
     loop-holds
-    add-fetch32
-    sub-fetch32
-    part-fetch32-start
-    part-fetch32-end
-    fetch32-requires
-    add-fetch32-2
-    sub-fetch32-2
-    part-fetch32-start-2
-    part-fetch32-end-2
-    fetch32-requires-2
+    zone-at-requires
+    zone-at-requires-2
     returns-2
     add-at
     loop-less
