@@ -17,6 +17,7 @@ use Rattle.description.specs.Lookups.{Asked, noSuch, lies, momentOf, blockOf}
 use Rattle.lookup.specs.Told.{headShown, blockShown}
 use Rattle.gate.specs.Value.{Worth, belowThreshold, rangeFolded, worth}
 use Rattle.map.specs.Reading.{Summary}
+use Rattle.differences.specs.Comparing.{comparisonOf}
 use Rattle.c_lent.specs.declared.UlmWritten.{UlmWritten}
 use Rattle.c_lent.specs.Lent.{Leaves, writtenFace}
 use Rattle.c_frames.specs.declared.UlmFrame.{UlmFrame}
@@ -32,10 +33,11 @@ use Rattle.c_bodies.specs.declared.UlmRequest.{UlmRequest}
 use Rattle.c_bodies.specs.declared.UlmCensor.{UlmCensor}
 use Rattle.c_bodies.specs.declared.UlmMap.{UlmMap}
 use Rattle.c_bodies.specs.declared.UlmMapCode.{UlmMapCode}
-use Rattle.c_bodies.specs.Bodies.{requestFace, censorFace, mapFace, mapCodeFace}
+use Rattle.c_bodies.specs.declared.UlmComparison.{UlmComparison}
+use Rattle.c_bodies.specs.Bodies.{requestFace, censorFace, mapFace, mapCodeFace, comparisonFace}
 use Rattle.demands.specs.Notions.{One, OfTheTable, ByChecks, KeptLent}
 use Rattle.demands.specs.Face.{Shown, ShownLent, FaceOfC, blankFrame, blankHeader, blankSet, blankWritten, blankRadial, blankBlock, blankGates}
-use Rattle.demands.specs.Face.{blankGate, blankRequest, blankCensor, blankMap, blankMapCode}
+use Rattle.demands.specs.Face.{blankGate, blankRequest, blankCensor, blankMap, blankMapCode, blankComparison}
 use Rattle.demands.proofs.First.{demand1}
 
 -- one law for every function: the face of a refusal is blank but for its number, the face of anything else has the number 0
@@ -121,4 +123,7 @@ faceOfC = record {
   mapCode = λ body elevation azimuth kilometre.
       shown mapCodeFace (λ (r : UlmMapCode). r .refusal) blankMapCode (λ n. (refl, refl)) (λ v. refl) _
       (demand1 .code body elevation azimuth kilometre .byChecks .numbered);
+  compareMaps = λ old new out.
+      shown-lent comparisonFace (λ (r : UlmComparison). r .refusal) blankComparison (λ n. (refl, refl)) (λ v. refl) _ _ (comparisonOf old new out) out
+      (demand1 .compare old new out);
 }

@@ -42,13 +42,18 @@ use Rattle.map.specs.Map.{codeAt}
 use Rattle.map.specs.Reading.{segmentsIn, mapChecks, mapIn, summary, askedChecks, summaryOf, codeOf}
 use Rattle.filter.specs.Answers.{tellMap, tellCode}
 use Rattle.filter.proofs.OneAnswer.{one-map-answer, one-code-answer}
+use Rattle.differences.specs.Differences.{differences}
+use Rattle.differences.specs.Comparing.{comparison, halfwords, comparisonOf, roomChecks}
+use Rattle.compare.specs.Answers.{tellCompare}
+use Rattle.compare.proofs.OneAnswer.{one-comparison}
 use Rattle.demands.specs.Notions.{ByChecks, KeptLent}
-use Rattle.demands.specs.Orders.{streamChecks, setChecks, momentChecks, gateChecks, writerChecks}
+use Rattle.demands.specs.Orders.{streamChecks, setChecks, momentChecks, gateChecks, writerChecks, comparisonChecks}
 use Rattle.demands.specs.Demand1.{Demand1}
 use Rattle.demands.proofs.ByChecksLaws.{inside, inside-join, by-rule, by-outcome, outcome-untouched, kept, kept-lent}
 use Rattle.demands.proofs.Inside.{regions-inside, map-inside}
 use Rattle.demands.proofs.Shows.{showFrame, frame-back, showHeader, header-back, showSet, set-back, showMoment, moment-back, showBlock, block-back}
 use Rattle.demands.proofs.Shows.{showWrite, write-back, showRequest, request-back, showGate, gate-back, showMap, map-back, showCode, code-back}
+use Rattle.demands.proofs.Shows.{showCompare, compare-back}
 use Rattle.demands.proofs.Readers.{by-stream, by-set, set-untouched, by-radial, by-moment, by-block, by-value, by-gate}
 
 by-header : (b : List ℕ) → ByChecks (headerChecks b) (headerOf b)
@@ -60,6 +65,17 @@ by-query : (b : List ℕ) (elevation azimuth kilometre : ℕ)
 by-query b elevation azimuth kilometre =
     by-rule (mapChecks b ++ askedChecks (segmentsIn b) elevation azimuth kilometre) (codeAt (mapIn b) elevation azimuth kilometre)
     (inside-join (mapChecks b) (askedChecks (segmentsIn b) elevation azimuth kilometre) (map-inside b) refl)
+
+compare-kept : (old new out : List ℕ) → KeptLent tellCompare (comparisonChecks old new (length out)) (comparisonOf old new out) out
+compare-kept old new out =
+    let all = comparisonChecks old new (length out) in
+    let m = mapIn old in
+    let n = mapIn new in
+    let list = halfwords (differences m n) in
+    let maps : inside (mapChecks old ++ mapChecks new) ≡ true = inside-join (mapChecks old) (mapChecks new) (map-inside old) (map-inside new) in
+    kept-lent tellCompare showCompare compare-back all (comparisonOf old new out) out (one-comparison old new out)
+    (by-outcome all out (comparison m n) (filled list out) (inside-join (mapChecks old ++ mapChecks new) (roomChecks list out) maps refl))
+    (outcome-untouched all out (comparison m n) (filled list out))
 
 -- ---- the writers
 -- one law for all three: the checks, then 13
@@ -118,4 +134,5 @@ demand1 = record {
   code = λ body elevation azimuth kilometre.
       kept tellCode showCode code-back (mapChecks body ++ askedChecks (segmentsIn body) elevation azimuth kilometre) (codeOf body elevation azimuth kilometre)
       (one-code-answer body elevation azimuth kilometre) (by-query body elevation azimuth kilometre);
+  compare = compare-kept;
 }

@@ -11,3 +11,4 @@ pub mod Second
 pub mod FaceHolds
 pub mod HandedToC
 pub mod Alone
+pub mod TwoMapsHold

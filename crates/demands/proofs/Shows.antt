@@ -39,6 +39,10 @@ use Rattle.filter.specs.declared.MapAnswer.the-variants.{Map, Refused as NoMap}
 use Rattle.filter.specs.declared.CodeAnswer.{CodeAnswer}
 use Rattle.filter.specs.declared.CodeAnswer.the-variants.{Code, Refused as NoCode}
 use Rattle.filter.specs.Answers.{tellMap, tellCode}
+use Rattle.differences.specs.Comparing.{Comparison}
+use Rattle.compare.specs.declared.CompareAnswer.{CompareAnswer}
+use Rattle.compare.specs.declared.CompareAnswer.the-variants.{Compared, Refused as NoComparison}
+use Rattle.compare.specs.Answers.{tellCompare}
 
 abbrev pub showFrame : Answer Stream → FrameAnswer
 showFrame (refused n) = Refused n
@@ -121,6 +125,14 @@ showCode (given c) = Code c
 pub code-back : (a : Answer ℕ) → tellCode (showCode a) ≡ a
 code-back (refused n) = refl
 code-back (given c) = refl
+
+abbrev pub showCompare : Answer Comparison → CompareAnswer
+showCompare (refused n) = NoComparison n
+showCompare (given c) = Compared (c .oldElevations) (c .newElevations) (c .differences)
+
+pub compare-back : (a : Answer Comparison) → tellCompare (showCompare a) ≡ a
+compare-back (refused n) = refl
+compare-back (given c) = refl
 
 abbrev pub showWrite : Answer Bytes → WriteAnswer
 showWrite (refused n) = NotWritten n

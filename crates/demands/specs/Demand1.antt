@@ -33,8 +33,10 @@ use Rattle.clutter.specs.Censor.{bodyOf, listChecks, bodyChecks, censorOf, cens
 use Rattle.clutter.specs.Promises.{shown as zonesShown}
 use Rattle.map.specs.Reading.{segmentsIn, mapChecks, askedChecks, summaryOf, codeOf}
 use Rattle.filter.specs.Answers.{tellMap, tellCode}
+use Rattle.differences.specs.Comparing.{comparisonOf}
+use Rattle.compare.specs.Answers.{tellCompare}
 use Rattle.demands.specs.Notions.{One, ByChecks, Kept, KeptLent}
-use Rattle.demands.specs.Orders.{streamChecks, setChecks, momentChecks, gateChecks, writerChecks}
+use Rattle.demands.specs.Orders.{streamChecks, setChecks, momentChecks, gateChecks, writerChecks, comparisonChecks}
 
 pub record Demand1 : Type 0 where
   -- `frame_at`, `read_header`
@@ -54,7 +56,8 @@ pub record Demand1 : Type 0 where
   pub writeRequest : (list out : List ℕ) → KeptLent tellWrite (writerChecks (requestChecks (eqb (length list) 1) (getD list 0 0)) (render (requestTable (getD list 0 0))) (length out)) (requestWritten list out) out
   pub censor : (body : List ℕ) → One (λ (r : Censor). r ≡ zonesShown (censorOf body)) × ByChecks (bodyChecks body) (censorOf body)
   pub writeCensor : (list out : List ℕ) → KeptLent tellWrite (writerChecks (listChecks list) (bodyOf list) (length out)) (censorWritten list out) out
-  -- `check_map`, `code_at`
+  -- `check_map`, `code_at`; `compare`
   pub map : (body : List ℕ) → Kept tellMap (mapChecks body) (summaryOf body)
   pub code : (body : List ℕ) (elevation azimuth kilometre : ℕ)
       → Kept tellCode (mapChecks body ++ askedChecks (segmentsIn body) elevation azimuth kilometre) (codeOf body elevation azimuth kilometre)
+  pub compare : (old new out : List ℕ) → KeptLent tellCompare (comparisonChecks old new (length out)) (comparisonOf old new out) out

@@ -17,6 +17,7 @@ use Rattle.gate.specs.Value.{float, valueOf, gateOf}
 use Rattle.request.specs.Request.{requestOf, requestWritten}
 use Rattle.clutter.specs.Censor.{censorOf, censorWritten}
 use Rattle.map.specs.Reading.{summaryOf, codeOf}
+use Rattle.differences.specs.Comparing.{comparisonOf}
 use Rattle.c_lent.specs.declared.UlmWritten.{UlmWritten}
 use Rattle.c_lent.specs.Lent.{Leaves, writtenFace}
 use Rattle.c_frames.specs.declared.UlmFrame.{UlmFrame}
@@ -32,7 +33,8 @@ use Rattle.c_bodies.specs.declared.UlmRequest.{UlmRequest}
 use Rattle.c_bodies.specs.declared.UlmCensor.{UlmCensor}
 use Rattle.c_bodies.specs.declared.UlmMap.{UlmMap}
 use Rattle.c_bodies.specs.declared.UlmMapCode.{UlmMapCode}
-use Rattle.c_bodies.specs.Bodies.{requestFace, censorFace, mapFace, mapCodeFace}
+use Rattle.c_bodies.specs.declared.UlmComparison.{UlmComparison}
+use Rattle.c_bodies.specs.Bodies.{requestFace, censorFace, mapFace, mapCodeFace, comparisonFace}
 use Rattle.demands.specs.Notions.{One, OfTheTable}
 
 -- the face of an answer: `number` is the struct's refusal, `blank n` the struct that holds n and nothing else
@@ -116,6 +118,9 @@ blankMap n = record { refusal = n; date = 0; minutes = 0; elevations = 0 }
 abbrev pub blankMapCode : ℕ → UlmMapCode
 blankMapCode n = record { refusal = n; code = 0 }
 
+abbrev pub blankComparison : ℕ → UlmComparison
+blankComparison n = record { refusal = n; «old_elevations» = 0; «new_elevations» = 0; differences = 0 }
+
 -- ---- every function of the C face, by its name in include/ulm.h
 pub record FaceOfC : Type 0 where
   pub frame : (buf : List ℕ) (place : ℕ) → Shown (frameFace place) (λ (r : UlmFrame). r .refusal) (blankFrame place) (frameAt buf place)
@@ -134,3 +139,4 @@ pub record FaceOfC : Type 0 where
   pub map : (body : List ℕ) → Shown mapFace (λ (r : UlmMap). r .refusal) blankMap (summaryOf body)
   pub mapCode : (body : List ℕ) (elevation azimuth kilometre : ℕ)
       → Shown mapCodeFace (λ (r : UlmMapCode). r .refusal) blankMapCode (codeOf body elevation azimuth kilometre)
+  pub compareMaps : (old new out : List ℕ) → ShownLent comparisonFace (λ (r : UlmComparison). r .refusal) blankComparison (comparisonOf old new out) out

@@ -9,3 +9,4 @@ pub mod Demand2
 pub mod Face
 pub mod FaceOfRadial
 pub mod LoneSegment
+pub mod TwoMaps

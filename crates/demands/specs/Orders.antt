@@ -13,6 +13,9 @@ use Rattle.description.specs.Description.{Moment, gates}
 use Rattle.description.specs.Refusal.{description, radialChecks}
 use Rattle.description.specs.Lookups.{momentNamed}
 use Rattle.gate.specs.Value.{valueChecks}
+use Rattle.map.specs.Reading.{mapChecks, mapIn}
+use Rattle.differences.specs.Differences.{differences}
+use Rattle.differences.specs.Comparing.{halfwords}
 
 -- a stream at a place: nothing is checked at its end
 abbrev pub streamChecks : List ℕ → ℕ → List Check
@@ -47,3 +50,7 @@ gateChecks b name gate =
 -- "Frame writer: 6, 8, 25, 26, 13." "Body writers: the reader's checks, then 13.": the checks of a writer whose whole answer is `whole`
 abbrev pub writerChecks : List Check → List ℕ → ℕ → List Check
 writerChecks ks whole room = ks ++ (check 13 (ltb room (length whole)) ∷ [])
+
+-- K2: "A bad map is refused by its own number, the first map first; too little output is 13"
+abbrev pub comparisonChecks : List ℕ → List ℕ → ℕ → List Check
+comparisonChecks old new room = writerChecks (mapChecks old ++ mapChecks new) (halfwords (differences (mapIn old) (mapIn new))) room
