@@ -10,8 +10,8 @@ use lib.Seq.{drop-drop}
 use Rattle.wire.specs.Numbers.{fetched}
 use Rattle.wire.specs.Checks.{AllHold}
 use Rattle.wire.proofs.ListLaws.{part-is as part-from}
-use Rattle.map.specs.Map.{azimuths, mostElevations, Zone, zonesAt, codeFrom}
-use Rattle.map.specs.Reading.{value, runSize, azimuthPart, segmentsIn, mapChecks, mapIn}
+use Rattle.map.specs.Map.{azimuths, Zone, zonesAt, codeFrom}
+use Rattle.map.specs.Reading.{value, runSize, azimuthPart, segmentsIn, mapIn}
 use Rattle.map.proofs.CheckFacts.{MapFacts, map-facts}
 use Rattle.map.proofs.Runs.{run-none, run-next}
 use Rattle.map.proofs.Accepted.{azimuth-long}
@@ -20,7 +20,7 @@ use Rattle.filter.proofs.PartLaws.{fetched-value}
 use Rattle.differences.specs.Differences.{Difference, stretches, azimuthDifferences, inOrder}
 use Rattle.differences.proofs.Most.{runs-few}
 use Rattle.compare.specs.Sheets.{Sheet, sheet, onto, zonesDifferences, elevationsDifferences, Has}
-use Rattle.compare.proofs.SheetLaws.{onto-append, onto-count, onto-length}
+use Rattle.compare.proofs.SheetLaws.{onto-append, onto-count}
 
 -- ---- lists one after the other, the last one apart
 in-order-last : {A : Type 0} (of : ℕ → List A) (first count : ℕ) → inOrder first (suc count) of ≡ inOrder first count of ++ of (first + count)

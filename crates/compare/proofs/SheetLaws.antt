@@ -6,15 +6,11 @@ use mathlib.Core.Path.{_≡_, refl, sym, ap, _∙_}
 use mathlib.Core.Bool.{Bool, true, false}
 use mathlib.Core.List.{List, [], _∷_, _++_}
 use mir.Val.{boolByte}
-use lib.Dec.{leb}
-use lib.ListN.{length, take, drop, set, length-drop, length-append}
-use lib.Seq.{length-take-le}
+use lib.ListN.{length, take, drop, set}
 use native.Mathlib.Numerals.{add-one}
-use borrow.Author.Tests.{leb-true, le-leb, lt-leb}
-use Rattle.wire.specs.Checks.{pick}
+use borrow.Author.Tests.{le-leb, lt-leb}
 use Rattle.differences.specs.Differences.{Difference}
 use Rattle.differences.specs.Comparing.{halfwords}
-use Rattle.differences.proofs.Most.{halfwords-length}
 use Rattle.compare.specs.Sheets.{Sheet, sheet, lay, onto, oneIf}
 
 -- six halfwords stored one after the other in six places
@@ -60,28 +56,6 @@ onto-count (d ∷ ds) s =
     let i = onto-count ds (lay d s) in
     let e = lay-count d s in
     omega (arith, i, e)
-
-part-length : (at n : ℕ) (out ys : List ℕ) → at + n ≤ length out → length ys ≡ n → length (take at out ++ (ys ++ drop n (drop at out))) ≡ length out
-part-length at n out ys h e =
-    let a = length-append (take at out) (ys ++ drop n (drop at out)) in
-    let b = length-append ys (drop n (drop at out)) in
-    let c = length-take-le at out (omega arith) in
-    let f = length-drop n (drop at out) in
-    let g = length-drop at out in
-    omega (arith, a, b, c, f, g)
-
-lay-length : (d : Difference) (s : Sheet) → length (lay d s .out) ≡ length (s .out)
-unfolding lay
-lay-length d s = go (leb (6 * s .count + 6) (length (s .out))) refl
-  where
-    go : (t : Bool) → leb (6 * s .count + 6) (length (s .out)) ≡ t
-        → length (pick t (take (6 * s .count) (s .out) ++ (halfwords (d ∷ []) ++ drop 6 (drop (6 * s .count) (s .out)))) (s .out)) ≡ length (s .out)
-    go true e = part-length (6 * s .count) 6 (s .out) (halfwords (d ∷ [])) (leb-true (6 * s .count + 6) (length (s .out)) e) (halfwords-length (d ∷ []))
-    go false e = refl
-
-pub onto-length : (ds : List Difference) (s : Sheet) → length (onto ds s .out) ≡ length (s .out)
-onto-length [] s = refl
-onto-length (d ∷ ds) s = onto-length ds (lay d s) ∙ lay-length d s
 
 -- ---- a stretch, as `list` lists it
 pub byte-one : (t : Bool) → boolByte t ≤ 1

@@ -1,5 +1,5 @@
 use denote.Ref.{now}
-use mathlib.Core.Path.{_≡_, refl, sym, ap, _∙_}
+use mathlib.Core.Path.{refl, sym, ap, _∙_}
 use Rattle.wire.proofs.AnswerLaws.{kept}
 use Rattle.filter.specs.Answers.{tellMap}
 use Rattle.differences.specs.Comparing.{comparisonOf}
@@ -10,10 +10,6 @@ use Rattle.compare.proofs.EntryLaws.{map-counts, first-refused, second-
 use borrow.Author.Needs.{needs}
 use Rattle.compare.proofs.compare.Statement.{statement}
 use Rattle.compare.proofs.compare.Tie as tie
-use Rattle.compare.proofs.compare.Reads as reads
-use Rattle.compare.proofs.compare.Lts as lts
-use Rattle.compare.proofs.compare_checked.Reads as compare-checked-reads
-use Rattle.filter.proofs.check_map.Reads as check-map-reads
 
 check-map-requires : tie.Need-check-map-requires
 check-map-requires c κs = search needs

@@ -1,22 +1,14 @@
 use Prim.Native.Nat.{ℕ, _+_, _*_, _-_, _≤_, _<_}
 use denote.Ref.{now}
 use native.Mathlib.Omega.{arith}
-use mathlib.Core.Path.{_≡_, refl, sym, ap, _∙_, subst}
-use mathlib.Core.List.{List}
-use lib.ListN.{length, take, drop}
-use Rattle.wire.specs.Numbers.{fetched}
-use Rattle.wire.specs.Checks.{AllHold}
+use mathlib.Core.Path.{_≡_, refl, ap, _∙_}
+use lib.ListN.{length}
 use Rattle.map.proofs.CheckFacts.{map-facts}
-use Rattle.map.specs.Reading.{azimuthPart}
-use Rattle.compare.specs.Sheets.{sheet, onto, zonesDifferences}
+use Rattle.compare.specs.Sheets.{sheet}
 use Rattle.compare.proofs.AzimuthWalk.{Going, going-start, going-old, going-new, inside-old, inside-new, going-few, going-on, going-up, going-done, checked-part, size-part, parts-listed}
 use borrow.Author.Needs.{needs}
 use Rattle.compare.proofs.compare_azimuths.Statement.{statement}
 use Rattle.compare.proofs.compare_azimuths.Tie as tie
-use Rattle.compare.proofs.compare_azimuths.Reads as reads
-use Rattle.compare.proofs.compare_azimuths.Lts as lts
-use Rattle.compare.proofs.compare_zones.Reads as compare-zones-reads
-use Rattle.compare.proofs.size_of.Reads as size-of-reads
 
 abbrev Inv-loop : tie.InvT-loop
 Inv-loop old new elevations out₀ elevation₀ azimuth₀ i₀ j₀ count₀ out elevation azimuth i j count =

@@ -1,7 +1,7 @@
-use Prim.Native.Nat.{ℕ, _*_, _≤_}
+use Prim.Native.Nat.{ℕ, _*_}
 use denote.Ref.{now}
 use native.Mathlib.Omega.{arith}
-use mathlib.Core.Path.{_≡_, refl, sym, ap, _∙_}
+use mathlib.Core.Path.{refl, sym, ap, _∙_}
 use mathlib.Core.List.{List}
 use lib.Dec.{leb}
 use lib.ListN.{length}
@@ -11,9 +11,6 @@ use Rattle.compare.proofs.EntryLaws.{has-old, has-new, counted, room-mo
 use borrow.Author.Needs.{needs}
 use Rattle.compare.proofs.has_room.Statement.{statement}
 use Rattle.compare.proofs.has_room.Tie as tie
-use Rattle.compare.proofs.has_room.Reads as reads
-use Rattle.compare.proofs.has_room.Lts as lts
-use Rattle.compare.proofs.compare_azimuths.Reads as compare-azimuths-reads
 
 returns : tie.Need-returns
 returns c =
