@@ -5,7 +5,7 @@ use native.Mathlib.Numerals.{add-one}
 use native.Mathlib.Omega.{arith}
 use mathlib.Core.Path.{_≡_, refl, sym, ap, _∙_, subst}
 use mathlib.Core.List.{List, [], _++_, append-assoc, append-nil}
-use lib.ListN.{length, take, drop, length-drop}
+use lib.ListN.{length, getD, take, drop, length-drop}
 use lib.Seq.{drop-drop}
 use Rattle.wire.specs.Numbers.{fetched}
 use Rattle.wire.specs.Checks.{AllHold}
@@ -19,8 +19,9 @@ use Rattle.map.proofs.Places.{asked-there, asked-holds, asked-zones}
 use Rattle.filter.proofs.PartLaws.{fetched-value}
 use Rattle.differences.specs.Differences.{Difference, stretches, azimuthDifferences, inOrder}
 use Rattle.differences.proofs.Most.{runs-few}
-use Rattle.compare.specs.Sheets.{Sheet, sheet, onto, zonesDifferences, elevationsDifferences, Has}
+use Rattle.compare.specs.Sheets.{Sheet, sheet, onto, zonesDifferences, elevationsDifferences, Same, Has}
 use Rattle.compare.proofs.SheetLaws.{onto-append, onto-count}
+use Rattle.compare.proofs.SameBytes.{same-beyond}
 
 -- ---- lists one after the other, the last one apart
 in-order-last : {A : Type 0} (of : ℕ → List A) (first count : ℕ) → inOrder first (suc count) of ≡ inOrder first count of ++ of (first + count)
@@ -179,6 +180,13 @@ module _ (old new : List ℕ) where
           let m = map-facts old (hasOld .checked) .most in
           omega (arith, g .few, g .around, g .from, hasOld .enough, m)
 
+      pub going-same : (same size size′ rest : ℕ) → Same same (drop i old) (drop j new) → size ≡ 2 + 4 * fetched 2 (drop i old) 0
+          → size′ ≡ 2 + 4 * fetched 2 (drop j new) 0 → rest ≡ same - size → Same rest (drop (i + size) old) (drop (j + size′) new)
+      going-same same size size′ rest s sized sized′ left k h =
+          ap (λ (x : List ℕ). getD x k 0) (sym (drop-drop size i old))
+          ∙ same-beyond (drop i old) (drop j new) going-old going-new same size s sized size′ rest sized′ left k h
+          ∙ ap (λ (x : List ℕ). getD x k 0) (drop-drop size′ j new)
+
       codes-are : zonesDifferences elevation azimuth (drop i old) (drop j new) ≡ one elevation azimuth
       codes-are =
           ap (λ (zs : List Zone). stretches elevation azimuth (codeFrom 0 zs) (codeFrom 0 (azimuthPart .read (drop j new))) 0 1 511)
@@ -259,6 +267,14 @@ checked-part b at h = subst (λ (x : List ℕ). AllHold (azimuthPart .checks x))
 
 pub size-part : (b : List ℕ) (at : ℕ) → 2 + 4 * fetched 2 (take (length b - at) (drop at b)) 0 ≡ 2 + 4 * fetched 2 (drop at b) 0
 size-part b at = ap (λ (x : List ℕ). 2 + 4 * fetched 2 x 0) (part-from b at)
+
+pub same-parts : (n : ℕ) (old new : List ℕ) (i j : ℕ) → Same n (drop i old) (drop j new) → Same n (take (length old - i) (drop i old)) (take (length new - j) (drop j new))
+same-parts n old new i j s k h =
+    ap (λ (x : List ℕ). getD x k 0) (part-from old i) ∙ s k h ∙ ap (λ (x : List ℕ). getD x k 0) (sym (part-from new j))
+
+pub parts-same : (n : ℕ) (old new : List ℕ) (i j : ℕ) → Same n (take (length old - i) (drop i old)) (take (length new - j) (drop j new)) → Same n (drop i old) (drop j new)
+parts-same n old new i j s k h =
+    ap (λ (x : List ℕ). getD x k 0) (sym (part-from old i)) ∙ s k h ∙ ap (λ (x : List ℕ). getD x k 0) (part-from new j)
 
 pub parts-listed : (elevation azimuth : ℕ) (old new : List ℕ) (i j : ℕ) (s : Sheet)
     → onto (zonesDifferences elevation azimuth (take (length old - i) (drop i old)) (take (length new - j) (drop j new))) s

@@ -4,6 +4,7 @@ pub mod StretchLaws
 pub mod ZoneWalk
 pub mod TurnLaws
 pub mod ZoneNumbers
+pub mod SameBytes
 pub mod AzimuthWalk
 pub mod EntryLaws
 pub mod OneAnswer

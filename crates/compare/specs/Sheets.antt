@@ -1,10 +1,10 @@
 -- What the inner functions answer: differences listed one after the other as far as the output has room for them, and counted beyond.
-use Prim.Native.Nat.{ℕ, suc, _+_, _*_, _-_, _≤_}
+use Prim.Native.Nat.{ℕ, suc, _+_, _*_, _-_, _≤_, _<_}
 use mathlib.Core.Path.{_≡_}
 use mathlib.Core.Bool.{Bool}
 use mathlib.Core.List.{List, [], _∷_, _++_}
 use lib.Dec.{leb}
-use lib.ListN.{length, take, drop}
+use lib.ListN.{length, getD, take, drop}
 use Rattle.wire.specs.Checks.{pick, AllHold}
 use Rattle.map.specs.Map.{lastKilometre, azimuths, codeFrom}
 use Rattle.map.specs.Reading.{azimuthPart, segmentsIn, mapChecks, mapIn}
@@ -48,6 +48,10 @@ zonesDifferences elevation azimuth old new =
 abbrev pub elevationsDifferences : ℕ → List ℕ → List ℕ → List Difference
 elevationsDifferences elevations old new =
     inOrder 1 elevations (λ elevation. inOrder 0 azimuths (λ azimuth. azimuthDifferences (mapIn old) (mapIn new) elevation azimuth))
+
+-- two parts begin with so many bytes that are the same
+abbrev pub Same : ℕ → List ℕ → List ℕ → Type 0
+Same n old new = (k : ℕ) → k < n → getD old k 0 ≡ getD new k 0
 
 -- a checked body has so many elevation segments, or more
 pub record Has (elevations : ℕ) (b : List ℕ) : Type 0 where

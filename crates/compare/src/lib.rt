@@ -4,7 +4,7 @@ use filter::LAST_KILOMETRE;
 use filter::MapAnswer;
 use wire::refusal;
 ghost use mathlib.Core.Path.{_≡_};
-ghost use Prim.Native.Nat.{_+_, _*_, _/_, _%_, _≤_, _<_};
+ghost use Prim.Native.Nat.{_+_, _*_, _-_, _/_, _%_, _≤_, _<_};
 ghost use mathlib.Core.Bool.{true};
 ghost use mathlib.Core.List.{[], _∷_};
 ghost use lib.Dec.{ltb, leb, eqb};
@@ -15,7 +15,7 @@ ghost use Rattle.wire.specs.Checks.{pick, AllHold};
 ghost use Rattle.map.specs.Reading.{azimuthPart};
 ghost use Rattle.differences.specs.Comparing.{comparisonOf};
 ghost use Rattle.compare.specs.Answers.{tellCompare};
-ghost use Rattle.compare.specs.Sheets.{mostCounted, sheet, onto, oneIf, zonesDifferences, elevationsDifferences, listOf, Has, Counts, Checked};
+ghost use Rattle.compare.specs.Sheets.{mostCounted, sheet, onto, oneIf, zonesDifferences, elevationsDifferences, listOf, Same, Has, Counts, Checked};
 
 // The halfwords that a difference takes.
 const SIZE: usize = 6;
@@ -104,8 +104,8 @@ fn list(
     count + 1
 }
 
-// The zone at a place by one fetch, code and end in one number. The part lent has a length that the compiler knows, so it drops the fetch's own test.
-fn zone_at(part: &[u8], at: usize) -> u32
+// Four bytes by one fetch: of a zone, code and end in one number. The part lent has a length that the compiler knows, so it drops the fetch's own test.
+fn four_at(part: &[u8], at: usize) -> u32
     requires { ⌜ at + 4 ≤ length (now part) ⌝ }
     ensures { λ r. ⌜ r ≡ num 4 (now (part .entry)) at ⌝ }
 {
@@ -124,27 +124,7 @@ fn end_of(zone: u32) -> u16
     (zone % HALFWORD) as u16
 }
 
-// Whether the azimuths that two parts begin with have the same zones, zone by zone.
-fn alike(old: &[u8], new: &[u8]) -> bool
-    requires { ⌜ AllHold (azimuthPart .checks (now old)) × AllHold (azimuthPart .checks (now new)) ⌝ }
-    ensures { λ r. ⌜ (r ≡ true → azimuthPart .read (now (old .entry)) ≡ azimuthPart .read (now (new .entry))) ⌝ }
-{
-    let count = wire::fetch16(old, 0);
-    if count != wire::fetch16(new, 0) {
-        return false;
-    }
-    let end = 2 + 4 * count as usize;
-    let mut at: usize = 2;
-    while at < end {
-        if zone_at(old, at) != zone_at(new, at) {
-            return false;
-        }
-        at += 4;
-    }
-    true
-}
-
-// The azimuth that a part of each body begins with. Most are alike; the zones of others are walked side by side, from one end of either to the next.
+// The azimuth that a part of each body begins with. Its zones are walked side by side, from one end of either to the next.
 // Which ends come first and where a stretch ends could not be foreseen: the only branch on it is in `list`, where there is room.
 fn compare_zones(
     old: &[u8],
@@ -157,19 +137,16 @@ fn compare_zones(
     requires { ⌜ AllHold (azimuthPart .checks (now old)) × AllHold (azimuthPart .checks (now new)) × (count + 512 ≤ mostCounted) ⌝ }
     ensures { λ r. ⌜ sheet r (now (out .exit)) ≡ onto (zonesDifferences elevation azimuth (now (old .entry)) (now (new .entry))) (sheet count (now (out .entry))) ⌝ }
 {
-    if alike(old, new) {
-        return count;
-    }
     let mut i: usize = 2;
     let mut j: usize = 2;
     let mut next: u16 = 0;
     let mut first: u16 = 0;
-    let mut was = code_of(zone_at(old, i));
-    let mut is = code_of(zone_at(new, j));
+    let mut was = code_of(four_at(old, i));
+    let mut is = code_of(four_at(new, j));
     let mut listed = count;
     while next as usize <= LAST_KILOMETRE {
-        let zone_old = zone_at(old, i);
-        let zone_new = zone_at(new, j);
+        let zone_old = four_at(old, i);
+        let zone_new = four_at(new, j);
         let code = code_of(zone_old);
         let other = code_of(zone_new);
         let ends = (was != code) | (is != other);
@@ -196,7 +173,73 @@ fn size_of(part: &[u8]) -> usize
     2 + 4 * wire::fetch16(part, 0) as usize
 }
 
-// So many elevation segments of both bodies, azimuth by azimuth.
+fn shorter(old: &[u8], new: &[u8]) -> usize
+    ensures { λ r. ⌜ (r ≤ length (now (old .entry))) × (r ≤ length (now (new .entry))) ⌝ }
+{
+    if old.len() < new.len() {
+        return old.len();
+    }
+    new.len()
+}
+
+// How many bytes two parts begin with that are the same, in whole fours.
+fn same_bytes(old: &[u8], new: &[u8]) -> usize
+    ensures { λ r. ⌜ Same r (now (old .entry)) (now (new .entry)) ⌝ }
+{
+    let end = shorter(old, new);
+    let mut at: usize = 0;
+    while at + 4 <= end {
+        if four_at(old, at) != four_at(new, at) {
+            return at;
+        }
+        at += 4;
+    }
+    at
+}
+
+// As many bytes as are known to be the same, if an azimuth of that size lies wholly in them, else as many as there are.
+fn known(same: usize, size: usize, old: &[u8], new: &[u8]) -> usize
+    requires { ⌜ Same same (now old) (now new) ⌝ }
+    ensures { λ r. ⌜ Same r (now (old .entry)) (now (new .entry)) ⌝ }
+{
+    if size <= same {
+        return same;
+    }
+    same_bytes(old, new)
+}
+
+// What is left of the bytes that are the same after an azimuth of that size.
+fn beyond(same: usize, size: usize) -> usize
+    ensures { λ r. ⌜ r ≡ same - size ⌝ }
+{
+    if same < size {
+        return 0;
+    }
+    same - size
+}
+
+// The azimuth that a part of each body begins with, passed over if it lies wholly in the bytes that are the same.
+fn compare_unlike(
+    same: usize,
+    size: usize,
+    old: &[u8],
+    new: &[u8],
+    elevation: u16,
+    azimuth: u16,
+    out: &mut [u16],
+    count: usize,
+) -> usize
+    requires { ⌜ AllHold (azimuthPart .checks (now old)) × AllHold (azimuthPart .checks (now new)) × (count + 512 ≤ mostCounted) × Same same (now old) (now new) × (size ≡ 2 + 4 * fetched 2 (now old) 0) ⌝ }
+    ensures { λ r. ⌜ sheet r (now (out .exit)) ≡ onto (zonesDifferences elevation azimuth (now (old .entry)) (now (new .entry))) (sheet count (now (out .entry))) ⌝ }
+{
+    if size <= same {
+        return count;
+    }
+    compare_zones(old, new, elevation, azimuth, out, count)
+}
+
+// So many elevation segments of both bodies, azimuth by azimuth. Most are the same: the bytes of both are compared in one loop as far as that goes, and the
+// azimuths in them passed over by their sizes.
 fn compare_azimuths(old: &[u8], new: &[u8], elevations: u16, out: &mut [u16]) -> usize
     requires { ⌜ Has elevations (now old) × Has elevations (now new) ⌝ }
     ensures { λ r. ⌜ sheet r (now (out .exit)) ≡ onto (elevationsDifferences elevations (now (old .entry)) (now (new .entry))) (sheet 0 (now (out .entry))) ⌝ }
@@ -205,11 +248,24 @@ fn compare_azimuths(old: &[u8], new: &[u8], elevations: u16, out: &mut [u16]) ->
     let mut azimuth: u16 = 0;
     let mut i: usize = 6;
     let mut j: usize = 6;
+    let mut same: usize = 0;
     let mut count: usize = 0;
     while elevation <= elevations {
-        count = compare_zones(&old[i..], &new[j..], elevation, azimuth, out, count);
-        i += size_of(&old[i..]);
+        let size = size_of(&old[i..]);
+        same = known(same, size, &old[i..], &new[j..]);
+        count = compare_unlike(
+            same,
+            size,
+            &old[i..],
+            &new[j..],
+            elevation,
+            azimuth,
+            out,
+            count,
+        );
+        i += size;
         j += size_of(&new[j..]);
+        same = beyond(same, size);
         azimuth += 1;
         if azimuth as usize == AZIMUTHS {
             azimuth = 0;

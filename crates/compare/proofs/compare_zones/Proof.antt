@@ -6,7 +6,7 @@ use mathlib.Core.Path.{_≡_, refl, _∙_}
 use lib.ListN.{length}
 use Rattle.compare.proofs.ZoneNumbers.{Read, zone-read}
 use Rattle.compare.proofs.ZoneWalk.{first-there, facing-place, facing-there}
-use Rattle.compare.proofs.TurnLaws.{Walking, none-listed, walking-start, turn-low, walking-next, walking-done}
+use Rattle.compare.proofs.TurnLaws.{Walking, walking-start, turn-low, walking-next, walking-done}
 use Rattle.compare.proofs.compare_zones.Statement.{statement}
 use Rattle.compare.proofs.compare_zones.Tie as tie
 
@@ -18,34 +18,26 @@ Inv-loop old new elevation azimuth out₀ count i₀ j₀ next₀ first₀ was�
 abbrev μ-loop : tie.MeasureT-loop
 μ-loop old new elevation azimuth out₀ count i₀ j₀ next₀ first₀ was₀ is₀ listed₀ out i j next first was is listed = 512 - next
 
-alike-requires : tie.Need-alike-requires Inv-loop μ-loop
-alike-requires c κs = let s = c .before .before .before in (s .pre .0, s .pre .1)
-
-returns : tie.Need-returns Inv-loop μ-loop
-returns c =
-    let a = c .before .before .before .before .before .args in
-    none-listed (now (a .old)) (now (a .new)) (a .elevation) (a .azimuth) (a .count) (now (a .out)) (c .before .alike .ensures (c .if1 .taken))
-
-zone-at-requires : tie.Need-zone-at-requires Inv-loop μ-loop
-zone-at-requires c κs = let s = c .before .before .before .before .before in first-there (now (s .args .old)) (s .pre .0)
+four-at-requires : tie.Need-four-at-requires Inv-loop μ-loop
+four-at-requires c κs = let s = c .before .before .before in first-there (now (s .args .old)) (s .pre .0)
 
 code-of-requires : tie.Need-code-of-requires Inv-loop μ-loop
 code-of-requires c κs = search needs
 
-zone-at-requires-2 : tie.Need-zone-at-requires-2 Inv-loop μ-loop
-zone-at-requires-2 c κs = let s = c .before .before .before .before .before .before .before in first-there (now (s .args .new)) (s .pre .1)
+four-at-requires-2 : tie.Need-four-at-requires-2 Inv-loop μ-loop
+four-at-requires-2 c κs = let s = c .before .before .before .before .before in first-there (now (s .args .new)) (s .pre .1)
 
 code-of-requires-2 : tie.Need-code-of-requires-2 Inv-loop μ-loop
 code-of-requires-2 c κs = search needs
 
 loop-holds : tie.Need-loop-holds Inv-loop μ-loop
 loop-holds c =
-    let s = c .before .before .before .before .before .before .before .before .before in
+    let s = c .before .before .before .before .before .before .before in
     let a = s .args in
-    let o = c .before .before .before .zone-at in
-    let n = c .before .zone-at2 in
-    let old = zone-read (now (a .old)) (λ i. (c .before .before .before .before .before .before .before .before .shared-slice-known .given i) .fits) 2 (first-there (now (a .old)) (s .pre .0)) (o .result) (o .ensures) in
-    let new = zone-read (now (a .new)) (λ i. (c .before .before .before .before .before .before .before .shared-slice-known2 .given i) .fits) 2 (first-there (now (a .new)) (s .pre .1)) (n .result) (n .ensures) in (
+    let o = c .before .before .before .four-at in
+    let n = c .before .four-at2 in
+    let old = zone-read (now (a .old)) (λ i. (c .before .before .before .before .before .before .shared-slice-known .given i) .fits) 2 (first-there (now (a .old)) (s .pre .0)) (o .result) (o .ensures) in
+    let new = zone-read (now (a .new)) (λ i. (c .before .before .before .before .before .shared-slice-known2 .given i) .fits) 2 (first-there (now (a .new)) (s .pre .1)) (n .result) (n .ensures) in (
       omega arith,
       omega arith,
       omega arith,
@@ -57,15 +49,15 @@ loop-holds c =
 cast-loop : tie.Need-cast-loop Inv-loop μ-loop
 cast-loop c = search needs
 
-zone-at-requires-3 : tie.Need-zone-at-requires-3 Inv-loop μ-loop
-zone-at-requires-3 c κs =
-    let s = c .before .before .before .before .before .before .before .before .before .before .before in
+four-at-requires-3 : tie.Need-four-at-requires-3 Inv-loop μ-loop
+four-at-requires-3 c κs =
+    let s = c .before .before .before .before .before .before .before .before .before in
     let l = c .before .loop in
     facing-there (now (s .args .old)) (s .pre .0) (l .i) (l .next) (l .inv .4 .atOld) (c .loop-test .taken)
 
-zone-at-requires-4 : tie.Need-zone-at-requires-4 Inv-loop μ-loop
-zone-at-requires-4 c κs =
-    let s = c .before .before .before .before .before .before .before .before .before .before .before .before in
+four-at-requires-4 : tie.Need-four-at-requires-4 Inv-loop μ-loop
+four-at-requires-4 c κs =
+    let s = c .before .before .before .before .before .before .before .before .before .before in
     let l = c .before .before .loop in
     facing-there (now (s .args .new)) (s .pre .1) (l .j) (l .next) (l .inv .4 .atNew) (c .before .loop-test .taken)
 
@@ -76,24 +68,24 @@ code-of-requires-4 : tie.Need-code-of-requires-4 Inv-loop μ-loop
 code-of-requires-4 c κs = search needs
 
 -- the zones that both walks have come to
-zones-read : (c : tie.After-zone-at4 Inv-loop μ-loop)
-    → let a = c .before .before .before .before .before .before .before .before .before .before .before .before .before .args in
+zones-read : (c : tie.After-four-at4 Inv-loop μ-loop)
+    → let a = c .before .before .before .before .before .before .before .before .before .before .before .args in
     let l = c .before .before .before .loop in
-    Read (now (a .old)) (l .i) (c .before .zone-at3 .result) × Read (now (a .new)) (l .j) (c .zone-at4 .result)
+    Read (now (a .old)) (l .i) (c .before .four-at3 .result) × Read (now (a .new)) (l .j) (c .four-at4 .result)
 zones-read c =
-    let s = c .before .before .before .before .before .before .before .before .before .before .before .before .before in
+    let s = c .before .before .before .before .before .before .before .before .before .before .before in
     let a = s .args in
     let l = c .before .before .before .loop in
     let near = c .before .before .loop-test .taken in
-    let o = c .before .zone-at3 in
-    let n = c .zone-at4 in (
-      zone-read (now (a .old)) (λ i. (c .before .before .before .before .before .before .before .before .before .before .before .before .shared-slice-known .given i) .fits) (l .i) (facing-there (now (a .old)) (s .pre .0) (l .i) (l .next) (l .inv .4 .atOld) near) (o .result) (o .ensures),
-      zone-read (now (a .new)) (λ i. (c .before .before .before .before .before .before .before .before .before .before .before .shared-slice-known2 .given i) .fits) (l .j) (facing-there (now (a .new)) (s .pre .1) (l .j) (l .next) (l .inv .4 .atNew) near) (n .result) (n .ensures),
+    let o = c .before .four-at3 in
+    let n = c .four-at4 in (
+      zone-read (now (a .old)) (λ i. (c .before .before .before .before .before .before .before .before .before .before .shared-slice-known .given i) .fits) (l .i) (facing-there (now (a .old)) (s .pre .0) (l .i) (l .next) (l .inv .4 .atOld) near) (o .result) (o .ensures),
+      zone-read (now (a .new)) (λ i. (c .before .before .before .before .before .before .before .before .before .shared-slice-known2 .given i) .fits) (l .j) (facing-there (now (a .new)) (s .pre .1) (l .j) (l .next) (l .inv .4 .atNew) near) (n .result) (n .ensures),
     )
 
 list-requires : tie.Need-list-requires Inv-loop μ-loop
 list-requires c κs =
-    let s = c .before .before .before .before .before .before .before .before .before .before .before .before .before .before .before .before in
+    let s = c .before .before .before .before .before .before .before .before .before .before .before .before .before .before in
     let a = s .args in
     let l = c .before .before .before .before .before .before .loop in
     let z = zones-read (c .before .before .before) in
@@ -109,13 +101,13 @@ begun-requires c κs = search needs
 
 -- after the turn
 turned : (c : tie.After-past2 Inv-loop μ-loop)
-    → let a = c .before .before .before .before .before .before .before .before .before .before .before .before .before .before .before .before .before .before .before .before .before .before .before .before .before .args in
+    → let a = c .before .before .before .before .before .before .before .before .before .before .before .before .before .before .before .before .before .before .before .before .before .before .before .args in
     let end = c .before .before .least .result in
     (c .before .before .before .before .before .before .before .before .before .before .before .before .before .before .before .loop .next < end + 1) × (end ≤ 511)
     × Walking (now (a .old)) (now (a .new)) (a .elevation) (a .azimuth) (a .count) (now (a .out)) (c .before .before .before .before .before .before .before .before .list .last .0) (c .before .past .result) (c .past2 .result)
     (end + 1) (c .before .before .before .before .before .begun .result) (c .before .before .before .before .before .before .before .before .before .before .before .code-of3 .result) (c .before .before .before .before .before .before .before .before .before .before .code-of4 .result) (c .before .before .before .before .before .before .before .before .list .result)
 turned c =
-    let s = c .before .before .before .before .before .before .before .before .before .before .before .before .before .before .before .before .before .before .before .before .before .before .before .before .before in
+    let s = c .before .before .before .before .before .before .before .before .before .before .before .before .before .before .before .before .before .before .before .before .before .before .before in
     let a = s .args in
     let l = c .before .before .before .before .before .before .before .before .before .before .before .before .before .before .before .loop in
     let z = zones-read (c .before .before .before .before .before .before .before .before .before .before .before .before) in
@@ -153,7 +145,7 @@ loop-less c = let l = c .before .before .before .before .before .before .before 
 
 loop-again : tie.Need-loop-again Inv-loop μ-loop
 loop-again c =
-    let s = c .before .before .before .before .before .before .before .before .before .before .before .before .before .before .before .before .before .before .before .before .before .before .before .before .before in
+    let s = c .before .before .before .before .before .before .before .before .before .before .before .before .before .before .before .before .before .before .before .before .before .before .before in
     let l = c .before .before .before .before .before .before .before .before .before .before .before .before .before .before .before .loop in
     let t = turned c in
     let n = c .before .before .least .result + 1 in (
@@ -166,7 +158,7 @@ loop-again c =
 
 list-requires-2 : tie.Need-list-requires-2 Inv-loop μ-loop
 list-requires-2 c κs =
-    let s = c .before .before .before .before .before .before .before .before .before .before .before .before in
+    let s = c .before .before .before .before .before .before .before .before .before .before in
     let l = c .before .before .loop in
     (omega (arith, l .inv .4 .few, l .inv .4 .near, s .pre .2), λ e. omega (arith, c .before .loop-test .left))
 
@@ -175,9 +167,9 @@ same-length c =
     let l = c .before .before .before .before .before .loop in
     c .before .before .list2 .kept .0 ∙ l .inv .3
 
-returns-2 : tie.Need-returns-2 Inv-loop μ-loop
-returns-2 c =
-    let s = c .before .before .before .before .before .before .before .before .before .before .before .before .before .before .before in
+returns : tie.Need-returns Inv-loop μ-loop
+returns c =
+    let s = c .before .before .before .before .before .before .before .before .before .before .before .before .before in
     let a = s .args in
     let l = c .before .before .before .before .before .loop in
     c .before .before .list2 .ensures
@@ -190,16 +182,14 @@ compare-zones-spec =
     (tie.spec
     Inv-loop
     μ-loop
-    alike-requires
-    returns
-    zone-at-requires
+    four-at-requires
     code-of-requires
-    zone-at-requires-2
+    four-at-requires-2
     code-of-requires-2
     loop-holds
     cast-loop
-    zone-at-requires-3
-    zone-at-requires-4
+    four-at-requires-3
+    four-at-requires-4
     code-of-requires-3
     code-of-requires-4
     list-requires
@@ -214,4 +204,4 @@ compare-zones-spec =
     loop-again
     list-requires-2
     same-length
-    returns-2)
+    returns)

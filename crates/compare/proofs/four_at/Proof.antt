@@ -4,8 +4,8 @@ use denote.Ref.{now}
 use native.Mathlib.Omega.{arith}
 use mathlib.Core.Path.{_∙_}
 use Rattle.compare.proofs.ZoneNumbers.{number-fetched}
-use Rattle.compare.proofs.zone_at.Statement.{statement}
-use Rattle.compare.proofs.zone_at.Tie as tie
+use Rattle.compare.proofs.four_at.Statement.{statement}
+use Rattle.compare.proofs.four_at.Tie as tie
 
 add-fetch32 : tie.Need-add-fetch32
 add-fetch32 c = search needs
@@ -28,7 +28,7 @@ returns c =
     let a = s .args in
     c .fetch32 .ensures ∙ number-fetched (now (a .part)) (a .at) (a .at + 4 - a .at) (omega arith) (s .pre)
 
-pub zone-at-spec : {M : Type 1} → statement M
-zone-at-spec =
+pub four-at-spec : {M : Type 1} → statement M
+four-at-spec =
     tie.close
     (tie.spec add-fetch32 sub-fetch32 part-fetch32-start part-fetch32-end fetch32-requires returns)
