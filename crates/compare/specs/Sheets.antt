@@ -73,6 +73,6 @@ pub record Checked (elevations : ℕ) (old new : List ℕ) : Type 0 where
 abbrev pub listOf : List ℕ → List ℕ → List ℕ
 listOf old new = halfwords (differences (mapIn old) (mapIn new))
 
--- above any number of differences of an azimuth before it, and of all azimuths
+-- more than 512 in each of 1,800 azimuths: what a walk may count is below it
 abbrev pub mostCounted : ℕ
 mostCounted = 1000000
