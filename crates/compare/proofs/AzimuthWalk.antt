@@ -1,19 +1,22 @@
 -- Both bodies walked azimuth by azimuth. Assumes nothing.
-use Prim.Native.Nat.{ℕ, zero, suc, _+_, _*_, _-_, _≤_, _<_}
+use Prim.Native.Nat.{ℕ, zero, suc, _+_, _*_, _-_, _/_, _%_, _≤_, _<_}
 use native.Mathlib.Nat.{add-zero, zero-add}
 use native.Mathlib.Numerals.{add-one}
 use native.Mathlib.Omega.{arith}
 use mathlib.Core.Path.{_≡_, refl, sym, ap, _∙_, subst}
+use mathlib.Core.Bool.{Bool, true, false}
 use mathlib.Core.List.{List, [], _++_, append-assoc, append-nil}
+use lib.Dec.{eqb}
 use lib.ListN.{length, getD, take, drop, length-drop}
 use lib.Seq.{drop-drop}
+use borrow.Author.Tests.{eqb-true, eqb-false}
 use Rattle.wire.specs.Numbers.{fetched}
 use Rattle.wire.specs.Checks.{AllHold}
 use Rattle.wire.proofs.ListLaws.{part-is as part-from}
 use Rattle.map.specs.Map.{azimuths, Zone, zonesAt, codeFrom}
 use Rattle.map.specs.Reading.{value, runSize, azimuthPart, segmentsIn, mapIn}
 use Rattle.map.proofs.CheckFacts.{MapFacts, map-facts}
-use Rattle.map.proofs.Runs.{run-none, run-next}
+use Rattle.map.proofs.Runs.{run-none, run-more, run-next}
 use Rattle.map.proofs.Accepted.{azimuth-long}
 use Rattle.map.proofs.Places.{asked-there, asked-holds, asked-zones}
 use Rattle.filter.proofs.PartLaws.{fetched-value}
@@ -21,7 +24,8 @@ use Rattle.differences.specs.Differences.{Difference, stretches, azimuthDiffere
 use Rattle.differences.proofs.Most.{runs-few}
 use Rattle.compare.specs.Sheets.{Sheet, sheet, onto, zonesDifferences, elevationsDifferences, Same, Has}
 use Rattle.compare.proofs.SheetLaws.{onto-append, onto-count}
-use Rattle.compare.proofs.SameBytes.{same-beyond}
+use Rattle.compare.proofs.TurnLaws.{none-listed}
+use Rattle.compare.proofs.SameBytes.{azimuth-same, size-same, same-beyond}
 
 -- ---- lists one after the other, the last one apart
 in-order-last : {A : Type 0} (of : ℕ → List A) (first count : ℕ) → inOrder first (suc count) of ≡ inOrder first count of ++ of (first + count)
@@ -145,6 +149,10 @@ module _ (old new : List ℕ) where
     pub few : count ≤ index elevation azimuth * 512
     pub same : sheet count out ≡ onto (done elevation azimuth) (sheet 0 out₀)
 
+  -- the azimuths counted through
+  abbrev pub Reached : ℕ → List ℕ → ℕ → List ℕ → ℕ → ℕ → ℕ → Type 0
+  Reached elevations out₀ k out i j count = Going elevations out₀ out (1 + k / 360) (k % 360) i j count
+
   module _ (elevations : ℕ) (hasOld : Has elevations old) (hasNew : Has elevations new) (out₀ : List ℕ) where
     pub going-start : Going elevations out₀ out₀ 1 0 6 6 0
     going-start =
@@ -252,6 +260,67 @@ module _ (old new : List ℕ) where
                     ∙ ap (λ (l : List Difference). onto l (sheet 0 out₀)) (sym (done-segment elevation (g .from)));
               }
 
+    pub reached-start : Reached elevations out₀ 0 out₀ 6 6 0
+    reached-start = going-start
+
+    moved : (k k′ : ℕ) (out : List ℕ) (i i′ j j′ count : ℕ) → k ≡ k′ → i ≡ i′ → j ≡ j′ → Reached elevations out₀ k out i j count → Reached elevations out₀ k′ out i′ j′ count
+    moved k k′ out i i′ j j′ count e f h r =
+        subst (λ (x : ℕ). Reached elevations out₀ k′ out i′ x count) h (subst (λ (x : ℕ). Reached elevations out₀ k′ out x j count) f (subst (λ (x : ℕ). Reached elevations out₀ x out i j count) e r))
+
+    module _ (k : ℕ) (out : List ℕ) (i j count : ℕ) (r : Reached elevations out₀ k out i j count) (more : k < 360 * elevations) where
+      pub reached-more : 1 + k / 360 ≤ elevations
+      reached-more = omega arith
+
+      pub reached-next : (out′ : List ℕ) (count′ i′ j′ : ℕ)
+          → sheet count′ out′ ≡ onto (zonesDifferences (1 + k / 360) (k % 360) (drop i old) (drop j new)) (sheet count out)
+          → i′ ≡ i + (2 + 4 * fetched 2 (drop i old) 0) → j′ ≡ j + (2 + 4 * fetched 2 (drop j new) 0) → Reached elevations out₀ (k + 1) out′ i′ j′ count′
+      reached-next out′ count′ i′ j′ listed iIs jIs = go (eqb (k % 360 + 1) 360) refl
+        where
+          go : (t : Bool) → eqb (k % 360 + 1) 360 ≡ t → Reached elevations out₀ (k + 1) out′ i′ j′ count′
+          go true q =
+              let f = eqb-true (k % 360 + 1) 360 q in
+              let e : 1 + k / 360 + 1 ≡ 1 + (k + 1) / 360 = omega (arith, f) in
+              let z : 0 ≡ (k + 1) % 360 = omega (arith, f) in
+              subst (λ (x : ℕ). Going elevations out₀ out′ (1 + (k + 1) / 360) x i′ j′ count′) z
+              (subst (λ (x : ℕ). Going elevations out₀ out′ x 0 i′ j′ count′) e
+              (going-up out (1 + k / 360) (k % 360) i j count r reached-more out′ count′ i′ j′ listed iIs jIs f))
+          go false q =
+              let f = eqb-false (k % 360 + 1) 360 q in
+              let e : 1 + k / 360 ≡ 1 + (k + 1) / 360 = omega (arith, f) in
+              let z : k % 360 + 1 ≡ (k + 1) % 360 = omega (arith, f) in
+              subst (λ (x : ℕ). Going elevations out₀ out′ (1 + (k + 1) / 360) x i′ j′ count′) z
+              (subst (λ (x : ℕ). Going elevations out₀ out′ x (k % 360 + 1) i′ j′ count′) e
+              (going-on out (1 + k / 360) (k % 360) i j count r reached-more out′ count′ i′ j′ listed iIs jIs f))
+
+    -- so many that lie wholly in bytes that are the same
+    pub reached-past : (n k : ℕ) (out : List ℕ) (i j count same : ℕ) → Reached elevations out₀ k out i j count → k + n ≤ 360 * elevations → Same same (drop i old) (drop j new)
+        → runSize azimuthPart n (drop i old) ≤ same
+        → Reached elevations out₀ (k + n) out (i + runSize azimuthPart n (drop i old)) (j + runSize azimuthPart n (drop i old)) count
+    reached-past zero k out i j count same r most s inside =
+        let z = run-none azimuthPart (drop i old) in
+        moved k (k + 0) out i (i + runSize azimuthPart 0 (drop i old)) j (j + runSize azimuthPart 0 (drop i old)) count (omega arith) (omega (arith, z)) (omega (arith, z)) r
+    reached-past (suc n) k out i j count same r most s inside =
+        let more : 1 + k / 360 ≤ elevations = omega arith in
+        let p = 2 + 4 * fetched 2 (drop i old) 0 in
+        let checkedOld = going-old out (1 + k / 360) (k % 360) i j count r more in
+        let checkedNew = going-new out (1 + k / 360) (k % 360) i j count r more in
+        let sized : p ≡ azimuthPart .size (drop i old) = size-is old elevations hasOld (1 + k / 360) (k % 360) i (r .from) more (r .around) (r .atOld) in
+        let all : runSize azimuthPart (suc n) (drop i old) ≡ p + runSize azimuthPart n (drop (i + p) old)
+        = run-more azimuthPart n (drop i old)
+        ∙ ap (λ (x : ℕ). x + runSize azimuthPart n (drop x (drop i old))) (sym sized)
+        ∙ ap (λ (x : List ℕ). p + runSize azimuthPart n x) (drop-drop p i old) in
+        let within : p ≤ same = omega (arith, all, inside) in
+        let q = size-same (drop i old) (drop j new) checkedOld checkedNew same p s refl within in
+        let zones = azimuth-same (drop i old) (drop j new) checkedOld checkedNew same p s refl within in
+        let rest : Same (same - p) (drop (i + p) old) (drop (j + p) new)
+        = going-same out (1 + k / 360) (k % 360) i j count r more same p p (same - p) s refl q refl in
+        let next : Reached elevations out₀ (k + 1) out (i + p) (j + p) count
+        = reached-next k out i j count r (omega arith) out count (i + p) (j + p)
+        (none-listed (drop i old) (drop j new) (1 + k / 360) (k % 360) count out zones) refl (ap (λ (x : ℕ). j + x) q) in
+        moved (k + 1 + n) (k + suc n) out (i + p + runSize azimuthPart n (drop (i + p) old)) (i + runSize azimuthPart (suc n) (drop i old))
+        (j + p + runSize azimuthPart n (drop (i + p) old)) (j + runSize azimuthPart (suc n) (drop i old)) count (omega arith) (omega (arith, all)) (omega (arith, all))
+        (reached-past n (k + 1) out (i + p) (j + p) count (same - p) next (omega arith) rest (omega (arith, all, inside)))
+
     pub going-done : (out : List ℕ) (elevation azimuth i j count : ℕ) → Going elevations out₀ out elevation azimuth i j count → elevations < elevation
         → sheet count out ≡ onto (elevationsDifferences elevations old new) (sheet 0 out₀)
     going-done out elevation azimuth i j count g h =
@@ -268,9 +337,11 @@ checked-part b at h = subst (λ (x : List ℕ). AllHold (azimuthPart .checks x))
 pub size-part : (b : List ℕ) (at : ℕ) → 2 + 4 * fetched 2 (take (length b - at) (drop at b)) 0 ≡ 2 + 4 * fetched 2 (drop at b) 0
 size-part b at = ap (λ (x : List ℕ). 2 + 4 * fetched 2 x 0) (part-from b at)
 
-pub same-parts : (n : ℕ) (old new : List ℕ) (i j : ℕ) → Same n (drop i old) (drop j new) → Same n (take (length old - i) (drop i old)) (take (length new - j) (drop j new))
-same-parts n old new i j s k h =
-    ap (λ (x : List ℕ). getD x k 0) (part-from old i) ∙ s k h ∙ ap (λ (x : List ℕ). getD x k 0) (sym (part-from new j))
+pub length-part : (b : List ℕ) (at : ℕ) → length (take (length b - at) (drop at b)) ≡ length b - at
+length-part b at = ap (λ (x : List ℕ). length x) (part-from b at) ∙ length-drop at b
+
+pub run-part : (n : ℕ) (b : List ℕ) (at : ℕ) → runSize azimuthPart n (take (length b - at) (drop at b)) ≡ runSize azimuthPart n (drop at b)
+run-part n b at = ap (λ (x : List ℕ). runSize azimuthPart n x) (part-from b at)
 
 pub parts-same : (n : ℕ) (old new : List ℕ) (i j : ℕ) → Same n (take (length old - i) (drop i old)) (take (length new - j) (drop j new)) → Same n (drop i old) (drop j new)
 parts-same n old new i j s k h =
@@ -282,3 +353,13 @@ pub parts-listed : (elevation azimuth : ℕ) (old new : List ℕ) (i j : ℕ) (s
 parts-listed elevation azimuth old new i j s =
     ap (λ (x : List ℕ). onto (zonesDifferences elevation azimuth x (take (length new - j) (drop j new))) s) (part-from old i)
     ∙ ap (λ (x : List ℕ). onto (zonesDifferences elevation azimuth (drop i old) x) s) (part-from new j)
+
+-- ---- an azimuth more of a run, by a fetch in the part that is lent
+pub run-on : (b : List ℕ) (count at size same : ℕ) → same ≤ length b → at ≤ same → at ≡ runSize azimuthPart count b
+    → size ≡ 2 + 4 * fetched 2 (take (length b - at) (drop at b)) 0 → size ≤ same - at → at + size ≡ runSize azimuthPart (count + 1) b
+run-on b count at size same there inside is sized fits =
+    let l : 0 + 2 ≤ length (drop at b) = rw length-drop (omega arith) in
+    let v : fetched 2 (drop at b) 0 ≡ value (drop at b) = fetched-value (drop at b) 0 l in
+    let f = size-part b at in
+    let e : azimuthPart .size (drop at b) ≡ azimuthPart .size (drop (runSize azimuthPart count b) b) = ap (λ (k : ℕ). azimuthPart .size (drop k b)) is in
+    omega (arith, run-next azimuthPart count b, is, sized, f, v, e)

@@ -78,7 +78,7 @@ module _ (old new : List ℕ) (checkedOld : AllHold (azimuthPart .checks old)) (
           (same-after 2 (4 * value old) old new (same-fewer (2 + 4 * value old) same old new (omega (arith, count-old)) s))
           ∙ ap (λ (n : ℕ). zonesIn n (after new)) counts-same
 
-      size-same : size ≡ 2 + 4 * fetched 2 new 0
+      pub size-same : size ≡ 2 + 4 * fetched 2 new 0
       size-same = omega (arith, count-old, count-new, counts-same)
 
     pub same-beyond : (size′ rest : ℕ) → size′ ≡ 2 + 4 * fetched 2 new 0 → rest ≡ same - size → Same rest (drop size old) (drop size′ new)

@@ -6,7 +6,7 @@ use mathlib.Core.Path.{_≡_, refl, sym, ap, _∙_}
 use mathlib.Core.Bool.{Bool, true, false}
 use mathlib.Core.List.{List, [], _++_}
 use borrow.Author.Tests.{eq-eqb}
-use Rattle.wire.specs.Checks.{pick, both}
+use Rattle.wire.specs.Checks.{pick}
 use Rattle.differences.specs.Differences.{Difference, stay, stretch, stretches}
 
 -- codes that are the same list nothing

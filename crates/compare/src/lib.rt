@@ -4,7 +4,7 @@ use filter::LAST_KILOMETRE;
 use filter::MapAnswer;
 use wire::refusal;
 ghost use mathlib.Core.Path.{_≡_};
-ghost use Prim.Native.Nat.{_+_, _*_, _-_, _/_, _%_, _≤_, _<_};
+ghost use Prim.Native.Nat.{_+_, _*_, _/_, _%_, _≤_, _<_};
 ghost use mathlib.Core.Bool.{true};
 ghost use mathlib.Core.List.{[], _∷_};
 ghost use lib.Dec.{ltb, leb, eqb};
@@ -12,7 +12,7 @@ ghost use lib.ListN.{length};
 ghost use Rattle.wire.specs.Answers.{Promise};
 ghost use Rattle.wire.specs.Numbers.{num, fetched};
 ghost use Rattle.wire.specs.Checks.{pick, AllHold};
-ghost use Rattle.map.specs.Reading.{azimuthPart};
+ghost use Rattle.map.specs.Reading.{runSize, azimuthPart};
 ghost use Rattle.differences.specs.Comparing.{comparisonOf};
 ghost use Rattle.compare.specs.Answers.{tellCompare};
 ghost use Rattle.compare.specs.Sheets.{mostCounted, sheet, onto, oneIf, zonesDifferences, elevationsDifferences, listOf, Same, Has, Counts, Checked};
@@ -30,6 +30,12 @@ const HALFWORD: u32 = 65536;
 pub enum CompareAnswer {
     Compared(u16, u16, u32),
     Refused(u8),
+}
+
+// Azimuths one after the other, and the bytes that they take.
+struct Run {
+    azimuths: usize,
+    bytes: usize,
 }
 
 fn least(a: u16, b: u16) -> u16
@@ -184,7 +190,7 @@ fn shorter(old: &[u8], new: &[u8]) -> usize
 
 // How many bytes two parts begin with that are the same, in whole fours.
 fn same_bytes(old: &[u8], new: &[u8]) -> usize
-    ensures { λ r. ⌜ Same r (now (old .entry)) (now (new .entry)) ⌝ }
+    ensures { λ r. ⌜ (r ≤ length (now (old .entry))) × (r ≤ length (now (new .entry))) × Same r (now (old .entry)) (now (new .entry)) ⌝ }
 {
     let end = shorter(old, new);
     let mut at: usize = 0;
@@ -197,79 +203,54 @@ fn same_bytes(old: &[u8], new: &[u8]) -> usize
     at
 }
 
-// As many bytes as are known to be the same, if an azimuth of that size lies wholly in them, else as many as there are.
-fn known(same: usize, size: usize, old: &[u8], new: &[u8]) -> usize
-    requires { ⌜ Same same (now old) (now new) ⌝ }
-    ensures { λ r. ⌜ Same r (now (old .entry)) (now (new .entry)) ⌝ }
+// The azimuths that so many bytes of a part hold wholly, or as many as are asked for, and the bytes that they take.
+fn pass(part: &[u8], same: usize, most: usize) -> Run
+    requires { ⌜ same ≤ length (now part) ⌝ }
+    ensures { λ r. ⌜ (r .azimuths ≤ most) × (r .bytes ≤ same) × (r .bytes ≡ runSize azimuthPart (r .azimuths) (now (part .entry))) ⌝ }
 {
-    if size <= same {
-        return same;
+    let mut at: usize = 0;
+    let mut count: usize = 0;
+    while count < most {
+        let size = size_of(&part[at..]);
+        if same - at < size {
+            return Run {
+                azimuths: count,
+                bytes: at,
+            };
+        }
+        at += size;
+        count += 1;
     }
-    same_bytes(old, new)
+    Run {
+        azimuths: count,
+        bytes: at,
+    }
 }
 
-// What is left of the bytes that are the same after an azimuth of that size.
-fn beyond(same: usize, size: usize) -> usize
-    ensures { λ r. ⌜ r ≡ same - size ⌝ }
-{
-    if same < size {
-        return 0;
-    }
-    same - size
-}
-
-// The azimuth that a part of each body begins with, passed over if it lies wholly in the bytes that are the same.
-fn compare_unlike(
-    same: usize,
-    size: usize,
-    old: &[u8],
-    new: &[u8],
-    elevation: u16,
-    azimuth: u16,
-    out: &mut [u16],
-    count: usize,
-) -> usize
-    requires { ⌜ AllHold (azimuthPart .checks (now old)) × AllHold (azimuthPart .checks (now new)) × (count + 512 ≤ mostCounted) × Same same (now old) (now new) × (size ≡ 2 + 4 * fetched 2 (now old) 0) ⌝ }
-    ensures { λ r. ⌜ sheet r (now (out .exit)) ≡ onto (zonesDifferences elevation azimuth (now (old .entry)) (now (new .entry))) (sheet count (now (out .entry))) ⌝ }
-{
-    if size <= same {
-        return count;
-    }
-    compare_zones(old, new, elevation, azimuth, out, count)
-}
-
-// So many elevation segments of both bodies, azimuth by azimuth. Most are the same: the bytes of both are compared in one loop as far as that goes, and the
-// azimuths in them passed over by their sizes.
+// So many elevation segments of both bodies, their azimuths counted through. Most are the same: the bytes of both are compared in one loop as far as that goes,
+// and the azimuths in them passed over by their sizes.
 fn compare_azimuths(old: &[u8], new: &[u8], elevations: u16, out: &mut [u16]) -> usize
     requires { ⌜ Has elevations (now old) × Has elevations (now new) ⌝ }
     ensures { λ r. ⌜ sheet r (now (out .exit)) ≡ onto (elevationsDifferences elevations (now (old .entry)) (now (new .entry))) (sheet 0 (now (out .entry))) ⌝ }
 {
-    let mut elevation: u16 = 1;
-    let mut azimuth: u16 = 0;
+    let total = AZIMUTHS * elevations as usize;
+    let mut index: usize = 0;
     let mut i: usize = 6;
     let mut j: usize = 6;
-    let mut same: usize = 0;
     let mut count: usize = 0;
-    while elevation <= elevations {
-        let size = size_of(&old[i..]);
-        same = known(same, size, &old[i..], &new[j..]);
-        count = compare_unlike(
-            same,
-            size,
-            &old[i..],
-            &new[j..],
-            elevation,
-            azimuth,
-            out,
-            count,
-        );
-        i += size;
-        j += size_of(&new[j..]);
-        same = beyond(same, size);
-        azimuth += 1;
-        if azimuth as usize == AZIMUTHS {
-            azimuth = 0;
-            elevation += 1;
+    while index < total {
+        let same = same_bytes(&old[i..], &new[j..]);
+        let run = pass(&old[i..], same, total - index);
+        i += run.bytes;
+        j += run.bytes;
+        index += run.azimuths;
+        if index < total {
+            let elevation = (1 + index / AZIMUTHS) as u16;
+            let azimuth = (index % AZIMUTHS) as u16;
+            count = compare_zones(&old[i..], &new[j..], elevation, azimuth, out, count);
+            i += size_of(&old[i..]);
+            j += size_of(&new[j..]);
+            index += 1;
         }
     }
     count

@@ -31,7 +31,9 @@ four-at-requires-2 : tie.Need-four-at-requires-2 Inv-loop μ-loop
 four-at-requires-2 c κs = search needs
 
 returns : tie.Need-returns Inv-loop μ-loop
-returns c = c .before .before .before .before .loop .inv .3
+returns c =
+    let l = c .before .before .before .before .loop in
+    (omega (arith, l .inv .0, l .inv .2), omega (arith, l .inv .1, l .inv .2), l .inv .3)
 
 add-at : tie.Need-add-at Inv-loop μ-loop
 add-at c = search needs
@@ -53,7 +55,9 @@ loop-again c =
     )
 
 returns-2 : tie.Need-returns-2 Inv-loop μ-loop
-returns-2 c = c .before .loop .inv .3
+returns-2 c =
+    let l = c .before .loop in
+    (omega (arith, l .inv .0, l .inv .2), omega (arith, l .inv .1, l .inv .2), l .inv .3)
 
 pub same-bytes-spec : {M : Type 1} → statement M
 same-bytes-spec =
