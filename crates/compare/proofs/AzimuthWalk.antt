@@ -22,7 +22,7 @@ use Rattle.map.proofs.Places.{asked-there, asked-holds, asked-zones}
 use Rattle.filter.proofs.PartLaws.{fetched-value}
 use Rattle.differences.specs.Differences.{Difference, stretches, azimuthDifferences, inOrder}
 use Rattle.differences.proofs.Most.{runs-few}
-use Rattle.compare.specs.Sheets.{Sheet, sheet, onto, zonesDifferences, elevationsDifferences, Same, Has}
+use Rattle.compare.specs.Sheets.{Sheet, mostCounted, sheet, onto, zonesDifferences, elevationsDifferences, Same, Has}
 use Rattle.compare.proofs.SheetLaws.{onto-append, onto-count}
 use Rattle.compare.proofs.TurnLaws.{none-listed}
 use Rattle.compare.proofs.SameBytes.{azimuth-same, size-same, same-beyond}
@@ -183,7 +183,7 @@ module _ (old new : List ℕ) where
       pub inside-new : j + (2 + 4 * fetched 2 (drop j new) 0) ≤ length new
       inside-new = next-inside new elevations hasNew elevation azimuth j (g .from) more (g .around) (g .atNew)
 
-      pub going-few : count + 512 ≤ 1000000
+      pub going-few : count + 512 ≤ mostCounted
       going-few =
           let m = map-facts old (hasOld .checked) .most in
           omega (arith, g .few, g .around, g .from, hasOld .enough, m)

@@ -10,19 +10,19 @@ use Rattle.wire.specs.Numbers.{Octets}
 use Rattle.wire.specs.Checks.{pick, AllHold}
 use Rattle.wire.specs.Answers.{refused, given, refusal}
 use Rattle.wire.specs.Writing.{filled}
-use Rattle.wire.proofs.CheckLaws.{none-broken, all-hold, decide-none, decide-some}
+use Rattle.wire.proofs.CheckLaws.{all-hold, decide-some}
 use Rattle.wire.proofs.AnswerLaws.{rule-given, rule-refused}
 use Rattle.map.specs.Reading.{elevationPart, segmentsIn, mapChecks, mapIn, mapOf, Summary, summary, summaryOf}
 use Rattle.map.proofs.Accepted.{accepted-range}
 use Rattle.map.proofs.Runs.{run-count}
 use Rattle.differences.specs.Differences.{Difference, differences, presentInBoth}
-use Rattle.differences.specs.Comparing.{Comparison, comparison, halfwords, comparisonOf}
+use Rattle.differences.specs.Comparing.{Comparison, comparison, halfwords, mostHalfwords, comparisonOf}
+use Rattle.differences.proofs.Maps.{lesser-both}
 use Rattle.differences.proofs.Most.{halfwords-length}
 use Rattle.differences.proofs.Theorems.{room-for-all}
-use Rattle.differences.proofs.InTurn.{in-order}
+use Rattle.differences.proofs.InTurn.{map-given, in-order}
 use Rattle.compare.specs.Sheets.{Sheet, sheet, onto, elevationsDifferences, listOf, Has, Counts, Checked}
 use Rattle.compare.proofs.SheetLaws.{lay-room, onto-count}
-use Rattle.compare.proofs.TurnLaws.{least-old, least-new}
 
 -- ---- differences that all have room stand one after the other
 onto-behind : (ds : List Difference) (count : ℕ) (before rest : List ℕ) → length before ≡ 6 * count → 6 * length ds ≤ length rest
@@ -65,15 +65,15 @@ present-is older newer old new e f =
     ap (λ (k : ℕ). pick (ltb k newer) k newer) p ∙ ap (λ (k : ℕ). pick (ltb (length (mapIn old .elevations)) k) (length (mapIn old .elevations)) k) q
 
 module _ (elevations : ℕ) (old new : List ℕ) (c : Checked elevations old new) where
+  -- no more of them than either has
+  fewer : (elevations ≤ length (mapIn old .elevations)) × (elevations ≤ length (mapIn new .elevations))
+  fewer = lesser-both (length (mapIn old .elevations)) (length (mapIn new .elevations)) elevations (omega (arith, c .present))
+
   pub has-old : Has elevations old
-  has-old =
-      let l = least-old (length (mapIn old .elevations)) (length (mapIn new .elevations)) in
-      record { checked = c .inOld; enough = omega (arith, l, c .present, segments-are old) }
+  has-old = record { checked = c .inOld; enough = omega (arith, fewer .0, segments-are old) }
 
   pub has-new : Has elevations new
-  has-new =
-      let l = least-new (length (mapIn old .elevations)) (length (mapIn new .elevations)) in
-      record { checked = c .inNew; enough = omega (arith, l, c .present, segments-are new) }
+  has-new = record { checked = c .inNew; enough = omega (arith, fewer .1, segments-are new) }
 
   pub all-are : elevationsDifferences elevations old new ≡ differences (mapIn old) (mapIn new)
   all-are = ap (λ (k : ℕ). elevationsDifferences k old new) (c .present)
@@ -93,15 +93,12 @@ module _ (elevations : ℕ) (old new : List ℕ) (c : Checked elevations old new
         ∙ ap (λ (ds : List Difference). onto ds (sheet 0 before) .out) all-are
         ∙ onto-filled (differences (mapIn old) (mapIn new)) before (omega (arith, h, halfwords-length (differences (mapIn old) (mapIn new))))
 
-  pub room-most : Octets old → Octets new → length (listOf old new) ≤ 421200
+  pub room-most : Octets old → Octets new → length (listOf old new) ≤ mostHalfwords
   room-most o p = room-for-all (mapIn old) (mapIn new) (accepted-range old o (c .inOld)) (accepted-range new p (c .inNew))
 
 -- ---- the outcome, by what `check_map` answers of either body
 map-refused : (b : List ℕ) (n : ℕ) → refused n ≡ summaryOf b → mapOf b ≡ refused n
 map-refused b n e = decide-some (mapChecks b) refused (given (mapIn b)) n (rule-refused (mapChecks b) (summary (mapIn b)) n (sym e))
-
-map-given : (b : List ℕ) → AllHold (mapChecks b) → mapOf b ≡ given (mapIn b)
-map-given b h = decide-none (mapChecks b) refused (given (mapIn b)) (none-broken (mapChecks b) h)
 
 pub map-counts : (b : List ℕ) (date minutes elevations : ℕ) → given (record { date = date; minutes = minutes; elevations = elevations }) ≡ summaryOf b
     → Counts elevations b

@@ -6,13 +6,15 @@ use mathlib.Core.Bool.{Bool, true, false, not, _&&_, _||_}
 use mathlib.Core.List.{List, [], _∷_}
 use lib.Dec.{ltb, eqb}
 use lib.ListN.{length}
-use borrow.Author.Tests.{ltb-true, ltb-false, eqb-true, eqb-false, not-true}
+use borrow.Author.Tests.{eqb-true, eqb-false, not-true}
 use Rattle.wire.specs.Checks.{pick, both, AllHold}
 use Rattle.wire.proofs.CheckLaws.{never, both-true}
 use Rattle.map.specs.Map.{Zone, codeFrom}
 use Rattle.map.specs.Reading.{azimuthPart}
 use Rattle.filter.proofs.QueryLaws.{zoneAt}
 use Rattle.differences.specs.Differences.{Difference, stay, stretch, stretches}
+use Rattle.differences.proofs.Maps.{lesser-both, both-lesser}
+use Rattle.differences.proofs.Most.{stretch-few}
 use Rattle.compare.specs.Sheets.{Sheet, sheet, onto, oneIf, zonesDifferences}
 use Rattle.compare.proofs.SheetLaws.{onto-append, onto-count}
 use Rattle.compare.proofs.StretchLaws.{same-stay, part-stays, part-ends, from-first, stretches-last, stretches-none}
@@ -41,31 +43,6 @@ none-listed old new elevation azimuth count out e =
     (sym
     (ap (λ (zs : List Zone). stretches elevation azimuth (codeFrom 0 zs) (codes new) 0 1 511) e ∙ stretches-none elevation azimuth (codes new) 0 1 511))
 
-module _ (p q : ℕ) where
-  abbrev lesser : ℕ
-  lesser = pick (ltb p q) p q
-
-  pub least-old : lesser ≤ p
-  least-old = go (ltb p q) refl
-    where
-      go : (t : Bool) → ltb p q ≡ t → pick t p q ≤ p
-      go true e = omega arith
-      go false e = ltb-false p q e
-
-  pub least-new : lesser ≤ q
-  least-new = go (ltb p q) refl
-    where
-      go : (t : Bool) → ltb p q ≡ t → pick t p q ≤ q
-      go true e = let h = ltb-true p q e in omega arith
-      go false e = omega arith
-
-  pub least-above : (n : ℕ) → n ≤ p → n ≤ q → n ≤ lesser
-  least-above n h k = go (ltb p q)
-    where
-      go : (t : Bool) → n ≤ pick t p q
-      go true = h
-      go false = k
-
 stretch-coded : (elevation azimuth first next was is : ℕ) (old new : ℕ → ℕ) → was ≡ old first → is ≡ new first
     → stretch elevation azimuth (λ k. was) (λ k. is) first next ≡ stretch elevation azimuth old new first next
 stretch-coded elevation azimuth first next was is old new e f =
@@ -83,16 +60,6 @@ stretch-if elevation azimuth first next was is = go (eqb was is)
     go : (t : Bool) → pick (not t) (d ∷ []) [] ≡ pick t [] (d ∷ [])
     go true = refl
     go false = refl
-
-stretch-one : (elevation azimuth first next was is : ℕ) → length (stretch elevation azimuth (λ k. was) (λ k. is) first next) ≤ 1
-stretch-one elevation azimuth first next was is = go (eqb was is)
-  where
-    d : Difference
-    d = record { elevation = elevation; azimuth = azimuth; first = first; last = next - 1; old = was; new = is }
-
-    go : (t : Bool) → length (pick t [] (d ∷ [])) ≤ 1
-    go true = omega arith
-    go false = omega arith
 
 -- one of two codes changes unless both stay
 one-changes : (s t : Bool) → not s || not t ≡ not (both s t)
@@ -164,7 +131,7 @@ module _ (old new : List ℕ) (checkedOld : AllHold (azimuthPart .checks old)) (
         turn-few listed′ out′ s e =
             let c : listed′ ≡ listed + length (stretch elevation azimuth (λ k. was) (λ k. is) first next)
             = ap (λ (t : Sheet). t .count) e ∙ onto-count (stretch elevation azimuth (λ k. was) (λ k. is) first next) (sheet listed out) in
-            omega (arith, c, begun-before s, w .few, stretch-one elevation azimuth first next was is)
+            omega (arith, c, begun-before s, w .few, stretch-few elevation azimuth (λ k. was) (λ k. is) first next)
 
         -- the end of the zone that ends first, and what stands after it
         module _ (p q end i′ j′ : ℕ) (pIs : p ≡ zoneAt old i .end) (qIs : q ≡ zoneAt new j .end) (endIs : end ≡ pick (ltb p q) p q)
@@ -174,14 +141,14 @@ module _ (old new : List ℕ) (checkedOld : AllHold (azimuthPart .checks old)) (
             end-low =
                 let l = facing-low old checkedOld i next (w .atOld) near in
                 let m = facing-low new checkedNew j next (w .atNew) near in
-                let n = least-above p q next (omega (arith, pIs, l)) (omega (arith, qIs, m)) in
+                let n = both-lesser p q next (omega (arith, pIs, l)) (omega (arith, qIs, m)) in
                 omega (arith, endIs, n)
 
             end-old : end ≤ zoneAt old i .end
-            end-old = omega (arith, pIs, endIs, least-old p q)
+            end-old = omega (arith, pIs, endIs, lesser-both p q (pick (ltb p q) p q) (omega arith) .0)
 
             end-new : end ≤ zoneAt new j .end
-            end-new = omega (arith, qIs, endIs, least-new p q)
+            end-new = omega (arith, qIs, endIs, lesser-both p q (pick (ltb p q) p q) (omega arith) .1)
 
             end-high : end ≤ 511
             end-high = let h = facing-high old checkedOld i next (w .atOld) near in omega (arith, end-old, h)

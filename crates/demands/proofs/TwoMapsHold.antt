@@ -2,23 +2,21 @@
 use Prim.Native.Nat.{ℕ, _*_, _≤_, _<_}
 use native.Mathlib.Omega.{arith}
 use mathlib.Core.Path.{_≡_, refl, sym, ap, subst, _∙_}
-use mathlib.Core.Bool.{Bool, true, false}
 use mathlib.Core.List.{List, _++_, map}
-use lib.Dec.{ltb}
 use lib.ListN.{length, length-map}
-use borrow.Author.Tests.{ltb-true, ltb-false}
+use borrow.Author.Tests.{ltb-false}
 use Rattle.wire.specs.Numbers.{Octets}
-use Rattle.wire.specs.Checks.{pick, AllHold}
-use Rattle.wire.specs.Answers.{Answer, refused, given, Outcome, refusal, outcome}
+use Rattle.wire.specs.Answers.{Answer, refused, given, Outcome}
 use Rattle.wire.specs.Writing.{filled}
-use Rattle.wire.proofs.CheckLaws.{decide-none, none-broken, all-hold-append}
+use Rattle.wire.proofs.CheckLaws.{all-hold-append}
 use Rattle.wire.proofs.AnswerLaws.{kept}
 use Rattle.map.specs.Map.{Zone, FilterMap}
 use Rattle.map.specs.Reading.{mapChecks, mapIn, mapOf}
 use Rattle.map.proofs.Theorems.{accepted-exactly}
 use Rattle.differences.specs.Differences.{Difference, differences, swapped as swappedRun}
-use Rattle.differences.specs.Comparing.{Comparison, comparison, halfwords, mostHalfwords, roomChecks, comparisonOf}
+use Rattle.differences.specs.Comparing.{Comparison, halfwords, mostHalfwords, roomChecks, comparisonOf}
 use Rattle.differences.proofs.Most.{halfwords-length}
+use Rattle.differences.proofs.InTurn.{map-given, answered, both-good}
 use Rattle.differences.proofs.Theorems.{compared-exactly, swapped, room-for-all, refused-in-order, itself-answered}
 use Rattle.compare.specs.declared.CompareAnswer.{CompareAnswer}
 use Rattle.compare.specs.declared.CompareAnswer.the-variants.{Compared as Told, Refused}
@@ -81,9 +79,6 @@ turned old new out f =
     }
 
 -- ---- what is accepted
-stands : (b : List ℕ) → AllHold (mapChecks b) → mapOf b ≡ given (mapIn b)
-stands b h = decide-none (mapChecks b) refused (given (mapIn b)) (none-broken (mapChecks b) h)
-
 fits : (old new out : List ℕ) (c : Comparison) → comparisonOf old new out .answer ≡ given c → Fits old new out
 fits old new out c e =
     let m = mapIn old in
@@ -95,7 +90,7 @@ fits old new out c e =
       m = m;
       n = n;
       ds = differences m n;
-      good = record { inOld = stands old (maps .0); inNew = stands new (maps .1); compared = compared-exactly m n (differences m n) .0 refl };
+      good = record { inOld = map-given old (maps .0); inNew = map-given new (maps .1); compared = compared-exactly m n (differences m n) .0 refl };
       room = omega (arith, ltb-false (length out) (length list) (all .1 .0), halfwords-length (differences m n));
     }
 
@@ -118,27 +113,11 @@ most old new m n ds o p g =
 abbrev undatedMap : List (List (List Zone)) → FilterMap
 undatedMap elevations = record { date = 0; minutes = 0; elevations = elevations }
 
--- what comes of two good bodies
-abbrev answered : List ℕ → FilterMap → FilterMap → Outcome Comparison
-answered out m n =
-    outcome (roomChecks (halfwords (differences m n)) out) out (comparison m n) (filled (halfwords (differences m n)) out)
-
-by-maps : (old new out : List ℕ) (m n : FilterMap) → mapOf old ≡ given m → mapOf new ≡ given n → comparisonOf old new out ≡ answered out m n
-by-maps old new out m n e f = go (ltb (length out) (length list)) refl
-  where
-    list : List ℕ
-    list = halfwords (differences m n)
-
-    go : (t : Bool) → ltb (length out) (length list) ≡ t
-        → comparisonOf old new out ≡ pick t (refusal out 13) (record { answer = given (comparison m n); output = filled list out })
-    go true h = refused-in-order old new out .tooLittle m n e f (ltb-true (length out) (length list) h)
-    go false h = refused-in-order old new out .enough m n e f (ltb-false (length out) (length list) h)
-
 undated : (old new old′ new′ out : List ℕ) → ButDate old old′ → ButDate new new′ → comparisonOf old new out ≡ comparisonOf old′ new′ out
 undated old new old′ new′ out f g =
-    by-maps old new out (f .m) (g .m) (f .stands) (g .stands)
+    both-good old new out (f .m) (g .m) (f .stands) (g .stands)
     ∙ (λ i. answered out (undatedMap (f .same i)) (undatedMap (g .same i)))
-    ∙ sym (by-maps old′ new′ out (f .m′) (g .m′) (f .stands′) (g .stands′))
+    ∙ sym (both-good old′ new′ out (f .m′) (g .m′) (f .stands′) (g .stands′))
 
 pub two-maps : TwoMaps
 two-maps = record {

@@ -6,10 +6,10 @@ use mathlib.Core.List.{List, _++_}
 use lib.Dec.{ltb}
 use lib.ListN.{length}
 use borrow.Author.Tests.{lt-ltb, le-ltb}
-use Rattle.wire.specs.Checks.{pick, decide}
+use Rattle.wire.specs.Checks.{pick, decide, AllHold}
 use Rattle.wire.specs.Answers.{refused, given, Outcome, refusal, outcome}
 use Rattle.wire.specs.Writing.{filled}
-use Rattle.wire.proofs.CheckLaws.{decide-none, decide-some, decide-append}
+use Rattle.wire.proofs.CheckLaws.{none-broken, decide-none, decide-some, decide-append}
 use Rattle.wire.proofs.AnswerLaws.{rule-given, rule-refused}
 use Rattle.map.specs.Map.{FilterMap}
 use Rattle.map.specs.Reading.{mapChecks, mapIn, mapOf}
@@ -17,43 +17,46 @@ use Rattle.differences.specs.Differences.{differences}
 use Rattle.differences.specs.Comparing.{Comparison, comparison, halfwords, roomChecks, comparisonOf}
 use Rattle.differences.specs.Statements.{RefusedInOrder}
 
-module _ (old new out : List ℕ) where
-  -- what comes of two maps
-  abbrev answered : FilterMap → FilterMap → Outcome Comparison
-  answered m n =
-      outcome (roomChecks (halfwords (differences m n)) out) out (comparison m n) (filled (halfwords (differences m n)) out)
+-- a body that no check refuses
+pub map-given : (b : List ℕ) → AllHold (mapChecks b) → mapOf b ≡ given (mapIn b)
+map-given b h = decide-none (mapChecks b) refused (given (mapIn b)) (none-broken (mapChecks b) h)
 
+-- what comes of two maps
+abbrev pub answered : List ℕ → FilterMap → FilterMap → Outcome Comparison
+answered out m n = outcome (roomChecks (halfwords (differences m n)) out) out (comparison m n) (filled (halfwords (differences m n)) out)
+
+module _ (old new out : List ℕ) where
   -- the first body's checks, then the second's, then the output's
-  in-turn : comparisonOf old new out ≡ decide (mapChecks old) (refusal out) (decide (mapChecks new) (refusal out) (answered (mapIn old) (mapIn new)))
+  in-turn : comparisonOf old new out ≡ decide (mapChecks old) (refusal out) (decide (mapChecks new) (refusal out) (answered out (mapIn old) (mapIn new)))
   in-turn =
       let ks = mapChecks old in
       let ls = mapChecks new in
       let list = halfwords (differences (mapIn old) (mapIn new)) in
       let ok : Outcome Comparison = record { answer = given (comparison (mapIn old) (mapIn new)); output = filled list out } in
-      decide-append (ks ++ ls) (roomChecks list out) (refusal out) ok ∙ decide-append ks ls (refusal out) (answered (mapIn old) (mapIn new))
+      decide-append (ks ++ ls) (roomChecks list out) (refusal out) ok ∙ decide-append ks ls (refusal out) (answered out (mapIn old) (mapIn new))
 
   old-bad : (number : ℕ) → mapOf old ≡ refused number → comparisonOf old new out ≡ refusal out number
   old-bad number e =
       in-turn
-      ∙ decide-some (mapChecks old) (refusal out) (decide (mapChecks new) (refusal out) (answered (mapIn old) (mapIn new))) number
+      ∙ decide-some (mapChecks old) (refusal out) (decide (mapChecks new) (refusal out) (answered out (mapIn old) (mapIn new))) number
       (rule-refused (mapChecks old) (mapIn old) number e)
 
   -- the first is accepted
-  old-good : (m : FilterMap) → mapOf old ≡ given m → comparisonOf old new out ≡ decide (mapChecks new) (refusal out) (answered m (mapIn new))
+  old-good : (m : FilterMap) → mapOf old ≡ given m → comparisonOf old new out ≡ decide (mapChecks new) (refusal out) (answered out m (mapIn new))
   old-good m e =
       let p = rule-given (mapChecks old) (mapIn old) m e in
       in-turn
-      ∙ decide-none (mapChecks old) (refusal out) (decide (mapChecks new) (refusal out) (answered (mapIn old) (mapIn new))) (p .0)
-      ∙ ap (λ (k : FilterMap). decide (mapChecks new) (refusal out) (answered k (mapIn new))) (p .1)
+      ∙ decide-none (mapChecks old) (refusal out) (decide (mapChecks new) (refusal out) (answered out (mapIn old) (mapIn new))) (p .0)
+      ∙ ap (λ (k : FilterMap). decide (mapChecks new) (refusal out) (answered out k (mapIn new))) (p .1)
 
   new-bad : (m : FilterMap) (number : ℕ) → mapOf old ≡ given m → mapOf new ≡ refused number → comparisonOf old new out ≡ refusal out number
   new-bad m number e f =
-      old-good m e ∙ decide-some (mapChecks new) (refusal out) (answered m (mapIn new)) number (rule-refused (mapChecks new) (mapIn new) number f)
+      old-good m e ∙ decide-some (mapChecks new) (refusal out) (answered out m (mapIn new)) number (rule-refused (mapChecks new) (mapIn new) number f)
 
-  both-good : (m n : FilterMap) → mapOf old ≡ given m → mapOf new ≡ given n → comparisonOf old new out ≡ answered m n
+  pub both-good : (m n : FilterMap) → mapOf old ≡ given m → mapOf new ≡ given n → comparisonOf old new out ≡ answered out m n
   both-good m n e f =
       let p = rule-given (mapChecks new) (mapIn new) n f in
-      old-good m e ∙ decide-none (mapChecks new) (refusal out) (answered m (mapIn new)) (p .0) ∙ ap (λ (k : FilterMap). answered m k) (p .1)
+      old-good m e ∙ decide-none (mapChecks new) (refusal out) (answered out m (mapIn new)) (p .0) ∙ ap (λ (k : FilterMap). answered out m k) (p .1)
 
   -- the number of a refusal for want of room, or the list
   by-room : (m n : FilterMap) (t : Bool) → mapOf old ≡ given m → mapOf new ≡ given n → ltb (length out) (length (halfwords (differences m n))) ≡ t

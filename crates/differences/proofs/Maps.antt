@@ -23,7 +23,7 @@ lesser-both a b k h = go (ltb a b) refl h
     go true e l = let u = ltb-true a b e in (l, omega arith)
     go false e l = let u = ltb-false a b e in (omega arith, l)
 
-both-lesser : (a b k : ℕ) → k ≤ a → k ≤ b → k ≤ pick (ltb a b) a b
+pub both-lesser : (a b k : ℕ) → k ≤ a → k ≤ b → k ≤ pick (ltb a b) a b
 both-lesser a b k p q = go (ltb a b)
   where
     go : (t : Bool) → k ≤ pick t a b

@@ -20,7 +20,7 @@ use Rattle.differences.proofs.Begins.{begins, begins-fall, begins-drop,
 
 -- ---- one azimuth
 module _ (elevation azimuth : ℕ) (old new : ℕ → ℕ) where
-  stretch-few : (first next : ℕ) → length (stretch elevation azimuth old new first next) ≤ 1
+  pub stretch-few : (first next : ℕ) → length (stretch elevation azimuth old new first next) ≤ 1
   stretch-few first next = go (eqb (old first) (new first))
     where
       go : (t : Bool) → length (pick t [] (runOf elevation azimuth old new first next ∷ [])) ≤ 1

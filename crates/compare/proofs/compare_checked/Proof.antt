@@ -7,7 +7,7 @@ use lib.ListN.{length}
 use borrow.Author.Tests.{leb-true, leb-false, not-true, not-false}
 use Rattle.wire.specs.Writing.{filled}
 use Rattle.wire.proofs.AnswerLaws.{kept}
-use Rattle.differences.specs.Comparing.{comparisonOf}
+use Rattle.differences.specs.Comparing.{mostHalfwords, comparisonOf}
 use Rattle.compare.specs.declared.CompareAnswer.the-variants.{Compared, Refused}
 use Rattle.compare.specs.Answers.{tellCompare}
 use Rattle.compare.specs.Sheets.{sheet, onto, elevationsDifferences, listOf, Checked}
@@ -56,7 +56,7 @@ checked c =
 
 most : (c : tie.After-slice-known3)
     → let s = c .before .before .before .before .before .before .before .before .before .before .before .before .before in
-    length (listOf (now (s .args .old)) (now (s .args .new))) ≤ 421200
+    length (listOf (now (s .args .old)) (now (s .args .new))) ≤ mostHalfwords
 most c =
     let s = c .before .before .before .before .before .before .before .before .before .before .before .before .before in
     room-most _ (now (s .args .old)) (now (s .args .new)) (checked (c .before .before .before .before))
