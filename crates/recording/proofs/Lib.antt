@@ -1,0 +1,2 @@
+-- The proofs of specs/Statements.antt and of specs/Cases.antt.
+pub mod CaseTable
