@@ -1,0 +1,65 @@
+-- What the inner functions answer.
+use Prim.Native.Nat.{ℕ, _+_, _*_, _≤_, _<_}
+use mathlib.Core.Path.{_≡_}
+use mathlib.Core.Bool.{Bool, true, false}
+use mathlib.Core.List.{List, [], _∷_, _++_, flatten}
+use lib.Dec.{leb}
+use lib.ListN.{length, take, drop}
+use Rattle.wire.specs.Numbers.{num}
+use Rattle.wire.specs.Checks.{both}
+use Rattle.wire.specs.Writing.{filled}
+use Rattle.frame.specs.Session.{dataKind}
+use Rattle.recording.specs.Walk.{stands, wholeLong, Run, run, stepsOf, framesOf, runsOf}
+use Rattle.recording.specs.Salvage.{numbers}
+use Rattle.salvage.specs.declared.Found.{Found}
+use Rattle.salvage.specs.declared.Totals.{Totals}
+
+-- none of the first so many places begins with a data frame's kind
+abbrev pub Unmarked : ℕ → List ℕ → Type 0
+Unmarked count part = (i : ℕ) → i < count → num 4 part i ≡ dataKind → ⊥
+
+-- from a place on to the one before another no frame that passes begins
+pub record NoneFrom (b : List ℕ) (from to : ℕ) : Type 0 where
+  pub forward : from ≤ to
+  pub within : to ≤ length b
+  pub none : (i : ℕ) → from ≤ i → i < to → stands (drop i b) ≡ false
+
+-- a frame that passes begins there and has so many bytes, or the buffer ends there
+pub data Ends (b : List ℕ) (r : Found) : Type 0 where
+  frame : stands (drop (r .place) b) ≡ true → r .long ≡ wholeLong (drop (r .place) b) → Ends b r
+  end : r .place ≡ length b → r .long ≡ 0 → Ends b r
+
+pub record FoundFrom (b : List ℕ) (from : ℕ) (r : Found) : Type 0 where
+  pub before : NoneFrom b from (r .place)
+  pub ends : Ends b r
+
+-- what stands in an output that held `out`, with `list` from a place on
+abbrev pub laid : List ℕ → ℕ → List ℕ → List ℕ
+laid out at list = take at out ++ (list ++ drop (length list) (drop at out))
+
+-- it stands there, if there was room for it
+abbrev pub Laid : List ℕ → ℕ → List ℕ → List ℕ → Type 0
+Laid out at list after = at + length list ≤ length out → after ≡ laid out at list
+
+pub record LaidRun (runs : List ℕ) (count first next r : ℕ) (after : List ℕ) : Type 0 where
+  pub counted : r ≡ count + length (run first next)
+  pub listed : Laid runs (2 * count) (numbers (run first next)) after
+
+-- what is kept and what is skipped of a buffer
+abbrev pub keptOf : List ℕ → List (List ℕ)
+keptOf b = framesOf (stepsOf b)
+
+abbrev pub skippedOf : List ℕ → List Run
+skippedOf b = runsOf 0 0 (stepsOf b)
+
+-- all of it is counted, and each output holds it if there was room
+pub record WalkedOver (b out runs : List ℕ) (r : Totals) (out′ runs′ : List ℕ) : Type 0 where
+  pub kept : r .kept ≡ length (keptOf b)
+  pub long : r .long ≡ length (flatten (keptOf b))
+  pub count : r .runs ≡ length (skippedOf b)
+  pub output : length (flatten (keptOf b)) ≤ length out → out′ ≡ filled (flatten (keptOf b)) out
+  pub listed : 2 * length (skippedOf b) ≤ length runs → runs′ ≡ filled (numbers (skippedOf b)) runs
+
+-- both outputs have room
+abbrev pub roomFor : List ℕ → List ℕ → List ℕ → Bool
+roomFor b out runs = both (leb (length (flatten (keptOf b))) (length out)) (leb (2 * length (skippedOf b)) (length runs))
