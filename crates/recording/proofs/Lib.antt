@@ -1,2 +1,3 @@
 -- The proofs of specs/Statements.antt and of specs/Cases.antt.
 pub mod CaseTable
+pub mod WalkLaws
