@@ -80,6 +80,9 @@ pub passes-whole : (frame rest : List ℕ) → Passes frame → whole (frame ++ 
 passes-whole frame rest p =
     take-at frame rest (wholeLong (frame ++ rest)) (p .exact ∙ ap (λ (n : ℕ). headSize + n) (sym (size-same frame rest (p .exact))))
 
+pub passes-least : (frame : List ℕ) → Passes frame → leastFrame ≤ length frame
+passes-least frame p = omega (arith, stands-long frame (holds-stands frame (p .checks)) .least, p .exact)
+
 -- ---- none stands: too few bytes, another kind, a body too short for a header or past the limit
 pub short-none : (rest : List ℕ) → length rest < leastFrame → stands rest ≡ false
 short-none rest h = stands-not rest (λ e. let s = stands-long rest e in omega (arith, s .inside, s .least))

@@ -1,0 +1,92 @@
+-- Runs lie apart, and they and the frames kept are all of a recording. Assumes nothing.
+use Prim.Native.Nat.{ℕ, suc, _+_, _-_, _*_, _≤_}
+use native.Mathlib.Omega.{arith}
+use mathlib.Core.Path.{_≡_, refl, _∙_}
+use mathlib.Core.Bool.{Bool, true, false}
+use mathlib.Core.List.{List, [], _∷_, _++_, flatten}
+use lib.Dec.{eqb}
+use lib.ListN.{length, length-append}
+use borrow.Author.Tests.{eqb-true, eqb-false}
+use Rattle.wire.specs.Checks.{pick}
+use Rattle.segments.specs.Whole.{Passes}
+use Rattle.recording.specs.Walk.{Step, stepsOf, framesOf, Run, run, runsOf}
+use Rattle.recording.specs.Statements.{leastFrame, longAll, Apart, InAll, RunsApart, MostRuns, MostKept}
+use Rattle.recording.proofs.WalkLaws.{passes-least, walk-by}
+
+-- a run, or none
+run-by : (P : List Run → Type 0) (first next : ℕ) → (first ≡ next → P []) → ((first ≡ next → ⊥) → P (record { place = first; long = next - first } ∷ []))
+    → P (run first next)
+run-by P first next none some = go (eqb first next) refl
+  where
+    go : (t : Bool) → eqb first next ≡ t → P (pick t [] (record { place = first; long = next - first } ∷ []))
+    go true e = none (eqb-true first next e)
+    go false e = some (eqb-false first next e)
+
+-- ---- apart
+apart-from : (rest : List ℕ) (from first next long : ℕ) → from ≤ first → first ≤ next → next + length rest ≡ long
+    → Apart from long (runsOf first next (stepsOf rest))
+unfolding runsOf
+apart-from =
+    walk-by (λ rest steps. (from first next long : ℕ) → from ≤ first → first ≤ next → next + length rest ≡ long → Apart from long (runsOf first next steps))
+    (λ from first next long low up e.
+    run-by (Apart from long) first next (λ q. tt) (λ ne. (low, omega (arith, ne), omega arith, tt)))
+    keeps
+    (λ byte rest steps none later from first next long low up e. later from first (suc next) long low (omega arith) (omega arith))
+  where
+    keeps : (frame rest : List ℕ) (steps : List Step) → Passes frame
+        → ((from first next long : ℕ) → from ≤ first → first ≤ next → next + length rest ≡ long → Apart from long (runsOf first next steps))
+        → (from first next long : ℕ) → from ≤ first → first ≤ next → next + length (frame ++ rest) ≡ long
+        → Apart from long (run first next ++ runsOf (next + length frame) (next + length frame) steps)
+    keeps frame rest steps p later from first next long low up e =
+        let after = next + length frame in
+        let l = length-append frame rest in
+        let least = passes-least frame p in
+        run-by (λ rs. Apart from long (rs ++ runsOf after after steps)) first next
+        (λ q. later from after after long (omega arith) (omega arith) (omega arith))
+        (λ ne. (
+          low,
+          omega (arith, ne),
+          omega arith,
+          later (first + (next - first) + leastFrame) after after long (omega arith) (omega arith) (omega arith),
+        ))
+
+pub apart-all : RunsApart
+apart-all b = apart-from b 0 0 0 (length b) (omega arith) (omega arith) (omega arith)
+
+-- ---- so few
+few-apart : (rs : List Run) (from long : ℕ) → Apart from long rs → from ≤ long + leastFrame → suc leastFrame * length rs + from ≤ long + leastFrame
+few-apart [] from long a h = omega arith
+few-apart (r ∷ rs) from long a h =
+    omega (arith, a .0, a .1, a .2, few-apart rs (r .place + r .long + leastFrame) long (a .3) (omega (arith, a .2)))
+
+pub runs-few : MostRuns
+runs-few b = omega (arith, few-apart (runsOf 0 0 (stepsOf b)) 0 (length b) (apart-all b) (omega arith))
+
+-- ---- bytes kept and bytes skipped
+run-long : (first next : ℕ) (rs : List Run) → first ≤ next → longAll (run first next ++ rs) ≡ next - first + longAll rs
+run-long first next rs h = run-by (λ l. longAll (l ++ rs) ≡ next - first + longAll rs) first next (λ e. omega arith) (λ ne. omega arith)
+
+runs-long : (rest : List ℕ) (first next : ℕ) → first ≤ next
+    → length (flatten (framesOf (stepsOf rest))) + longAll (runsOf first next (stepsOf rest)) ≡ length rest + (next - first)
+unfolding framesOf runsOf flatten
+runs-long =
+    walk-by
+    (λ rest steps. (first next : ℕ) → first ≤ next
+    → length (flatten (framesOf steps)) + longAll (runsOf first next steps) ≡ length rest + (next - first))
+    (λ first next h. run-by (λ rs. 0 + longAll rs ≡ 0 + (next - first)) first next (λ e. omega arith) (λ ne. omega arith))
+    (λ frame rest steps p later first next h.
+    let after = next + length frame in
+    omega (
+      arith,
+      length-append frame rest,
+      length-append frame (flatten (framesOf steps)),
+      run-long first next (runsOf after after steps) h,
+      later after after (omega arith),
+    ))
+    (λ byte rest steps none later first next h. omega (arith, later first (suc next) (omega arith)))
+
+pub long-all : InAll
+long-all b = runs-long b 0 0 (omega arith) ∙ omega arith
+
+pub kept-most : MostKept
+kept-most b = omega (arith, long-all b)
