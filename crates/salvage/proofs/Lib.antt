@@ -1,1 +1,3 @@
 -- The laws that the proofs of `salvage`'s functions cite.
+pub mod MarkLaws
+pub mod LayLaws

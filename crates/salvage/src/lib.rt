@@ -1,9 +1,10 @@
 // A damaged recording salvaged: the frames that pass are copied one after the other, and each run of bytes between them is listed.
 use frame::FrameAnswer;
+use message::HeaderAnswer;
 use wire::refusal;
 ghost use mathlib.Core.Path.{_≡_};
 ghost use mathlib.Core.Bool.{false};
-ghost use Prim.Native.Nat.{_+_, _*_, _≤_, _<_};
+ghost use Prim.Native.Nat.{_+_, _*_, _^_, _≤_, _<_};
 ghost use lib.Dec.{leb};
 ghost use lib.ListN.{length, drop};
 ghost use Rattle.wire.specs.Checks.{pick, both};
@@ -54,11 +55,10 @@ pub fn whole_at(buf: &[u8], place: usize) -> usize
             }
             let start = f.start;
             let next = f.next;
-            let message = &buf[start..next];
-            if message::check_header(message::stored(message), message.len()) != 0 {
-                return 0;
+            match message::read_header(&buf[start..next]) {
+                HeaderAnswer::Refused(_) => 0,
+                HeaderAnswer::Read(_) => next - place,
             }
-            next - place
         }
     }
 }
@@ -137,7 +137,7 @@ pub fn next_kept(buf: &[u8], place: usize) -> usize
 
 // The bytes from `first` to the one before `next`, listed after so many runs where there is room for it, and counted.
 fn list(runs: &mut [u64], count: usize, first: usize, next: usize) -> usize
-    requires { ⌜ (first ≤ next) × (count ≤ first) ⌝ }
+    requires { ⌜ (first ≤ next) × (2 * count ≤ first) × (next < 2 ^ 63) ⌝ }
     ensures { λ r. ⌜ LaidRun (now (runs .entry)) count first next r (now (runs .exit)) ⌝ }
 {
     if first == next {
@@ -154,7 +154,7 @@ fn list(runs: &mut [u64], count: usize, first: usize, next: usize) -> usize
 
 // A frame copied after so many bytes where there is room for it, and counted.
 fn put(frame: &[u8], out: &mut [u8], long: usize) -> usize
-    requires { ⌜ long + length (now frame) < 9223372036854775808 ⌝ }
+    requires { ⌜ long + length (now frame) < 2 ^ 63 ⌝ }
     ensures { λ r. ⌜ (r ≡ long + length (now (frame .entry))) × Laid (now (out .entry)) long (now (frame .entry)) (now (out .exit)) ⌝ }
 {
     let end = long + frame.len();
@@ -165,7 +165,7 @@ fn put(frame: &[u8], out: &mut [u8], long: usize) -> usize
     end
 }
 
-// The walk: run and frame in turn to the end of the buffer. What there is no room for is only counted.
+// The walk: run and frame in turn, and the run after the last frame. What there is no room for is only counted.
 fn walk(buf: &[u8], out: &mut [u8], runs: &mut [u64]) -> Totals
     ensures { λ r. ⌜ WalkedOver (now (buf .entry)) (now (out .entry)) (now (runs .entry)) r (now (out .exit)) (now (runs .exit)) ⌝ }
 {
@@ -173,15 +173,18 @@ fn walk(buf: &[u8], out: &mut [u8], runs: &mut [u64]) -> Totals
     let mut kept: usize = 0;
     let mut long: usize = 0;
     let mut count: usize = 0;
-    while at < buf.len() {
-        let found = find(buf, at);
+    let mut found = find(buf, at);
+    while found.long != 0 {
         let place = found.place;
         let next = place + found.long;
         count = list(runs, count, at, place);
         long = put(&buf[place..next], out, long);
-        kept += (place < next) as usize;
+        kept += 1;
         at = next;
+        found = find(buf, at);
     }
+    let end = found.place;
+    count = list(runs, count, at, end);
     Totals {
         kept,
         long,

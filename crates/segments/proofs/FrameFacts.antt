@@ -38,6 +38,7 @@ pub record FrameLies (s : List ℕ) (at : ℕ) (f : Frame) : Type 0 where
   pub passes : first (frameChecks (drop at s)) ≡ none
   pub kind : f .kind ≡ kindIn (drop at s)
   pub start : f .start ≡ at + headSize
+  pub next : f .next ≡ at + (headSize + sizeIn (drop at s) .0)
   pub order : f .start ≤ f .next
   pub within : f .next ≤ length s
   pub small : f .next ≤ f .start + sessionLimit .0
@@ -85,6 +86,7 @@ frame-lies s at f e =
       passes = p .0;
       kind = refl;
       start = refl;
+      next = refl;
       order = omega arith;
       within = omega arith;
       small = omega (arith, g .small);

@@ -1,59 +1,58 @@
 use borrow.Author.Needs.{needs}
+use Prim.Native.Nat.{_-_, _+_, _≤_}
+use denote.Ref.{now}
+use native.Mathlib.Omega.{arith}
+use mathlib.Core.Path.{_≡_, sym, _∙_}
+use lib.ListN.{length}
+use Rattle.salvage.specs.Walks.{Unmarked}
+use Rattle.salvage.proofs.MarkLaws.{four-fetched, unmarked-more}
 use Rattle.salvage.proofs.first_mark.Statement.{statement}
 use Rattle.salvage.proofs.first_mark.Tie as tie
-use Rattle.salvage.proofs.first_mark.Reads as reads
-use Rattle.salvage.proofs.first_mark.Lts as lts
-use Rattle.wire.proofs.fetch32.Reads as fetch32-reads
 
 abbrev Inv-loop : tie.InvT-loop
-Inv-loop part i₀ i = ?
+Inv-loop part i₀ i = (length part ≡ 35) × (i ≤ 32) × Unmarked i part
 
 abbrev μ-loop : tie.MeasureT-loop
-μ-loop part i₀ i = ?
+μ-loop part i₀ i = 32 - i
 
--- src/lib.rt:87:5
 loop-holds : tie.Need-loop-holds Inv-loop μ-loop
-loop-holds c = ?
+loop-holds c = (c .before .pre, omega arith, λ i h. absurd (omega arith))
 
--- src/lib.rt:88:35
 add-fetch32 : tie.Need-add-fetch32 Inv-loop μ-loop
-add-fetch32 c = ?
+add-fetch32 c = search needs
 
--- src/lib.rt:88:26
 sub-fetch32 : tie.Need-sub-fetch32 Inv-loop μ-loop
-sub-fetch32 c = ?
+sub-fetch32 c = search needs
 
--- src/lib.rt:88:26
 part-fetch32-start : tie.Need-part-fetch32-start Inv-loop μ-loop
-part-fetch32-start c = ?
+part-fetch32-start c = search needs
 
--- src/lib.rt:88:26
 part-fetch32-end : tie.Need-part-fetch32-end Inv-loop μ-loop
-part-fetch32-end c = ?
+part-fetch32-end c = search needs
 
--- src/lib.rt:88:12
 fetch32-requires : tie.Need-fetch32-requires Inv-loop μ-loop
-fetch32-requires c κs = ?
+fetch32-requires c κs = search needs
 
--- src/lib.rt:89:13
 returns : tie.Need-returns Inv-loop μ-loop
-returns c = ?
+returns c = let l = c .before .before .before .before .loop in (l .inv .1, l .inv .2)
 
--- src/lib.rt:91:9
 add-i : tie.Need-add-i Inv-loop μ-loop
-add-i c = ?
+add-i c = search needs
 
--- src/lib.rt:87:5
 loop-less : tie.Need-loop-less Inv-loop μ-loop
-loop-less c = ?
+loop-less c = search needs
 
--- src/lib.rt:87:5
 loop-again : tie.Need-loop-again Inv-loop μ-loop
-loop-again c = ?
+loop-again c =
+    let l = c .before .before .before .before .loop in
+    let p = now (c .before .before .before .before .before .before .args .part) in (
+      l .inv .0,
+      omega (arith, c .before .before .before .loop-test .taken),
+      unmarked-more p (l .i) (l .inv .2) (λ e. c .if1 .left (c .before .fetch32 .ensures ∙ four-fetched p (l .i) (l .i + 4 - l .i) (omega arith) (omega (arith, l .inv .0, c .before .before .before .loop-test .taken)) ∙ e)),
+    )
 
--- src/lib.rt:82:1
 returns-2 : tie.Need-returns-2 Inv-loop μ-loop
-returns-2 c = ?
+returns-2 c = let l = c .before .loop in (l .inv .1, l .inv .2)
 
 pub first-mark-spec : {M : Type 1} → statement M
 first-mark-spec =

@@ -1,64 +1,52 @@
 use borrow.Author.Needs.{needs}
+use denote.Ref.{now}
+use native.Mathlib.Omega.{arith}
+use lib.ListN.{length-set}
+use Rattle.salvage.proofs.LayLaws.{list-nothing, list-counted, list-laid}
 use Rattle.salvage.proofs.list.Statement.{statement}
 use Rattle.salvage.proofs.list.Tie as tie
-use Rattle.salvage.proofs.list.Reads as reads
-use Rattle.salvage.proofs.list.Lts as lts
 
--- src/lib.rt:144:9
 returns : tie.Need-returns
-returns c = ?
+returns c = let a = c .before .args in list-nothing (now (a .runs)) (a .count) (a .first) (a .next) (c .if1 .taken)
 
--- src/lib.rt:146:14
 mul-at : tie.Need-mul-at
-mul-at c = ?
+mul-at c = record { fits = omega (arith, c .before .pre .0, c .before .pre .1, c .before .pre .2) }
 
--- src/lib.rt:147:21
 add-if2 : tie.Need-add-if2
-add-if2 c = ?
+add-if2 c = record { fits = omega (arith, c .before .pre .0, c .before .pre .1, c .before .pre .2) }
 
--- src/lib.rt:148:16
 add-result : tie.Need-add-result
 add-result c = search needs
 
--- src/lib.rt:148:9
 returns-2 : tie.Need-returns-2
-returns-2 c = ?
+returns-2 c = let a = c .before .before .args in list-counted (now (a .runs)) (a .count) (a .first) (a .next) (c .before .if1 .left) (c .if2 .taken)
 
--- src/lib.rt:150:5
 mul-runs : tie.Need-mul-runs
 mul-runs c = search needs
 
--- src/lib.rt:150:5
 slice-write-runs : tie.Need-slice-write-runs
 slice-write-runs c = search needs
 
--- src/lib.rt:151:21
 sub-runs : tie.Need-sub-runs
 sub-runs c = search needs
 
--- src/lib.rt:151:10
 add-runs : tie.Need-add-runs
 add-runs c = search needs
 
--- src/lib.rt:151:5
 mul-runs-2 : tie.Need-mul-runs-2
 mul-runs-2 c = search needs
 
--- src/lib.rt:151:5
 slice-write-runs-2 : tie.Need-slice-write-runs-2
-slice-write-runs-2 c = ?
+slice-write-runs-2 c = simp length-set (omega (arith, c .if2 .left))
 
--- src/lib.rt:152:5
 add-result-2 : tie.Need-add-result-2
 add-result-2 c = search needs
 
--- src/lib.rt:139:1
 same-length : tie.Need-same-length
 same-length c = search needs
 
--- src/lib.rt:139:1
 returns-3 : tie.Need-returns-3
-returns-3 c = ?
+returns-3 c = let a = c .before .before .args in list-laid (now (a .runs)) (a .count) (a .first) (a .next) (c .before .if1 .left) (c .if2 .left)
 
 pub list-spec : {M : Type 1} → statement M
 list-spec =

@@ -1,41 +1,38 @@
 use borrow.Author.Needs.{needs}
+use Prim.Native.Nat.{_+_, _-_}
+use denote.Ref.{now}
+use lib.ListN.{length}
+use native.Mathlib.Omega.{arith}
+use mathlib.Core.Path.{refl}
+use Rattle.salvage.proofs.LayLaws.{put-laid}
 use Rattle.salvage.proofs.put.Statement.{statement}
 use Rattle.salvage.proofs.put.Tie as tie
-use Rattle.salvage.proofs.put.Reads as reads
-use Rattle.salvage.proofs.put.Lts as lts
-use Rattle.wire.proofs.copy.Reads as copy-reads
 
--- src/lib.rt:160:15
 add-end : tie.Need-add-end
 add-end c = search needs
 
--- src/lib.rt:162:9
 returns : tie.Need-returns
-returns c = ?
+returns c = (refl, λ room. absurd (omega (arith, c .if1 .taken)))
 
--- src/lib.rt:164:23
 sub-copy : tie.Need-sub-copy
 sub-copy c = search needs
 
--- src/lib.rt:164:23
 part-copy-start : tie.Need-part-copy-start
 part-copy-start c = search needs
 
--- src/lib.rt:164:23
 part-copy-end : tie.Need-part-copy-end
 part-copy-end c = search needs
 
--- src/lib.rt:164:5
 copy-requires : tie.Need-copy-requires
 copy-requires c κs = search needs
 
--- src/lib.rt:156:1
 same-length : tie.Need-same-length
 same-length c = search needs
 
--- src/lib.rt:156:1
 returns-2 : tie.Need-returns-2
-returns-2 c = ?
+returns-2 c =
+    let a = c .before .before .before .before .before .before .before .args in
+    (refl, λ room. put-laid (now (a .out)) (now (a .frame)) (a .long) (a .long + length (now (a .frame)) - a .long) _ (omega arith) room (c .before .before .copy .ensures))
 
 pub put-spec : {M : Type 1} → statement M
 put-spec =
