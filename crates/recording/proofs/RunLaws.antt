@@ -1,7 +1,7 @@
 -- Runs lie apart, and they and the frames kept are all of a recording. Assumes nothing.
-use Prim.Native.Nat.{ℕ, suc, _+_, _-_, _*_, _≤_}
+use Prim.Native.Nat.{ℕ, suc, _+_, _-_, _*_, _≤_, _<_}
 use native.Mathlib.Omega.{arith}
-use mathlib.Core.Path.{_≡_, refl, _∙_}
+use mathlib.Core.Path.{_≡_, refl, ap, _∙_}
 use mathlib.Core.Bool.{Bool, true, false}
 use mathlib.Core.List.{List, [], _∷_, _++_, flatten}
 use lib.Dec.{eqb}
@@ -21,6 +21,15 @@ run-by P first next none some = go (eqb first next) refl
     go : (t : Bool) → eqb first next ≡ t → P (pick t [] (record { place = first; long = next - first } ∷ []))
     go true e = none (eqb-true first next e)
     go false e = some (eqb-false first next e)
+
+pub run-none : (place : ℕ) → run place place ≡ []
+run-none place = run-by (λ rs. rs ≡ []) place place (λ e. refl) (λ ne. absurd (ne refl))
+
+pub run-one : (place long : ℕ) → 0 < long → run place (place + long) ≡ record { place = place; long = long } ∷ []
+run-one place long h =
+    let e : place + long - place ≡ long = omega arith in
+    run-by (λ rs. rs ≡ record { place = place; long = long } ∷ []) place (place + long) (λ q. absurd (omega arith))
+    (λ ne. ap (λ (n : ℕ). record { place = place; long = n } ∷ []) e)
 
 -- ---- apart
 apart-from : (rest : List ℕ) (from first next long : ℕ) → from ≤ first → first ≤ next → next + length rest ≡ long
