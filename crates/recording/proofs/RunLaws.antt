@@ -9,7 +9,7 @@ use lib.ListN.{length, length-append}
 use borrow.Author.Tests.{eqb-true, eqb-false}
 use Rattle.wire.specs.Checks.{pick}
 use Rattle.segments.specs.Whole.{Passes}
-use Rattle.recording.specs.Walk.{Step, stepsOf, framesOf, Run, run, runsOf}
+use Rattle.recording.specs.Walk.{Step, kept, stepsOf, framesOf, Run, run, runsOf}
 use Rattle.recording.specs.Statements.{leastFrame, longAll, Apart, InAll, RunsApart, MostRuns, MostKept}
 use Rattle.recording.proofs.WalkLaws.{passes-least, walk-by}
 
@@ -32,35 +32,34 @@ run-one place long h =
     (λ ne. ap (λ (n : ℕ). record { place = place; long = n } ∷ []) e)
 
 -- ---- apart
-apart-from : (rest : List ℕ) (from first next long : ℕ) → from ≤ first → first ≤ next → next + length rest ≡ long
-    → Apart from long (runsOf first next (stepsOf rest))
+abbrev LieApart : List ℕ → List Step → Type 0
+LieApart rest steps = (from first next long : ℕ) → from ≤ first → first ≤ next → next + length rest ≡ long → Apart from long (runsOf first next steps)
+
+apart-keeps : (frame rest : List ℕ) (steps : List Step) → Passes frame → LieApart rest steps → LieApart (frame ++ rest) (kept frame ∷ steps)
 unfolding runsOf
-apart-from =
-    walk-by (λ rest steps. (from first next long : ℕ) → from ≤ first → first ≤ next → next + length rest ≡ long → Apart from long (runsOf first next steps))
-    (λ from first next long low up e.
-    run-by (Apart from long) first next (λ q. tt) (λ ne. (low, omega (arith, ne), omega arith, tt)))
-    keeps
+apart-keeps frame rest steps p later from first next long low up e =
+    let after = next + length frame in
+    let l = length-append frame rest in
+    let least = passes-least frame p in
+    run-by (λ rs. Apart from long (rs ++ runsOf after after steps)) first next
+    (λ q. later from after after long (omega arith) (omega arith) (omega arith))
+    (λ ne. (
+      low,
+      omega (arith, ne),
+      omega arith,
+      later (first + (next - first) + leastFrame) after after long (omega arith) (omega arith) (omega arith),
+    ))
+
+apart-steps : (b : List ℕ) → LieApart b (stepsOf b)
+unfolding runsOf
+apart-steps =
+    walk-by LieApart
+    (λ from first next long low up e. run-by (Apart from long) first next (λ q. tt) (λ ne. (low, omega (arith, ne), omega arith, tt)))
+    apart-keeps
     (λ byte rest steps none later from first next long low up e. later from first (suc next) long low (omega arith) (omega arith))
-  where
-    keeps : (frame rest : List ℕ) (steps : List Step) → Passes frame
-        → ((from first next long : ℕ) → from ≤ first → first ≤ next → next + length rest ≡ long → Apart from long (runsOf first next steps))
-        → (from first next long : ℕ) → from ≤ first → first ≤ next → next + length (frame ++ rest) ≡ long
-        → Apart from long (run first next ++ runsOf (next + length frame) (next + length frame) steps)
-    keeps frame rest steps p later from first next long low up e =
-        let after = next + length frame in
-        let l = length-append frame rest in
-        let least = passes-least frame p in
-        run-by (λ rs. Apart from long (rs ++ runsOf after after steps)) first next
-        (λ q. later from after after long (omega arith) (omega arith) (omega arith))
-        (λ ne. (
-          low,
-          omega (arith, ne),
-          omega arith,
-          later (first + (next - first) + leastFrame) after after long (omega arith) (omega arith) (omega arith),
-        ))
 
 pub apart-all : RunsApart
-apart-all b = apart-from b 0 0 0 (length b) (omega arith) (omega arith) (omega arith)
+apart-all b = apart-steps b 0 0 0 (length b) (omega arith) (omega arith) (omega arith)
 
 -- ---- so few
 few-apart : (rs : List Run) (from long : ℕ) → Apart from long rs → from ≤ long + leastFrame → suc leastFrame * length rs + from ≤ long + leastFrame
@@ -75,15 +74,13 @@ runs-few b = omega (arith, few-apart (runsOf 0 0 (stepsOf b)) 0 (length b) (apar
 run-long : (first next : ℕ) (rs : List Run) → first ≤ next → longAll (run first next ++ rs) ≡ next - first + longAll rs
 run-long first next rs h = run-by (λ l. longAll (l ++ rs) ≡ next - first + longAll rs) first next (λ e. omega arith) (λ ne. omega arith)
 
-runs-long : (rest : List ℕ) (first next : ℕ) → first ≤ next
-    → length (flatten (framesOf (stepsOf rest))) + longAll (runsOf first next (stepsOf rest)) ≡ length rest + (next - first)
+abbrev AllBytes : List ℕ → List Step → Type 0
+AllBytes rest steps = (first next : ℕ) → first ≤ next
+    → length (flatten (framesOf steps)) + longAll (runsOf first next steps) ≡ length rest + (next - first)
+
+all-keeps : (frame rest : List ℕ) (steps : List Step) → Passes frame → AllBytes rest steps → AllBytes (frame ++ rest) (kept frame ∷ steps)
 unfolding framesOf runsOf flatten
-runs-long =
-    walk-by
-    (λ rest steps. (first next : ℕ) → first ≤ next
-    → length (flatten (framesOf steps)) + longAll (runsOf first next steps) ≡ length rest + (next - first))
-    (λ first next h. run-by (λ rs. 0 + longAll rs ≡ 0 + (next - first)) first next (λ e. omega arith) (λ ne. omega arith))
-    (λ frame rest steps p later first next h.
+all-keeps frame rest steps p later first next h =
     let after = next + length frame in
     omega (
       arith,
@@ -91,11 +88,16 @@ runs-long =
       length-append frame (flatten (framesOf steps)),
       run-long first next (runsOf after after steps) h,
       later after after (omega arith),
-    ))
+    )
+
+all-steps : (b : List ℕ) → AllBytes b (stepsOf b)
+unfolding framesOf runsOf flatten
+all-steps =
+    walk-by AllBytes (λ first next h. run-by (λ rs. 0 + longAll rs ≡ 0 + (next - first)) first next (λ e. omega arith) (λ ne. omega arith)) all-keeps
     (λ byte rest steps none later first next h. omega (arith, later first (suc next) (omega arith)))
 
 pub long-all : InAll
-long-all b = runs-long b 0 0 (omega arith) ∙ omega arith
+long-all b = all-steps b 0 0 (omega arith) ∙ omega arith
 
 pub kept-most : MostKept
 kept-most b = omega (arith, long-all b)
