@@ -32,6 +32,17 @@ module _ (rest : List ℕ) where
   pub some-whole : (n : ℕ) → first (ownChecks rest) ≡ none → n ≡ wholeLong rest → n ≡ pick (stands rest) (wholeLong rest) 0
   some-whole n p e = e ∙ sym (ap (λ (t : Bool). pick t (wholeLong rest) 0) (holds-stands rest (all-hold (ownChecks rest) p)))
 
+  -- and back
+  pub whole-none : pick (stands rest) (wholeLong rest) 0 ≡ 0 → stands rest ≡ false
+  whole-none e = stands-not rest (λ t. absurd (omega (arith, sym (ap (λ (u : Bool). pick u (wholeLong rest) 0) t) ∙ e)))
+
+  pub whole-some : (n : ℕ) → n ≡ pick (stands rest) (wholeLong rest) 0 → (n ≡ 0 → ⊥) → (stands rest ≡ true) × (n ≡ wholeLong rest)
+  whole-some n e ne = go (stands rest) refl
+    where
+      go : (t : Bool) → stands rest ≡ t → (stands rest ≡ true) × (n ≡ wholeLong rest)
+      go true q = (q, e ∙ ap (λ (u : Bool). pick u (wholeLong rest) 0) q)
+      go false q = absurd (ne (e ∙ ap (λ (u : Bool). pick u (wholeLong rest) 0) q))
+
 -- ---- a part's places
 -- the last two bytes of a data frame's kind
 kind-bytes : (part : List ℕ) (i : ℕ) → num 4 part i ≡ dataKind → (getD part (i + 2) 0 ≡ 0) × (getD part (i + 3) 0 ≡ 2)
