@@ -1,35 +1,38 @@
 -- Runs lie apart, and they and the frames kept are all of a recording. Assumes nothing.
 use Prim.Native.Nat.{ℕ, suc, _+_, _-_, _*_, _≤_, _<_}
 use native.Mathlib.Omega.{arith}
-use mathlib.Core.Path.{_≡_, refl, ap, _∙_}
+use mathlib.Core.Path.{_≡_, refl, sym, subst, _∙_}
 use mathlib.Core.Bool.{Bool, true, false}
 use mathlib.Core.List.{List, [], _∷_, _++_, flatten}
 use lib.Dec.{eqb}
 use lib.ListN.{length, length-append}
-use borrow.Author.Tests.{eqb-true, eqb-false}
-use Rattle.wire.specs.Checks.{pick}
+use borrow.Author.Tests.{eqb-true, eqb-false, eq-eqb, ne-eqb}
 use Rattle.segments.specs.Whole.{Passes}
 use Rattle.recording.specs.Walk.{Step, kept, stepsOf, framesOf, Run, run, runsOf}
 use Rattle.recording.specs.Statements.{leastFrame, longAll, Apart, InAll, RunsApart, MostRuns, MostKept}
 use Rattle.recording.proofs.WalkLaws.{passes-least, walk-by}
 
 -- a run, or none
-run-by : (P : List Run → Type 0) (first next : ℕ) → (first ≡ next → P []) → ((first ≡ next → ⊥) → P (record { place = first; long = next - first } ∷ []))
-    → P (run first next)
-run-by P first next none some = go (eqb first next) refl
-  where
-    go : (t : Bool) → eqb first next ≡ t → P (pick t [] (record { place = first; long = next - first } ∷ []))
-    go true e = none (eqb-true first next e)
-    go false e = some (eqb-false first next e)
-
 pub run-none : (place : ℕ) → run place place ≡ []
-run-none place = run-by (λ rs. rs ≡ []) place place (λ e. refl) (λ ne. absurd (ne refl))
+run-none place = simp (eq-eqb place place refl)
 
 pub run-one : (place long : ℕ) → 0 < long → run place (place + long) ≡ record { place = place; long = long } ∷ []
 run-one place long h =
     let e : place + long - place ≡ long = omega arith in
-    run-by (λ rs. rs ≡ record { place = place; long = long } ∷ []) place (place + long) (λ q. absurd (omega arith))
-    (λ ne. ap (λ (n : ℕ). record { place = place; long = n } ∷ []) e)
+    simp (ne-eqb place (place + long) (λ q. omega arith), e)
+
+run-by : (P : List Run → Type 0) (first next : ℕ) → first ≤ next → (first ≡ next → P [])
+    → (0 < next - first → P (record { place = first; long = next - first } ∷ []))
+    → P (run first next)
+run-by P first next h none some = go (eqb first next) refl
+  where
+    go : (t : Bool) → eqb first next ≡ t → P (run first next)
+    go true e = let q = eqb-true first next e in subst (λ (n : ℕ). P (run first n)) q (subst P (sym (run-none first)) (none q))
+    go false e =
+        let ne = eqb-false first next e in
+        let l : 0 < next - first = omega (arith, ne) in
+        let q : first + (next - first) ≡ next = omega arith in
+        subst (λ (n : ℕ). P (run first n)) q (subst P (sym (run-one first (next - first) l)) (some l))
 
 -- ---- apart
 abbrev LieApart : List ℕ → List Step → Type 0
@@ -41,11 +44,11 @@ apart-keeps frame rest steps p later from first next long low up e =
     let after = next + length frame in
     let l = length-append frame rest in
     let least = passes-least frame p in
-    run-by (λ rs. Apart from long (rs ++ runsOf after after steps)) first next
+    run-by (λ rs. Apart from long (rs ++ runsOf after after steps)) first next up
     (λ q. later from after after long (omega arith) (omega arith) (omega arith))
-    (λ ne. (
+    (λ some. (
       low,
-      omega (arith, ne),
+      some,
       omega arith,
       later (first + (next - first) + leastFrame) after after long (omega arith) (omega arith) (omega arith),
     ))
@@ -54,7 +57,7 @@ apart-steps : (b : List ℕ) → LieApart b (stepsOf b)
 unfolding runsOf
 apart-steps =
     walk-by LieApart
-    (λ from first next long low up e. run-by (Apart from long) first next (λ q. tt) (λ ne. (low, omega (arith, ne), omega arith, tt)))
+    (λ from first next long low up e. run-by (Apart from long) first next up (λ q. tt) (λ some. (low, some, omega arith, tt)))
     apart-keeps
     (λ byte rest steps none later from first next long low up e. later from first (suc next) long low (omega arith) (omega arith))
 
@@ -72,7 +75,7 @@ runs-few b = omega (arith, few-apart (runsOf 0 0 (stepsOf b)) 0 (length b) (apar
 
 -- ---- bytes kept and bytes skipped
 run-long : (first next : ℕ) (rs : List Run) → first ≤ next → longAll (run first next ++ rs) ≡ next - first + longAll rs
-run-long first next rs h = run-by (λ l. longAll (l ++ rs) ≡ next - first + longAll rs) first next (λ e. omega arith) (λ ne. omega arith)
+run-long first next rs h = run-by (λ l. longAll (l ++ rs) ≡ next - first + longAll rs) first next h (λ e. omega arith) (λ some. omega arith)
 
 abbrev AllBytes : List ℕ → List Step → Type 0
 AllBytes rest steps = (first next : ℕ) → first ≤ next
@@ -93,7 +96,7 @@ all-keeps frame rest steps p later first next h =
 all-steps : (b : List ℕ) → AllBytes b (stepsOf b)
 unfolding framesOf runsOf flatten
 all-steps =
-    walk-by AllBytes (λ first next h. run-by (λ rs. 0 + longAll rs ≡ 0 + (next - first)) first next (λ e. omega arith) (λ ne. omega arith)) all-keeps
+    walk-by AllBytes (λ first next h. run-by (λ rs. 0 + longAll rs ≡ 0 + (next - first)) first next h (λ e. omega arith) (λ some. omega arith)) all-keeps
     (λ byte rest steps none later first next h. omega (arith, later first (suc next) (omega arith)))
 
 pub long-all : InAll
