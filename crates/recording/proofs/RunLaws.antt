@@ -1,4 +1,4 @@
--- Runs lie apart, and they and the frames kept are all of a recording. Assumes nothing.
+-- Frames kept and runs are all of a recording, and runs lie apart. Assumes nothing.
 use Prim.Native.Nat.{ℕ, suc, _+_, _-_, _*_, _≤_, _<_}
 use native.Mathlib.Omega.{arith}
 use mathlib.Core.Path.{_≡_, refl, sym, subst, _∙_}
@@ -33,6 +33,38 @@ run-by P first next h none some = go (eqb first next) refl
         let l : 0 < next - first = omega (arith, ne) in
         let q : first + (next - first) ≡ next = omega arith in
         subst (λ (n : ℕ). P (run first n)) q (subst P (sym (run-one first (next - first) l)) (some l))
+
+-- ---- bytes kept and bytes skipped
+run-long : (first next : ℕ) (rs : List Run) → first ≤ next → longAll (run first next ++ rs) ≡ next - first + longAll rs
+run-long first next rs h = run-by (λ l. longAll (l ++ rs) ≡ next - first + longAll rs) first next h (λ e. omega arith) (λ some. omega arith)
+
+abbrev AllBytes : List ℕ → List Step → Type 0
+AllBytes rest steps = (first next : ℕ) → first ≤ next
+    → length (flatten (framesOf steps)) + longAll (runsOf first next steps) ≡ length rest + (next - first)
+
+all-keeps : (frame rest : List ℕ) (steps : List Step) → Passes frame → AllBytes rest steps → AllBytes (frame ++ rest) (kept frame ∷ steps)
+unfolding framesOf runsOf flatten
+all-keeps frame rest steps p later first next h =
+    let after = next + length frame in
+    omega (
+      arith,
+      length-append frame rest,
+      length-append frame (flatten (framesOf steps)),
+      run-long first next (runsOf after after steps) h,
+      later after after (omega arith),
+    )
+
+all-steps : (b : List ℕ) → AllBytes b (stepsOf b)
+unfolding framesOf runsOf flatten
+all-steps =
+    walk-by AllBytes (λ first next h. run-by (λ rs. 0 + longAll rs ≡ 0 + (next - first)) first next h (λ e. omega arith) (λ some. omega arith)) all-keeps
+    (λ byte rest steps none later first next h. omega (arith, later first (suc next) (omega arith)))
+
+pub long-all : InAll
+long-all b = all-steps b 0 0 (omega arith) ∙ omega arith
+
+pub kept-most : MostKept
+kept-most b = omega (arith, long-all b)
 
 -- ---- apart
 abbrev LieApart : List ℕ → List Step → Type 0
@@ -72,35 +104,3 @@ few-apart (r ∷ rs) from long a h =
 
 pub runs-few : MostRuns
 runs-few b = omega (arith, few-apart (runsOf 0 0 (stepsOf b)) 0 (length b) (apart-all b) (omega arith))
-
--- ---- bytes kept and bytes skipped
-run-long : (first next : ℕ) (rs : List Run) → first ≤ next → longAll (run first next ++ rs) ≡ next - first + longAll rs
-run-long first next rs h = run-by (λ l. longAll (l ++ rs) ≡ next - first + longAll rs) first next h (λ e. omega arith) (λ some. omega arith)
-
-abbrev AllBytes : List ℕ → List Step → Type 0
-AllBytes rest steps = (first next : ℕ) → first ≤ next
-    → length (flatten (framesOf steps)) + longAll (runsOf first next steps) ≡ length rest + (next - first)
-
-all-keeps : (frame rest : List ℕ) (steps : List Step) → Passes frame → AllBytes rest steps → AllBytes (frame ++ rest) (kept frame ∷ steps)
-unfolding framesOf runsOf flatten
-all-keeps frame rest steps p later first next h =
-    let after = next + length frame in
-    omega (
-      arith,
-      length-append frame rest,
-      length-append frame (flatten (framesOf steps)),
-      run-long first next (runsOf after after steps) h,
-      later after after (omega arith),
-    )
-
-all-steps : (b : List ℕ) → AllBytes b (stepsOf b)
-unfolding framesOf runsOf flatten
-all-steps =
-    walk-by AllBytes (λ first next h. run-by (λ rs. 0 + longAll rs ≡ 0 + (next - first)) first next h (λ e. omega arith) (λ some. omega arith)) all-keeps
-    (λ byte rest steps none later first next h. omega (arith, later first (suc next) (omega arith)))
-
-pub long-all : InAll
-long-all b = all-steps b 0 0 (omega arith) ∙ omega arith
-
-pub kept-most : MostKept
-kept-most b = omega (arith, long-all b)

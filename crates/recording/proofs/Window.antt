@@ -1,5 +1,5 @@
 -- What stands in the first bytes of a recording, and in all of it. Assumes nothing.
-use Prim.Native.Nat.{ℕ, _+_, _-_, _≤_}
+use Prim.Native.Nat.{ℕ, _-_, _≤_}
 use native.Mathlib.Omega.{arith}
 use mathlib.Core.Path.{_≡_, refl, sym, ap, subst, _∙_}
 use mathlib.Core.Bool.{Bool, true, false}
@@ -27,26 +27,20 @@ stands-less part rest h e =
     let p : Passes (take n part) = subst Passes (take-append-le n part rest (omega (arith, s .most))) (whole-passes (part ++ rest) e) in
     ap stands (sym (take-append-drop n part)) ∙ passes-stands (take n part) (drop n part) p
 
-pub through : ByWindow
-through window rest place = record { stays = stays; same = same }
+stands-same : (part rest : List ℕ) → mostFrame ≤ length part → stands (part ++ rest) ≡ stands part
+stands-same part rest h = go (stands part) refl
   where
-    part : List ℕ
-    part = drop place window
+    go : (t : Bool) → stands part ≡ t → stands (part ++ rest) ≡ t
+    go true e = stands-more part rest e
+    go false e = stands-not (part ++ rest) (λ q. never (cc (sym (stands-less part rest h q) ∙ e)))
 
-    split : place ≤ length window → drop place (window ++ rest) ≡ part ++ rest
-    split h = drop-append-le place window rest h
-
-    long : length part ≡ length window - place
-    long = length-drop place window
-
-    stays : stands part ≡ true → stands (drop place (window ++ rest)) ≡ true
-    stays e =
-        let s = stands-long part e in
-        ap stands (split (omega (arith, s .inside, s .least, long))) ∙ stands-more part rest e
-
-    same : place + mostFrame ≤ length window → stands (drop place (window ++ rest)) ≡ stands part
-    same h = ap stands (split (omega arith)) ∙ go (stands part) refl
-      where
-        go : (t : Bool) → stands part ≡ t → stands (part ++ rest) ≡ t
-        go true e = stands-more part rest e
-        go false e = stands-not (part ++ rest) (λ q. never (cc (sym (stands-less part rest (omega (arith, long)) q) ∙ e)))
+pub through : ByWindow
+through window rest place =
+    let part = drop place window in
+    let l : length part ≡ length window - place = length-drop place window in
+    record {
+      stays = λ e.
+          let s = stands-long part e in
+          ap stands (drop-append-le place window rest (omega (arith, s .inside, s .least))) ∙ stands-more part rest e;
+      same = λ h. ap stands (drop-append-le place window rest (omega arith)) ∙ stands-same part rest (omega arith);
+    }
