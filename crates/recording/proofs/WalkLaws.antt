@@ -83,7 +83,7 @@ passes-whole frame rest p =
 pub passes-least : (frame : List ℕ) → Passes frame → leastFrame ≤ length frame
 passes-least frame p = omega (arith, stands-long frame (holds-stands frame (p .checks)) .least, p .exact)
 
--- ---- none stands: too few bytes, another kind, a body too short for a header or past the limit
+-- ---- none stands: too few bytes, another kind, a body too short for a header, past the limit or past the end
 pub short-none : (rest : List ℕ) → length rest < leastFrame → stands rest ≡ false
 short-none rest h = stands-not rest (λ e. let s = stands-long rest e in omega (arith, s .inside, s .least))
 
