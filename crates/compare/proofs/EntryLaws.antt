@@ -48,11 +48,6 @@ pub onto-filled : (ds : List Difference) (out : List ℕ) → 6 * length ds ≤ 
 onto-filled ds out h =
     onto-behind ds 0 [] out refl h ∙ ap (λ (n : ℕ). halfwords ds ++ drop n out) (sym (halfwords-length ds))
 
--- a part of no halfwords, put back, leaves all as it was
-pub none-put : (out last : List ℕ) → length last ≡ 0 → take 0 out ++ (last ++ drop 0 (drop 0 out)) ≡ out
-none-put out [] e = refl
-none-put out (x ∷ xs) e = absurd (omega arith)
-
 -- ---- elevation segments present in both
 segments-are : (b : List ℕ) → length (mapIn b .elevations) ≡ segmentsIn b
 segments-are b = run-count elevationPart (segmentsIn b) (drop 6 b)

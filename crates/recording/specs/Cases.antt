@@ -69,6 +69,12 @@ cases =
       output = request ++ (9 ∷ []);
       listed = 0 ∷ 1 ∷ 5 ∷ [];
     })
+    -- two frames kept and one run
+    ∷ comes (request ++ (7 ∷ request)) (replicate 60 9) (5 ∷ 5 ∷ []) (record {
+      answer = given (record { kept = 2; long = 60; runs = 1 });
+      output = request ++ request;
+      listed = 30 ∷ 1 ∷ [];
+    })
     ∷ comes (7 ∷ request) (replicate 29 9) (5 ∷ 5 ∷ []) (untouched (replicate 29 9) (5 ∷ 5 ∷ []) 13)
     ∷ comes (7 ∷ request) (replicate 30 9) (5 ∷ []) (untouched (replicate 30 9) (5 ∷ []) 13)
     ∷ comes [] [] [] (record { answer = given (record { kept = 0; long = 0; runs = 0 }); output = []; listed = [] })

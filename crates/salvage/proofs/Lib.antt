@@ -2,3 +2,5 @@
 pub mod MarkLaws
 pub mod LayLaws
 pub mod GoingLaws
+pub mod RoomLaws
+pub mod OneAnswer

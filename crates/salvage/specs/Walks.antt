@@ -1,12 +1,11 @@
 -- What the inner functions answer.
 use Prim.Native.Nat.{ℕ, _+_, _*_, _≤_, _<_}
 use mathlib.Core.Path.{_≡_}
-use mathlib.Core.Bool.{Bool, true, false}
+use mathlib.Core.Bool.{Bool, true, false, _&&_}
 use mathlib.Core.List.{List, [], _∷_, _++_, flatten}
 use lib.Dec.{leb}
 use lib.ListN.{length, take, drop}
 use Rattle.wire.specs.Numbers.{num}
-use Rattle.wire.specs.Checks.{both}
 use Rattle.wire.specs.Writing.{filled}
 use Rattle.frame.specs.Session.{dataKind}
 use Rattle.recording.specs.Walk.{stands, wholeLong, Run, run, stepsOf, framesOf, runsOf}
@@ -62,4 +61,4 @@ pub record WalkedOver (b out runs : List ℕ) (r : Totals) (out′ runs′ : Lis
 
 -- both outputs have room
 abbrev pub roomFor : List ℕ → List ℕ → List ℕ → Bool
-roomFor b out runs = both (leb (length (flatten (keptOf b))) (length out)) (leb (2 * length (skippedOf b)) (length runs))
+roomFor b out runs = leb (length (flatten (keptOf b))) (length out) && leb (2 * length (skippedOf b)) (length runs)

@@ -40,3 +40,8 @@ two-stored at out a b h =
     ap (λ (k : ℕ). set (set out at a) k b) (add-one at)
     ∙ two-at at out a b h
     ∙ ap (λ (k : ℕ). take at out ++ (a ∷ b ∷ drop k out)) (sym e)
+
+-- a part of nothing, put back, leaves all as it was
+pub none-put : (out last : List ℕ) → length last ≡ 0 → take 0 out ++ (last ++ drop 0 (drop 0 out)) ≡ out
+none-put out [] e = refl
+none-put out (x ∷ xs) e = absurd (omega arith)
