@@ -5,8 +5,9 @@ use mathlib.Core.Bool.{Bool, true, false}
 use mathlib.Core.List.{List, [], _∷_, _++_, append-assoc, append-nil, flatten}
 use native.Mathlib.Omega.{arith}
 use lib.ListN.{length, take, drop, length-append, length-drop, drop-of-length-le}
-use lib.Seq.{drop-drop}
-use lib.Dec.{eqb}
+use lib.Seq.{drop-drop, take-add, length-take-le}
+use lib.Dec.{eqb, ltb}
+use borrow.Author.Tests.{eq-eqb, ltb-true, ltb-false}
 use Rattle.wire.specs.Checks.{pick}
 use Rattle.wire.specs.Writing.{filled}
 use Rattle.wire.proofs.CheckLaws.{never}
@@ -15,16 +16,20 @@ use Rattle.recording.specs.Salvage.{numbers}
 use Rattle.recording.specs.Statements.{leastFrame}
 use Rattle.recording.proofs.WalkLaws.{stands-long, whole-length, steps-end, steps-kept, frames-run, runs-run, first-run}
 use Rattle.recording.proofs.InTurn.{numbers-length}
-use Rattle.salvage.specs.declared.Found.{Found}
+use Rattle.salvage.specs.declared.Stretch.{Stretch}
 use Rattle.salvage.specs.declared.Totals.{Totals}
-use Rattle.salvage.specs.Walks.{NoneFrom, Ends, frame, end, FoundFrom, laid, Laid, LaidRun, keptOf, skippedOf, WalkedOver}
+use Rattle.salvage.specs.Walks.{NoneFrom, FoundFrom, Frames, StretchFrom, laid, Laid, LaidRun, keptOf, skippedOf, WalkedOver}
 use Rattle.salvage.proofs.LayLaws.{laid-more}
 
 -- ---- lists
+flatten-append : (fs gs : List (List ℕ)) → flatten (fs ++ gs) ≡ flatten fs ++ flatten gs
+unfolding flatten
+flatten-append [] gs = refl
+flatten-append (x ∷ fs) gs = ap (λ (l : List ℕ). x ++ l) (flatten-append fs gs) ∙ sym (append-assoc x (flatten fs) (flatten gs))
+
 flatten-more : (fs : List (List ℕ)) (f : List ℕ) → flatten (fs ++ (f ∷ [])) ≡ flatten fs ++ f
 unfolding flatten
-flatten-more [] f = append-nil f
-flatten-more (x ∷ fs) f = ap (λ (l : List ℕ). x ++ l) (flatten-more fs f) ∙ sym (append-assoc x (flatten fs) f)
+flatten-more fs f = flatten-append fs (f ∷ []) ∙ ap (λ (l : List ℕ). flatten fs ++ l) (append-nil f)
 
 numbers-append : (rs ss : List Run) → numbers (rs ++ ss) ≡ numbers rs ++ numbers ss
 unfolding numbers
@@ -67,16 +72,16 @@ steps-over : (b : List ℕ) (at : ℕ) → at ≡ length b → stepsOf (drop at 
 steps-over b at e = ap stepsOf (drop-of-length-le b {i = at} (omega arith)) ∙ steps-end
 
 -- the place found is where the next frame is kept
-pub next-found : (b : List ℕ) (at : ℕ) (found : Found) → FoundFrom b at found → found .place ≡ nextKept b at
+pub next-found : (b : List ℕ) (at to : ℕ) → FoundFrom b at to → to ≡ nextKept b at
 unfolding skippedFirst
-next-found b at found f = go (f .ends)
+next-found b at to f = go (ltb to (length b)) refl
   where
-    ends : skippedFirst (stepsOf (drop (found .place) b)) ≡ 0 → found .place ≡ nextKept b at
-    ends z = let s = first-there b at (found .place) (f .before) in let l = f .before .forward in omega arith
+    ends : skippedFirst (stepsOf (drop to b)) ≡ 0 → to ≡ nextKept b at
+    ends z = let s = first-there b at to (f .before) in let l = f .before .forward in omega arith
 
-    go : Ends b found → found .place ≡ nextKept b at
-    go (frame e q) = ends (ap skippedFirst (steps-frame b (found .place) e _ refl))
-    go (end e q) = ends (ap skippedFirst (steps-over b (found .place) e))
+    go : (t : Bool) → ltb to (length b) ≡ t → to ≡ nextKept b at
+    go true e = ends (ap skippedFirst (steps-frame b to (f .stood (ltb-true to (length b) e)) _ refl))
+    go false e = let h = ltb-false to (length b) e in let w = f .before .within in ends (ap skippedFirst (steps-over b to (omega arith)))
 
 pub next-past : (b : List ℕ) (at : ℕ) → length b < at → at ≡ nextKept b at
 unfolding skippedFirst
@@ -84,36 +89,110 @@ next-past b at h =
     let z : skippedFirst (stepsOf (drop at b)) ≡ 0 = ap skippedFirst (ap stepsOf (drop-of-length-le b {i = at} (omega arith)) ∙ steps-end) in
     omega arith
 
--- ---- a frame was found
-module _ (b : List ℕ) (at : ℕ) (found : Found) (f : FoundFrom b at found) (some : found .long ≡ 0 → ⊥) where
-  frame-stands : stands (drop (found .place) b) ≡ true
-  frame-stands = by (f .ends)
-    where
-      by : Ends b found → stands (drop (found .place) b) ≡ true
-      by (frame e q) = e
-      by (end e q) = absurd (some q)
+-- ---- frames that follow one another
+run-empty : (at : ℕ) → run at at ≡ []
+run-empty at = simp (eq-eqb at at refl)
 
-  frame-long : found .long ≡ wholeLong (drop (found .place) b)
-  frame-long = by (f .ends)
-    where
-      by : Ends b found → found .long ≡ wholeLong (drop (found .place) b)
-      by (frame e q) = q
-      by (end e q) = absurd (some q)
+-- a run ends where a frame begins, and at the end
+runs-closed : (b : List ℕ) (first at : ℕ) → (at < length b → stands (drop at b) ≡ true) → at ≤ length b
+    → runsOf first at (stepsOf (drop at b)) ≡ run first at ++ runsOf at at (stepsOf (drop at b))
+unfolding runsOf
+runs-closed b first at stood h = go (ltb at (length b)) refl
+  where
+    before : (x : List Run) → x ≡ run at at ++ x
+    before x = sym (ap (λ (rs : List Run). rs ++ x) (run-empty at))
 
-  pub frame-inside : found .place + found .long ≤ length b
+    go : (t : Bool) → ltb at (length b) ≡ t → runsOf first at (stepsOf (drop at b)) ≡ run first at ++ runsOf at at (stepsOf (drop at b))
+    go true e =
+        let q = steps-frame b at (stood (ltb-true at (length b) e)) _ refl in
+        ap (λ (steps : List Step). runsOf first at steps) q
+        ∙ ap (λ (x : List Run). run first at ++ x) (before _ ∙ sym (ap (λ (steps : List Step). runsOf at at steps) q))
+    go false e =
+        let g = ltb-false at (length b) e in
+        let q = steps-over b at (omega arith) in
+        ap (λ (steps : List Step). runsOf first at steps) q
+        ∙ sym (append-nil (run first at))
+        ∙ ap (λ (x : List Run). run first at ++ x) (sym (run-empty at) ∙ sym (ap (λ (steps : List Step). runsOf at at steps) q))
+
+pub frames-none : (b : List ℕ) (at : ℕ) → at ≤ length b → Frames b at at 0
+unfolding flatten
+frames-none b at h = record {
+  forward = omega arith;
+  within = h;
+  each = [];
+  counted = refl;
+  bytes = let e : at - at ≡ 0 = omega arith in sym (ap (λ (n : ℕ). take n (drop at b)) e);
+  kept = refl;
+  none = refl;
+}
+
+-- one more that passes
+module _ (b : List ℕ) (from at count long : ℕ) (f : Frames b from at count) (e : stands (drop at b) ≡ true) (is : long ≡ wholeLong (drop at b)) where
+  one-long : length (whole (drop at b)) ≡ long
+  one-long = whole-length (drop at b) e ∙ sym is
+
+  pub frame-inside : at + long ≤ length b
   frame-inside =
-      let s = stands-long (drop (found .place) b) frame-stands in
-      let q = frame-long in
-      let w = f .before .within in
-      let d : length (drop (found .place) b) ≡ length b - found .place = length-drop (found .place) b in
+      let s = stands-long (drop at b) e in
+      let w = f .within in
+      let d : length (drop at b) ≡ length b - at = length-drop at b in
       omega (arith, s .inside)
 
-  pub frame-least : at + leastFrame ≤ found .place + found .long
-  frame-least =
-      let s = stands-long (drop (found .place) b) frame-stands in
-      let q = frame-long in
-      let w = f .before .forward in
-      omega (arith, s .least)
+  steps-next : stepsOf (drop at b) ≡ kept (whole (drop at b)) ∷ stepsOf (drop (at + long) b)
+  steps-next = steps-frame b at e (at + long) (ap (λ (n : ℕ). at + n) is)
+
+  pub frames-more : Frames b from (at + long) (count + 1)
+  unfolding framesOf runsOf
+  frames-more =
+      let s = stands-long (drop at b) e in record {
+        forward = omega (arith, f .forward, s .least);
+        within = frame-inside;
+        each = f .each ++ (whole (drop at b) ∷ []);
+        counted = ap (λ (n : ℕ). n + 1) (f .counted) ∙ sym (length-append (f .each) (whole (drop at b) ∷ []));
+        bytes = flatten-more (f .each) (whole (drop at b)) ∙ ap (λ (l : List ℕ). l ++ whole (drop at b)) (f .bytes) ∙ joined;
+        kept =
+            f .kept
+            ∙ ap (λ (x : List (List ℕ)). f .each ++ x) (ap framesOf steps-next)
+            ∙ sym (append-assoc (f .each) (whole (drop at b) ∷ []) (framesOf (stepsOf (drop (at + long) b))));
+        none =
+            f .none
+            ∙ ap (λ (steps : List Step). runsOf at at steps) steps-next
+            ∙ ap (λ (rs : List Run). rs ++ runsOf (at + length (whole (drop at b))) (at + length (whole (drop at b))) (stepsOf (drop (at + long) b))) (run-empty at)
+            ∙ ap (λ (n : ℕ). runsOf (at + n) (at + n) (stepsOf (drop (at + long) b))) one-long;
+      }
+    where
+      joined : take (at - from) (drop from b) ++ whole (drop at b) ≡ take (at + long - from) (drop from b)
+      joined =
+          let g = f .forward in
+          let there : drop (at - from) (drop from b) ≡ drop at b = let q : from + (at - from) ≡ at = omega arith in drop-drop (at - from) from b ∙ ap (λ (k : ℕ). drop k b) q in
+          let q : at - from + long ≡ at + long - from = omega arith in
+          ap (λ (x : List ℕ). take (at - from) (drop from b) ++ x) (ap (λ (n : ℕ). take n (drop at b)) (sym is) ∙ ap (λ (x : List ℕ). take long x) (sym there))
+          ∙ sym (take-add (at - from) long (drop from b))
+          ∙ ap (λ (n : ℕ). take n (drop from b)) q
+
+pub stretch-ends : (b : List ℕ) (from to count : ℕ) → Frames b from to count → stands (drop to b) ≡ false → stands (drop from b) ≡ true → from < to
+stretch-ends b from to count f e s = go (ltb from to) refl
+  where
+    go : (t : Bool) → ltb from to ≡ t → from < to
+    go true q = ltb-true from to q
+    go false q =
+        let h = ltb-false from to q in
+        let g = f .forward in
+        let same : from ≡ to = omega arith in
+        never (cc (sym e ∙ ap (λ (k : ℕ). stands (drop k b)) (sym same) ∙ s))
+
+-- a run, and the frames after it, take bytes
+pub goes-forward : (b : List ℕ) (at place : ℕ) (r : Stretch) → at < length b → FoundFrom b at place → StretchFrom b place r → at < r .next
+goes-forward b at place r more f s = go (ltb at place) refl
+  where
+    go : (t : Bool) → ltb at place ≡ t → at < r .next
+    go true e = let h = ltb-true at place e in let w = s .frames .forward in omega arith
+    go false e =
+        let h = ltb-false at place e in
+        let w = f .before .forward in
+        let same : place ≡ at = omega arith in
+        let p = s .some (f .stood (omega arith)) in
+        omega arith
 
 -- one run at most
 run-most : (first next : ℕ) → length (run first next) ≤ 1
@@ -135,7 +214,7 @@ pub record Going (b out₀ runs₀ : List ℕ) (at frames long count : ℕ) (out
   pub countIs : count ≡ length lost
   pub framesFit : frames ≤ at
   pub longFits : long ≤ at
-  pub countFits : 2 * count ≤ at
+  pub countFits : count ≤ at
   pub output : long ≤ length out₀ → out ≡ filled (flatten had) out₀
   pub listed : 2 * count ≤ length runs₀ → runs ≡ filled (numbers lost) runs₀
   pub outLong : length out ≡ length out₀
@@ -161,120 +240,104 @@ going-start b out runs = record {
   runsLong = refl;
 }
 
-module _ (b out₀ runs₀ : List ℕ) (at frames long count : ℕ) (out runs : List ℕ) (g : Going b out₀ runs₀ at frames long count out runs) (found : Found)
-    (f : FoundFrom b at found) (count′ : ℕ) (runs′ : List ℕ) (r : LaidRun runs count at (found .place) count′ runs′) (runsLong : length runs′ ≡ length runs) where
-  abbrev place : ℕ
-  place = found .place
-
-  -- the run before what was found
-  count-is : count′ ≡ length (g .lost ++ run at place)
-  count-is = r .counted ∙ ap (λ (n : ℕ). n + length (run at place)) (g .countIs) ∙ sym (length-append (g .lost) (run at place))
-
-  list-is : 2 * count′ ≤ length runs₀ → runs′ ≡ filled (numbers (g .lost ++ run at place)) runs₀
-  list-is h =
-      let c = r .counted in
-      let l : length (numbers (g .lost)) ≡ 2 * count = numbers-length (g .lost) ∙ ap (λ (n : ℕ). 2 * n) (sym (g .countIs)) in
-      let m : length (numbers (run at place)) ≡ 2 * length (run at place) = numbers-length (run at place) in
-      let room : length (numbers (g .lost)) + length (numbers (run at place)) ≤ length runs₀ = omega arith in
-      let s = g .runsLong in
-      r .listed (omega arith)
-      ∙ ap (λ (k : ℕ). laid runs k (numbers (run at place))) (sym l)
-      ∙ laid-more runs₀ runs (numbers (g .lost)) (numbers (run at place)) (g .listed (omega arith)) room
-      ∙ ap (λ (x : List ℕ). filled x runs₀) (sym (numbers-append (g .lost) (run at place)))
-
-  -- a frame was found, and its bytes are copied
-  module _ (piece : List ℕ) (is : piece ≡ take (place + found .long - place) (drop place b)) (some : found .long ≡ 0 → ⊥) (long′ : ℕ) (out′ : List ℕ)
-      (more : long′ ≡ long + length piece) (l : Laid out long piece out′) (outLong : length out′ ≡ length out) where
+module _ (b out₀ runs₀ : List ℕ) (at frames long count : ℕ) (out runs : List ℕ) (g : Going b out₀ runs₀ at frames long count out runs) where
+  -- a run, and the frames after it
+  module _ (more : at < length b) (place : ℕ) (f : FoundFrom b at place) (count′ : ℕ) (runs′ : List ℕ) (r : LaidRun runs count at place count′ runs′)
+      (runsLong : length runs′ ≡ length runs) (frames′ : Stretch) (s : StretchFrom b place frames′) (bytes : List ℕ)
+      (is : bytes ≡ take (frames′ .next - place) (drop place b)) (long′ : ℕ) (out′ : List ℕ) (longer : long′ ≡ long + length bytes) (l : Laid out long bytes out′)
+      (outLong : length out′ ≡ length out) where
     abbrev next : ℕ
-    next = place + found .long
+    next = frames′ .next
 
-    here : stands (drop place b) ≡ true
-    here = frame-stands b at found f some
+    abbrev each : List (List ℕ)
+    each = s .frames .each
 
-    whole-is : found .long ≡ wholeLong (drop place b)
-    whole-is = frame-long b at found f some
+    bytes-are : flatten each ≡ bytes
+    bytes-are = s .frames .bytes ∙ sym is
 
-    piece-whole : piece ≡ whole (drop place b)
-    piece-whole = let e : place + found .long - place ≡ wholeLong (drop place b) = omega (arith, whole-is) in is ∙ ap (λ (n : ℕ). take n (drop place b)) e
+    bytes-long : length bytes ≡ next - place
+    bytes-long =
+        let w = s .frames .within in
+        let d : length (drop place b) ≡ length b - place = length-drop place b in
+        ap length is ∙ length-take-le (next - place) (drop place b) (omega arith)
 
-    piece-long : length piece ≡ found .long
-    piece-long = ap length piece-whole ∙ whole-length (drop place b) here ∙ sym whole-is
+    count-is : count′ ≡ length (g .lost ++ run at place)
+    count-is = r .counted ∙ ap (λ (n : ℕ). n + length (run at place)) (g .countIs) ∙ sym (length-append (g .lost) (run at place))
 
-    steps-next : stepsOf (drop place b) ≡ kept piece ∷ stepsOf (drop next b)
-    steps-next =
-        steps-frame b place here next (ap (λ (n : ℕ). place + n) whole-is)
-        ∙ ap (λ (x : List ℕ). kept x ∷ stepsOf (drop next b)) (sym piece-whole)
+    list-is : 2 * count′ ≤ length runs₀ → runs′ ≡ filled (numbers (g .lost ++ run at place)) runs₀
+    list-is h =
+        let c = r .counted in
+        let n : length (numbers (g .lost)) ≡ 2 * count = numbers-length (g .lost) ∙ ap (λ (n : ℕ). 2 * n) (sym (g .countIs)) in
+        let m : length (numbers (run at place)) ≡ 2 * length (run at place) = numbers-length (run at place) in
+        let room : length (numbers (g .lost)) + length (numbers (run at place)) ≤ length runs₀ = omega arith in
+        let q = g .runsLong in
+        r .listed (omega arith)
+        ∙ ap (λ (k : ℕ). laid runs k (numbers (run at place))) (sym n)
+        ∙ laid-more runs₀ runs (numbers (g .lost)) (numbers (run at place)) (g .listed (omega arith)) room
+        ∙ ap (λ (x : List ℕ). filled x runs₀) (sym (numbers-append (g .lost) (run at place)))
 
-    frames-next : framesOf (stepsOf (drop at b)) ≡ piece ∷ framesOf (stepsOf (drop next b))
-    unfolding framesOf
-    frames-next = frames-there b at place (f .before) ∙ ap framesOf steps-next
+    out-is : long′ ≤ length out₀ → out′ ≡ filled (flatten (g .had ++ each)) out₀
+    out-is h =
+        let i = g .longIs in
+        let q = g .outLong in
+        l (omega (arith, longer))
+        ∙ ap (λ (k : ℕ). laid out k bytes) i
+        ∙ laid-more out₀ out (flatten (g .had)) bytes (g .output (omega (arith, longer))) (omega (arith, longer))
+        ∙ ap (λ (x : List ℕ). filled x out₀) (sym (flatten-append (g .had) each ∙ ap (λ (x : List ℕ). flatten (g .had) ++ x) bytes-are))
 
+    frames-next : framesOf (stepsOf (drop at b)) ≡ each ++ framesOf (stepsOf (drop next b))
+    frames-next = frames-there b at place (f .before) ∙ s .frames .kept
+
+    -- what the run before the frames adds
     runs-next : runsOf at at (stepsOf (drop at b)) ≡ run at place ++ runsOf next next (stepsOf (drop next b))
-    unfolding runsOf
-    runs-next =
-        runs-there b at place (f .before)
-        ∙ ap (λ (steps : List Step). runsOf at place steps) steps-next
-        ∙ ap (λ (n : ℕ). run at place ++ runsOf (place + n) (place + n) (stepsOf (drop next b))) piece-long
+    runs-next = runs-there b at place (f .before) ∙ runs-closed b at place (f .stood) (f .before .within) ∙ ap (λ (x : List Run). run at place ++ x) (s .frames .none)
 
-    pub going-on : Going b out₀ runs₀ next (frames + 1) long′ count′ out′ runs′
+    pub going-on : Going b out₀ runs₀ next (frames + frames′ .frames) long′ count′ out′ runs′
     going-on =
         let w = f .before .forward in
         let c = r .counted in
         let o : length (run at place) ≤ 1 = run-most at place in
-        let p = piece-long in
-        let z = frame-least b at found f some in record {
-          within = frame-inside b at found f some;
-          had = g .had ++ (piece ∷ []);
+        let p = bytes-long in
+        let z = s .frames .forward in
+        let n = goes-forward b at place frames′ more f s in record {
+          within = s .frames .within;
+          had = g .had ++ each;
           lost = g .lost ++ run at place;
-          allFrames = g .allFrames ∙ ap (λ (x : List (List ℕ)). g .had ++ x) frames-next ∙ sym (append-assoc (g .had) (piece ∷ []) (framesOf (stepsOf (drop next b))));
+          allFrames = g .allFrames ∙ ap (λ (x : List (List ℕ)). g .had ++ x) frames-next ∙ sym (append-assoc (g .had) each (framesOf (stepsOf (drop next b))));
           allRuns = g .allRuns ∙ ap (λ (x : List Run). g .lost ++ x) runs-next ∙ sym (append-assoc (g .lost) (run at place) (runsOf next next (stepsOf (drop next b))));
-          framesIs = ap (λ (n : ℕ). n + 1) (g .framesIs) ∙ sym (length-append (g .had) (piece ∷ []));
+          framesIs = (λ i. g .framesIs i + s .frames .counted i) ∙ sym (length-append (g .had) each);
           longIs =
-              more
-              ∙ ap (λ (n : ℕ). n + length piece) (g .longIs)
-              ∙ sym (ap length (flatten-more (g .had) piece) ∙ length-append (flatten (g .had)) piece);
+              longer
+              ∙ (λ i. g .longIs i + length (sym bytes-are i))
+              ∙ sym (ap length (flatten-append (g .had) each) ∙ length-append (flatten (g .had)) (flatten each));
           countIs = count-is;
           framesFit = omega (arith, g .framesFit);
-          longFits = omega (arith, g .longFits, more);
+          longFits = omega (arith, g .longFits, longer);
           countFits = omega (arith, g .countFits);
           output = out-is;
           listed = list-is;
           outLong = outLong ∙ g .outLong;
           runsLong = runsLong ∙ g .runsLong;
         }
-      where
-        out-is : long′ ≤ length out₀ → out′ ≡ filled (flatten (g .had ++ (piece ∷ []))) out₀
-        out-is h =
-            let i = g .longIs in
-            let s = g .outLong in
-            l (omega (arith, more))
-            ∙ ap (λ (k : ℕ). laid out k piece) i
-            ∙ laid-more out₀ out (flatten (g .had)) piece (g .output (omega (arith, more))) (omega (arith, more))
-            ∙ ap (λ (x : List ℕ). filled x out₀) (sym (flatten-more (g .had) piece))
 
-  -- no frame was found: the run before the end is the last
-  pub going-ends : found .long ≡ 0 → WalkedOver b out₀ runs₀ (record { kept = frames; long = long; runs = count′ }) out runs′
+  -- to the end
+  pub going-ends : length b ≤ at → WalkedOver b out₀ runs₀ (record { kept = frames; long = long; runs = count }) out runs
   unfolding framesOf runsOf
-  going-ends none = record {
+  going-ends h = record {
     kept = g .framesIs ∙ sym (ap length frames-all);
     long = g .longIs ∙ sym (ap (λ (x : List (List ℕ)). length (flatten x)) frames-all);
-    count = count-is ∙ sym (ap length runs-all);
-    output = λ h. g .output (subst (λ (n : ℕ). n ≤ length out₀) (ap (λ (x : List (List ℕ)). length (flatten x)) frames-all ∙ sym (g .longIs)) h)
+    count = g .countIs ∙ sym (ap length runs-all);
+    output = λ room. g .output (subst (λ (n : ℕ). n ≤ length out₀) (ap (λ (x : List (List ℕ)). length (flatten x)) frames-all ∙ sym (g .longIs)) room)
         ∙ ap (λ (x : List (List ℕ)). filled (flatten x) out₀) (sym frames-all);
-    listed = λ h. list-is (subst (λ (n : ℕ). 2 * n ≤ length runs₀) (ap length runs-all ∙ sym count-is) h)
+    listed = λ room. g .listed (subst (λ (n : ℕ). 2 * n ≤ length runs₀) (ap length runs-all ∙ sym (g .countIs)) room)
         ∙ ap (λ (x : List Run). filled (numbers x) runs₀) (sym runs-all);
   }
     where
-      over : place ≡ length b
-      over = by (f .ends)
-        where
-          by : Ends b found → place ≡ length b
-          by (frame e q) = absurd (omega (arith, none, q))
-          by (end e q) = e
+      over : stepsOf (drop at b) ≡ []
+      over = let w = g .within in steps-over b at (omega arith)
 
       frames-all : keptOf b ≡ g .had
-      frames-all = g .allFrames ∙ ap (λ (x : List (List ℕ)). g .had ++ x) (frames-there b at place (f .before) ∙ ap framesOf (steps-over b place over)) ∙ append-nil (g .had)
+      frames-all = g .allFrames ∙ ap (λ (steps : List Step). g .had ++ framesOf steps) over ∙ append-nil (g .had)
 
-      runs-all : skippedOf b ≡ g .lost ++ run at place
-      runs-all =
-          g .allRuns ∙ ap (λ (x : List Run). g .lost ++ x) (runs-there b at place (f .before) ∙ ap (λ (steps : List Step). runsOf at place steps) (steps-over b place over))
+      runs-all : skippedOf b ≡ g .lost
+      runs-all = g .allRuns ∙ ap (λ (steps : List Step). g .lost ++ runsOf at at steps) over ∙ ap (λ (x : List Run). g .lost ++ x) (run-empty at) ∙ append-nil (g .lost)

@@ -1,5 +1,5 @@
 -- What the inner functions answer.
-use Prim.Native.Nat.{ℕ, _+_, _*_, _≤_, _<_}
+use Prim.Native.Nat.{ℕ, _+_, _*_, _-_, _≤_, _<_}
 use mathlib.Core.Path.{_≡_}
 use mathlib.Core.Bool.{Bool, true, false, _&&_}
 use mathlib.Core.List.{List, [], _∷_, _++_, flatten}
@@ -8,9 +8,9 @@ use lib.ListN.{length, take, drop}
 use Rattle.wire.specs.Numbers.{num}
 use Rattle.wire.specs.Writing.{filled}
 use Rattle.frame.specs.Session.{dataKind}
-use Rattle.recording.specs.Walk.{stands, wholeLong, Run, run, stepsOf, framesOf, runsOf}
+use Rattle.recording.specs.Walk.{stands, Run, run, stepsOf, framesOf, runsOf}
 use Rattle.recording.specs.Salvage.{numbers}
-use Rattle.salvage.specs.declared.Found.{Found}
+use Rattle.salvage.specs.declared.Stretch.{Stretch}
 use Rattle.salvage.specs.declared.Totals.{Totals}
 
 -- none of the first so many places begins with a data frame's kind
@@ -23,14 +23,25 @@ pub record NoneFrom (b : List ℕ) (from to : ℕ) : Type 0 where
   pub within : to ≤ length b
   pub none : (i : ℕ) → from ≤ i → i < to → stands (drop i b) ≡ false
 
--- a frame that passes begins there and has so many bytes, or the buffer ends there
-pub data Ends (b : List ℕ) (r : Found) : Type 0 where
-  frame : stands (drop (r .place) b) ≡ true → r .long ≡ wholeLong (drop (r .place) b) → Ends b r
-  end : r .place ≡ length b → r .long ≡ 0 → Ends b r
+-- the first place from a place on where a frame that passes begins, or the end
+pub record FoundFrom (b : List ℕ) (from to : ℕ) : Type 0 where
+  pub before : NoneFrom b from to
+  pub stood : to < length b → stands (drop to b) ≡ true
 
-pub record FoundFrom (b : List ℕ) (from : ℕ) (r : Found) : Type 0 where
-  pub before : NoneFrom b from (r .place)
-  pub ends : Ends b r
+-- from a place on to another, frames that pass and nothing else: so many, and their bytes
+pub record Frames (b : List ℕ) (from to count : ℕ) : Type 0 where
+  pub forward : from + count ≤ to
+  pub within : to ≤ length b
+  pub each : List (List ℕ)
+  pub counted : count ≡ length each
+  pub bytes : flatten each ≡ take (to - from) (drop from b)
+  pub kept : framesOf (stepsOf (drop from b)) ≡ each ++ framesOf (stepsOf (drop to b))
+  pub none : runsOf from from (stepsOf (drop from b)) ≡ runsOf to to (stepsOf (drop to b))
+
+-- as many as follow one another there
+pub record StretchFrom (b : List ℕ) (from : ℕ) (r : Stretch) : Type 0 where
+  pub frames : Frames b from (r .next) (r .frames)
+  pub some : stands (drop from b) ≡ true → from < r .next
 
 -- what stands in an output that held `out`, with `list` from a place on
 abbrev pub laid : List ℕ → ℕ → List ℕ → List ℕ

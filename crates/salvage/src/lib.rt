@@ -10,7 +10,7 @@ ghost use Rattle.wire.specs.Checks.{pick};
 ghost use Rattle.recording.specs.Walk.{stands, wholeLong, nextKept};
 ghost use Rattle.recording.specs.Salvage.{salvageOf};
 ghost use Rattle.salvage.specs.Answers.{Salvages};
-ghost use Rattle.salvage.specs.Walks.{Unmarked, NoneFrom, FoundFrom, Laid, LaidRun, WalkedOver, roomFor};
+ghost use Rattle.salvage.specs.Walks.{Unmarked, NoneFrom, FoundFrom, StretchFrom, Laid, LaidRun, WalkedOver, roomFor};
 
 // The kind of a data frame.
 const DATA: u32 = 2;
@@ -29,10 +29,10 @@ pub enum SalvageAnswer {
     Refused(u8),
 }
 
-// A frame that passes and its bytes; no bytes where there is none up to the end.
-struct Found {
-    place: usize,
-    long: usize,
+// Frames one after the other: where the last one ends, and how many they are.
+struct Stretch {
+    next: usize,
+    frames: usize,
 }
 
 struct Totals {
@@ -108,35 +108,50 @@ fn next_mark(buf: &[u8], from: usize) -> usize
     at
 }
 
-// The first frame that passes from a place on.
-fn find(buf: &[u8], from: usize) -> Found
+// Where the first frame that passes begins from a place on, or the end.
+fn find(buf: &[u8], from: usize) -> usize
     requires { ⌜ from ≤ length (now buf) ⌝ }
     ensures { λ r. ⌜ FoundFrom (now (buf .entry)) from r ⌝ }
 {
     let mut at = from;
     while at < buf.len() {
-        let long = whole_at(buf, at);
-        if long != 0 {
-            return Found { place: at, long };
+        if whole_at(buf, at) != 0 {
+            return at;
         }
         at = next_mark(buf, at + 1);
     }
-    Found { place: at, long: 0 }
+    at
 }
 
-// Where the first frame that passes begins from a place on, or the end of the buffer.
+// The place at which the walk from a place on keeps its first frame, or the end of the buffer.
 pub fn next_kept(buf: &[u8], place: usize) -> usize
     ensures { λ r. ⌜ r ≡ nextKept (now (buf .entry)) place ⌝ }
 {
     if buf.len() < place {
         return place;
     }
-    find(buf, place).place
+    find(buf, place)
+}
+
+// The frames that follow one another from a place on, each of which passes.
+fn follow(buf: &[u8], place: usize) -> Stretch
+    requires { ⌜ place ≤ length (now buf) ⌝ }
+    ensures { λ r. ⌜ StretchFrom (now (buf .entry)) place r ⌝ }
+{
+    let mut next = place;
+    let mut frames: usize = 0;
+    let mut long = whole_at(buf, next);
+    while long != 0 {
+        next += long;
+        frames += 1;
+        long = whole_at(buf, next);
+    }
+    Stretch { next, frames }
 }
 
 // The bytes from `first` to the one before `next`, listed after so many runs where there is room for it, and counted.
 fn list(runs: &mut [u64], count: usize, first: usize, next: usize) -> usize
-    requires { ⌜ (first ≤ next) × (2 * count ≤ first) × (next < 2 ^ 63) ⌝ }
+    requires { ⌜ (first ≤ next) × (count ≤ first) × (first + 1 < 2 ^ 63) ⌝ }
     ensures { λ r. ⌜ LaidRun (now (runs .entry)) count first next r (now (runs .exit)) ⌝ }
 {
     if first == next {
@@ -151,20 +166,21 @@ fn list(runs: &mut [u64], count: usize, first: usize, next: usize) -> usize
     count + 1
 }
 
-// A frame copied after so many bytes where there is room for it, and counted.
-fn put(frame: &[u8], out: &mut [u8], long: usize) -> usize
-    requires { ⌜ long + length (now frame) < 2 ^ 63 ⌝ }
-    ensures { λ r. ⌜ (r ≡ long + length (now (frame .entry))) × Laid (now (out .entry)) long (now (frame .entry)) (now (out .exit)) ⌝ }
+// Bytes copied after so many where there is room for them, and counted.
+fn put(bytes: &[u8], out: &mut [u8], long: usize) -> usize
+    requires { ⌜ long + length (now bytes) < 2 ^ 63 ⌝ }
+    ensures { λ r. ⌜ (r ≡ long + length (now (bytes .entry))) × Laid (now (out .entry)) long (now (bytes .entry)) (now (out .exit)) ⌝ }
 {
-    let end = long + frame.len();
+    let end = long + bytes.len();
     if out.len() < end {
         return end;
     }
-    wire::copy(frame, &mut out[long..end]);
+    wire::copy(bytes, &mut out[long..end]);
     end
 }
 
-// The walk: run and frame in turn, and the run after the last frame. What there is no room for is only counted.
+// The walk: a run and the frames after it in turn, to the end of the buffer. Frames that follow one another are copied at once. What there is
+// no room for is only counted.
 fn walk(buf: &[u8], out: &mut [u8], runs: &mut [u64]) -> Totals
     ensures { λ r. ⌜ WalkedOver (now (buf .entry)) (now (out .entry)) (now (runs .entry)) r (now (out .exit)) (now (runs .exit)) ⌝ }
 {
@@ -172,18 +188,15 @@ fn walk(buf: &[u8], out: &mut [u8], runs: &mut [u64]) -> Totals
     let mut kept: usize = 0;
     let mut long: usize = 0;
     let mut count: usize = 0;
-    let mut found = find(buf, at);
-    while found.long != 0 {
-        let place = found.place;
-        let next = place + found.long;
+    while at < buf.len() {
+        let place = find(buf, at);
         count = list(runs, count, at, place);
+        let frames = follow(buf, place);
+        let next = frames.next;
         long = put(&buf[place..next], out, long);
-        kept += 1;
+        kept += frames.frames;
         at = next;
-        found = find(buf, at);
     }
-    let end = found.place;
-    count = list(runs, count, at, end);
     Totals {
         kept,
         long,

@@ -2,9 +2,9 @@ use borrow.Author.Needs.{needs}
 use Prim.Native.Nat.{_+_, _-_, _≤_}
 use denote.Ref.{now}
 use native.Mathlib.Omega.{arith}
-use mathlib.Core.Path.{refl, sym, _∙_}
+use mathlib.Core.Path.{sym, _∙_}
 use lib.ListN.{length, drop}
-use Rattle.salvage.specs.Walks.{NoneFrom, frame, end}
+use Rattle.salvage.specs.Walks.{NoneFrom}
 use Rattle.salvage.proofs.MarkLaws.{none-yet, none-one, none-joined, whole-none, whole-some}
 use Rattle.salvage.proofs.find.Statement.{statement}
 use Rattle.salvage.proofs.find.Tie as tie
@@ -25,7 +25,7 @@ returns : tie.Need-returns Inv-loop μ-loop
 returns c =
     let l = c .before .before .before .loop in
     let p = whole-some (drop (l .at) (now (c .before .before .before .before .before .args .buf))) _ (c .before .whole-at .ensures) (c .if1 .taken) in
-    record { before = l .inv; ends = frame (p .0) (p .1) }
+    record { before = l .inv; stood = λ h. p .0 }
 
 add-next-mark : tie.Need-add-next-mark Inv-loop μ-loop
 add-next-mark c = search needs
@@ -47,7 +47,7 @@ loop-again c =
 returns-2 : tie.Need-returns-2 Inv-loop μ-loop
 returns-2 c =
     let l = c .before .loop in
-    record { before = l .inv; ends = end (omega (arith, l .inv .within, c .loop-test .left)) refl }
+    record { before = l .inv; stood = λ h. absurd (omega (arith, c .loop-test .left)) }
 
 pub find-spec : {M : Type 1} → statement M
 find-spec =

@@ -32,7 +32,7 @@ same-length c = search needs
 returns-2 : tie.Need-returns-2
 returns-2 c =
     let a = c .before .before .before .before .before .before .before .args in
-    (refl, λ room. put-laid (now (a .out)) (now (a .frame)) (a .long) (a .long + length (now (a .frame)) - a .long) _ (omega arith) room (c .before .before .copy .ensures))
+    (refl, λ room. put-laid (now (a .out)) (now (a .bytes)) (a .long) (a .long + length (now (a .bytes)) - a .long) _ (omega arith) room (c .before .before .copy .ensures))
 
 pub put-spec : {M : Type 1} → statement M
 put-spec =

@@ -1,111 +1,80 @@
 use borrow.Author.Needs.{needs}
-use Prim.Native.Nat.{_+_, _-_}
+use Prim.Native.Nat.{_-_}
 use denote.Ref.{now}
 use native.Mathlib.Omega.{arith}
-use mathlib.Core.Path.{refl, sym, _∙_}
+use mathlib.Core.Path.{refl}
 use lib.ListN.{length}
-use Rattle.salvage.specs.Walks.{FoundFrom}
-use Rattle.salvage.proofs.GoingLaws.{Going, going-start, frame-inside, frame-least, going-on, going-ends}
+use Rattle.salvage.proofs.GoingLaws.{Going, going-start, goes-forward, going-on, going-ends}
 use Rattle.salvage.proofs.walk.Statement.{statement}
 use Rattle.salvage.proofs.walk.Tie as tie
 
 abbrev Inv-loop : tie.InvT-loop
-Inv-loop buf out₀ runs₀ at₀ kept₀ long₀ count₀ found₀ out runs at kept long count found =
-    Going buf out₀ runs₀ at kept long count out runs × FoundFrom buf at found
+Inv-loop buf out₀ runs₀ at₀ kept₀ long₀ count₀ out runs at kept long count = Going buf out₀ runs₀ at kept long count out runs
 
 abbrev μ-loop : tie.MeasureT-loop
-μ-loop buf out₀ runs₀ at₀ kept₀ long₀ count₀ found₀ out runs at kept long count found = length buf - at
+μ-loop buf out₀ runs₀ at₀ kept₀ long₀ count₀ out runs at kept long count = length buf - at
+
+loop-holds : tie.Need-loop-holds Inv-loop μ-loop
+loop-holds c = going-start _ _ _
 
 find-requires : tie.Need-find-requires Inv-loop μ-loop
 find-requires c κs = search needs
 
-loop-holds : tie.Need-loop-holds Inv-loop μ-loop
-loop-holds c = (going-start _ _ _, c .find .ensures)
-
-add-next : tie.Need-add-next Inv-loop μ-loop
-add-next c =
-    let l = c .before .before .before .loop in
-    let a = c .before .before .before .before .before .before .before .before .args in
-    search (needs, frame-inside (now (a .buf)) (l .at) (l .found) (l .inv .1) (c .before .if1 .taken))
-
 list-requires : tie.Need-list-requires Inv-loop μ-loop
-list-requires c κs =
-    let l = c .before .before .before .before .loop in
-    let a = c .before .before .before .before .before .before .before .before .before .args in
-    let i = frame-inside (now (a .buf)) (l .at) (l .found) (l .inv .1) (c .before .before .if1 .taken) in
-    (l .inv .1 .before .forward, l .inv .0 .countFits, search (needs, i))
+list-requires c κs = (c .before .find .ensures .before .forward, c .before .before .before .loop .inv .countFits, search needs)
+
+follow-requires : tie.Need-follow-requires Inv-loop μ-loop
+follow-requires c κs = c .before .before .before .before .find .ensures .before .within
 
 sub-put : tie.Need-sub-put Inv-loop μ-loop
-sub-put c = search needs
+sub-put c = search (needs, c .follow .ensures .frames .forward)
 
 part-put-start : tie.Need-part-put-start Inv-loop μ-loop
-part-put-start c =
-    let l = c .before .before .before .before .before .before .before .loop in
-    let a = c .before .before .before .before .before .before .before .before .before .before .before .before .args in
-    search (needs, frame-inside (now (a .buf)) (l .at) (l .found) (l .inv .1) (c .before .before .before .before .before .if1 .taken))
+part-put-start c = search (needs, c .follow .ensures .frames .forward, c .follow .ensures .frames .within)
 
 part-put-end : tie.Need-part-put-end Inv-loop μ-loop
-part-put-end c =
-    let l = c .before .before .before .before .before .before .before .loop in
-    let a = c .before .before .before .before .before .before .before .before .before .before .before .before .args in
-    search (needs, frame-inside (now (a .buf)) (l .at) (l .found) (l .inv .1) (c .before .before .before .before .before .if1 .taken))
+part-put-end c = search (needs, c .follow .ensures .frames .forward, c .follow .ensures .frames .within)
 
 put-requires : tie.Need-put-requires Inv-loop μ-loop
 put-requires c κs =
-    let l = c .before .before .before .before .before .before .before .before .before .loop in
-    let a = c .before .before .before .before .before .before .before .before .before .before .before .before .before .before .args in
-    search (needs, l .inv .0 .longFits, l .inv .1 .before .forward, frame-inside (now (a .buf)) (l .at) (l .found) (l .inv .1) (c .before .before .before .before .before .before .before .if1 .taken))
+    let f = c .before .before .follow .ensures .frames in
+    search (needs, c .before .before .before .before .before .before .before .before .before .loop .inv .longFits, c .before .before .before .before .before .before .before .find .ensures .before .forward, f .forward, f .within)
 
 add-kept : tie.Need-add-kept Inv-loop μ-loop
 add-kept c =
-    let l = c .before .before .before .before .before .before .before .before .before .before .before .before .loop in
-    let a = c .before .before .before .before .before .before .before .before .before .before .before .before .before .before .before .before .before .args in
-    search (needs, l .inv .0 .framesFit, l .inv .0 .within)
-
-find-requires-2 : tie.Need-find-requires-2 Inv-loop μ-loop
-find-requires-2 c κs =
-    let l = c .before .before .before .before .before .before .before .before .before .before .before .before .loop in
-    let a = c .before .before .before .before .before .before .before .before .before .before .before .before .before .before .before .before .before .args in
-    frame-inside (now (a .buf)) (l .at) (l .found) (l .inv .1) (c .before .before .before .before .before .before .before .before .before .before .if1 .taken)
+    let f = c .before .before .before .before .before .before .follow .ensures .frames in
+    search (needs, c .before .before .before .before .before .before .before .before .before .before .before .before .before .loop .inv .framesFit, c .before .before .before .before .before .before .before .before .before .before .before .find .ensures .before .forward, f .forward, f .within)
 
 loop-less : tie.Need-loop-less Inv-loop μ-loop
 loop-less c =
     let l = c .before .before .before .before .before .before .before .before .before .before .before .before .before .loop in
-    let a = c .before .before .before .before .before .before .before .before .before .before .before .before .before .before .before .before .before .before .args in
-    let some = c .before .before .before .before .before .before .before .before .before .before .before .if1 .taken in
-    omega (arith, frame-inside (now (a .buf)) (l .at) (l .found) (l .inv .1) some, frame-least (now (a .buf)) (l .at) (l .found) (l .inv .1) some)
+    let a = c .before .before .before .before .before .before .before .before .before .before .before .before .before .before .before .before .before .args in
+    let s = c .before .before .before .before .before .before .follow in
+    let f = c .before .before .before .before .before .before .before .before .before .before .before .find in
+    omega (arith, goes-forward (now (a .buf)) (l .at) (f .result) (s .result) (c .before .before .before .before .before .before .before .before .before .before .before .before .loop-test .taken) (f .ensures) (s .ensures), s .ensures .frames .within)
 
 loop-again : tie.Need-loop-again Inv-loop μ-loop
 loop-again c =
     let l = c .before .before .before .before .before .before .before .before .before .before .before .before .before .loop in
-    let a = c .before .before .before .before .before .before .before .before .before .before .before .before .before .before .before .before .before .before .args in
-    let some = c .before .before .before .before .before .before .before .before .before .before .before .if1 .taken in
-    let r = c .before .before .before .before .before .before .before .before .list in
-    let p = c .before .before .before .put in (
-      going-on (now (a .buf)) (now (a .out)) (now (a .runs)) (l .at) (l .kept) (l .long) (l .count) (l .out) (l .runs) (l .inv .0) (l .found) (l .inv .1) _ _ (r .ensures)
-          (r .kept .0) _ refl some _ _ (p .ensures .0) (p .ensures .1) (p .kept .1 .0),
-      c .find2 .ensures,
-    )
-
-list-requires-2 : tie.Need-list-requires-2 Inv-loop μ-loop
-list-requires-2 c κs =
-    let l = c .before .before .before .loop in
-    let a = c .before .before .before .before .before .before .before .before .args in
-    (l .inv .1 .before .forward, l .inv .0 .countFits, search (needs, l .inv .1 .before .within))
+    let a = c .before .before .before .before .before .before .before .before .before .before .before .before .before .before .before .before .before .args in
+    let s = c .before .before .before .before .before .before .follow in
+    let f = c .before .before .before .before .before .before .before .before .before .before .before .find in
+    let r = c .before .before .before .before .before .before .before .before .before .list in
+    let p = c .before .before .before .put in
+    going-on (now (a .buf)) (now (a .out)) (now (a .runs)) (l .at) (l .kept) (l .long) (l .count) (l .out) (l .runs) (l .inv) (c .before .before .before .before .before .before .before .before .before .before .before .before .loop-test .taken) (f .result) (f .ensures) _ _
+    (r .ensures) (r .kept .0) (s .result) (s .ensures) _ refl _ _ (p .ensures .0) (p .ensures .1) (p .kept .1 .0)
 
 same-length : tie.Need-same-length Inv-loop μ-loop
-same-length c = search needs
+same-length c = c .before .loop .inv .outLong
 
 same-length-2 : tie.Need-same-length-2 Inv-loop μ-loop
-same-length-2 c = search needs
+same-length-2 c = c .before .loop .inv .runsLong
 
 returns : tie.Need-returns Inv-loop μ-loop
 returns c =
-    let l = c .before .before .before .before .before .before .loop in
-    let a = c .before .before .before .before .before .before .before .before .before .before .before .args in
-    let r = c .before .before .list2 in
-    going-ends (now (a .buf)) (now (a .out)) (now (a .runs)) (l .at) (l .kept) (l .long) (l .count) (l .out) (l .runs) (l .inv .0) (l .found) (l .inv .1) _ _ (r .ensures) (r .kept .0)
-    (c .before .before .before .before .if1 .left)
+    let l = c .before .loop in
+    let a = c .before .before .before .before .before .args in
+    going-ends (now (a .buf)) (now (a .out)) (now (a .runs)) (l .at) (l .kept) (l .long) (l .count) (l .out) (l .runs) (l .inv) (c .loop-test .left)
 
 pub walk-spec : {M : Type 1} → statement M
 walk-spec =
@@ -113,19 +82,17 @@ walk-spec =
     (tie.spec
     Inv-loop
     μ-loop
-    find-requires
     loop-holds
-    add-next
+    find-requires
     list-requires
+    follow-requires
     sub-put
     part-put-start
     part-put-end
     put-requires
     add-kept
-    find-requires-2
     loop-less
     loop-again
-    list-requires-2
     same-length
     same-length-2
     returns)
