@@ -1,7 +1,7 @@
 -- Frames kept and runs are all of a recording, and runs lie apart. Assumes nothing.
 use Prim.Native.Nat.{ℕ, suc, _+_, _-_, _*_, _≤_, _<_}
 use native.Mathlib.Omega.{arith}
-use mathlib.Core.Path.{_≡_, refl, sym, subst, _∙_}
+use mathlib.Core.Path.{_≡_, refl, sym, ap, subst, _∙_}
 use mathlib.Core.Bool.{Bool, true, false}
 use mathlib.Core.List.{List, [], _∷_, _++_, flatten}
 use lib.Dec.{eqb}
@@ -16,10 +16,13 @@ use Rattle.recording.proofs.WalkLaws.{passes-least, walk-by}
 pub run-none : (place : ℕ) → run place place ≡ []
 run-none place = simp (eq-eqb place place refl)
 
+pub run-some : (first next : ℕ) → (first ≡ next → ⊥) → run first next ≡ record { place = first; long = next - first } ∷ []
+run-some first next ne = simp (ne-eqb first next ne)
+
 pub run-one : (place long : ℕ) → 0 < long → run place (place + long) ≡ record { place = place; long = long } ∷ []
 run-one place long h =
     let e : place + long - place ≡ long = omega arith in
-    simp (ne-eqb place (place + long) (λ q. omega arith), e)
+    run-some place (place + long) (λ q. omega arith) ∙ ap (λ (n : ℕ). record { place = place; long = n } ∷ []) e
 
 run-by : (P : List Run → Type 0) (first next : ℕ) → first ≤ next → (first ≡ next → P [])
     → (0 < next - first → P (record { place = first; long = next - first } ∷ []))
@@ -28,11 +31,7 @@ run-by P first next h none some = go (eqb first next) refl
   where
     go : (t : Bool) → eqb first next ≡ t → P (run first next)
     go true e = let q = eqb-true first next e in subst (λ (n : ℕ). P (run first n)) q (subst P (sym (run-none first)) (none q))
-    go false e =
-        let ne = eqb-false first next e in
-        let l : 0 < next - first = omega (arith, ne) in
-        let q : first + (next - first) ≡ next = omega arith in
-        subst (λ (n : ℕ). P (run first n)) q (subst P (sym (run-one first (next - first) l)) (some l))
+    go false e = let ne = eqb-false first next e in subst P (sym (run-some first next ne)) (some (omega (arith, ne)))
 
 -- ---- bytes kept and bytes skipped
 run-long : (first next : ℕ) (rs : List Run) → first ≤ next → longAll (run first next ++ rs) ≡ next - first + longAll rs

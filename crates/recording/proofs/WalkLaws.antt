@@ -83,21 +83,9 @@ passes-whole frame rest p =
 pub passes-least : (frame : List ℕ) → Passes frame → leastFrame ≤ length frame
 passes-least frame p = omega (arith, stands-long frame (holds-stands frame (p .checks)) .least, p .exact)
 
--- ---- none stands: too few bytes, another kind, a body too short for a header, past the limit or past the end
-pub short-none : (rest : List ℕ) → length rest < leastFrame → stands rest ≡ false
-short-none rest h = stands-not rest (λ e. let s = stands-long rest e in omega (arith, s .inside, s .least))
-
+-- ---- none stands: another kind
 pub kind-none : (rest : List ℕ) → (kindIn rest ≡ dataKind → ⊥) → stands rest ≡ false
 kind-none rest ne = stands-not rest (λ e. ne (eqb-true (kindIn rest) dataKind (not-false (eqb (kindIn rest) dataKind) (own-parts rest (stands-holds rest e) .1))))
-
-pub small-none : (rest : List ℕ) → sizeIn rest .0 < headerSize → stands rest ≡ false
-small-none rest h = stands-not rest (λ e. let s = stands-long rest e in omega (arith, s .least))
-
-pub large-none : (rest : List ℕ) → sessionLimit .0 < sizeIn rest .0 → stands rest ≡ false
-large-none rest h = stands-not rest (λ e. let s = stands-long rest e in omega (arith, s .most))
-
-pub cut-none : (rest : List ℕ) → length rest < wholeLong rest → stands rest ≡ false
-cut-none rest h = stands-not rest (λ e. let s = stands-long rest e in omega (arith, s .inside))
 
 -- ---- a step by what stands
 step-by : (rest : List ℕ) (t : Bool) → stands rest ≡ t → stepIn rest ≡ pick t (kept (whole rest)) skipped

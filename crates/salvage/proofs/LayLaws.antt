@@ -6,12 +6,12 @@ use native.Mathlib.Nat.{add-zero}
 use native.Mathlib.Omega.{arith}
 use lib.ListN.{length, take, drop, set, length-append, length-drop, take-append-drop}
 use lib.Seq.{drop-drop, drop-at, take-at, length-take-le}
-use borrow.Author.Tests.{eq-eqb, ne-eqb}
 use Rattle.wire.specs.Writing.{filled, copied}
 use Rattle.wire.proofs.CopyLaws.{copied-same}
 use Rattle.wire.proofs.ListLaws.{two-stored}
 use Rattle.recording.specs.Walk.{Run, run}
 use Rattle.recording.specs.Salvage.{numbers}
+use Rattle.recording.proofs.RunLaws.{run-none, run-some}
 use Rattle.salvage.specs.Walks.{laid, Laid, LaidRun}
 
 -- one piece after what was laid before it
@@ -34,26 +34,23 @@ put-laid out frame long n ys e h c =
 
 -- ---- a run, as `list` lists it
 module _ (runs : List ℕ) (count first next : ℕ) where
-  run-none : first ≡ next → run first next ≡ []
-  run-none e = simp (eq-eqb first next e)
-
-  run-one : (first ≡ next → ⊥) → run first next ≡ record { place = first; long = next - first } ∷ []
-  run-one ne = simp (ne-eqb first next ne)
+  none-run : first ≡ next → run first next ≡ []
+  none-run e = ap (run first) (sym e) ∙ run-none first
 
   pub list-nothing : first ≡ next → LaidRun runs count first next count runs
   unfolding numbers
   list-nothing e = record {
-    counted = sym (ap (λ (rs : List Run). count + length rs) (run-none e) ∙ add-zero count);
-    listed = λ h. sym (ap (λ (rs : List Run). laid runs (2 * count) (numbers rs)) (run-none e) ∙ take-append-drop (2 * count) runs);
+    counted = sym (ap (λ (rs : List Run). count + length rs) (none-run e) ∙ add-zero count);
+    listed = λ h. sym (ap (λ (rs : List Run). laid runs (2 * count) (numbers rs)) (none-run e) ∙ take-append-drop (2 * count) runs);
   }
 
   module _ (ne : first ≡ next → ⊥) where
     one-counted : count + 1 ≡ count + length (run first next)
-    one-counted = sym (ap (λ (rs : List Run). count + length rs) (run-one ne))
+    one-counted = sym (ap (λ (rs : List Run). count + length rs) (run-some first next ne))
 
     two-numbers : numbers (run first next) ≡ first ∷ (next - first) ∷ []
     unfolding numbers
-    two-numbers = ap numbers (run-one ne)
+    two-numbers = ap numbers (run-some first next ne)
 
     pub list-counted : length runs < 2 * count + 2 → LaidRun runs count first next (count + 1) runs
     list-counted h = record { counted = one-counted; listed = λ room. absurd (omega (arith, ap length two-numbers)) }

@@ -1,6 +1,7 @@
 -- The laws that the proofs of `salvage`'s functions cite.
 pub mod MarkLaws
 pub mod LayLaws
+pub mod PlaceLaws
 pub mod GoingLaws
 pub mod RoomLaws
 pub mod OneAnswer

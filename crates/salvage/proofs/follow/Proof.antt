@@ -9,7 +9,7 @@ use Rattle.wire.specs.Checks.{pick}
 use Rattle.recording.specs.Walk.{stands, wholeLong}
 use Rattle.salvage.specs.Walks.{Frames}
 use Rattle.salvage.proofs.MarkLaws.{whole-none, whole-some}
-use Rattle.salvage.proofs.GoingLaws.{frames-none, frame-inside, frames-more, stretch-ends}
+use Rattle.salvage.proofs.PlaceLaws.{frames-none, frame-inside, frames-more, stretch-ends}
 use Rattle.salvage.proofs.follow.Statement.{statement}
 use Rattle.salvage.proofs.follow.Tie as tie
 

@@ -4,7 +4,8 @@ use denote.Ref.{now}
 use native.Mathlib.Omega.{arith}
 use mathlib.Core.Path.{refl}
 use lib.ListN.{length}
-use Rattle.salvage.proofs.GoingLaws.{Going, going-start, goes-forward, going-on, going-ends}
+use Rattle.salvage.proofs.PlaceLaws.{goes-forward}
+use Rattle.salvage.proofs.GoingLaws.{Going, going-start, going-on, going-ends}
 use Rattle.salvage.proofs.walk.Statement.{statement}
 use Rattle.salvage.proofs.walk.Tie as tie
 
