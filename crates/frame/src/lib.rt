@@ -27,6 +27,9 @@ const HEAD: usize = 12;
 
 const LAST_KIND: u32 = 4;
 
+// The kind of a data frame.
+pub const DATA: u32 = 2;
+
 const SESSION_LIMIT: u32 = 131068;
 
 // What stands at a place of the stream. The place stays the caller's: a refused read leaves it where it was.

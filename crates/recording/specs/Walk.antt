@@ -19,6 +19,10 @@ wholeLong rest = headSize + sizeIn rest .0
 abbrev pub whole : List ℕ → List ℕ
 whole rest = take (wholeLong rest) rest
 
+-- how many bytes the frame takes that stands at a place, or 0 where none does
+abbrev pub wholeAt : List ℕ → ℕ → ℕ
+wholeAt b place = pick (stands (drop place b)) (wholeLong (drop place b)) 0
+
 -- a step of the walk: a frame kept, or a byte skipped
 pub data Step : Type 0 where
   kept : List ℕ → Step

@@ -1,19 +1,16 @@
 // A damaged recording salvaged: the frames that pass are copied one after the other, and each run of bytes between them is listed.
+use frame::DATA;
 use frame::FrameAnswer;
 use message::HeaderAnswer;
 use wire::refusal;
 ghost use mathlib.Core.Path.{_≡_};
 ghost use mathlib.Core.Bool.{false};
 ghost use Prim.Native.Nat.{_+_, _*_, _^_, _≤_, _<_};
-ghost use lib.ListN.{length, drop};
-ghost use Rattle.wire.specs.Checks.{pick};
-ghost use Rattle.recording.specs.Walk.{stands, wholeLong, nextKept};
+ghost use lib.ListN.{length};
+ghost use Rattle.recording.specs.Walk.{wholeAt, nextKept};
 ghost use Rattle.recording.specs.Salvage.{salvageOf};
 ghost use Rattle.salvage.specs.Answers.{Salvages};
 ghost use Rattle.salvage.specs.Walks.{Unmarked, NoneFrom, FoundFrom, StretchFrom, Laid, LaidRun, WalkedOver, roomFor};
-
-// The kind of a data frame.
-const DATA: u32 = 2;
 
 // The bytes of the least frame that passes: its head and a header.
 const LEAST: usize = 28;
@@ -43,7 +40,7 @@ struct Totals {
 
 // The bytes of the frame at a place of the buffer, if it is a data frame with a header that passes; 0 if none begins there.
 pub fn whole_at(buf: &[u8], place: usize) -> usize
-    ensures { λ r. ⌜ r ≡ pick (stands (drop place (now (buf .entry)))) (wholeLong (drop place (now (buf .entry)))) 0 ⌝ }
+    ensures { λ r. ⌜ r ≡ wholeAt (now (buf .entry)) place ⌝ }
 {
     match frame::frame_at(buf, place) {
         FrameAnswer::End => 0,

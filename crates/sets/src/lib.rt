@@ -13,6 +13,7 @@ ghost use Rattle.segments.specs.Segment.{agreeChecks};
 ghost use Rattle.segments.specs.Walk.{setOf};
 ghost use Rattle.sets.specs.Promises.{tellSet};
 ghost use Rattle.sets.specs.Arrays.{SegmentRead, TurnTaken, Blank, Gathers, Parts, Within, allSet, partsLong, parts};
+use frame::DATA;
 use frame::FrameAnswer;
 use message::Header;
 use message::HeaderAnswer;
@@ -24,8 +25,6 @@ pub enum SetAnswer {
     Set(Header, Bytes),
     Refused(u8),
 }
-
-const DATA: u32 = 2;
 
 const HEADER: usize = 16;
 
