@@ -1,2 +1,2 @@
--- What the library answers of frames and sets, as the structs that C receives.
+-- What the library answers of frames, sets and recordings, as the structs that C receives.
 pub mod Frames

@@ -1,14 +1,16 @@
-// Frames, message headers and sets as C receives them, and the writer of frames.
+// Frames, message headers, sets and salvages as C receives them, and the writer of frames.
 ghost use mathlib.Core.Path.{_≡_};
 ghost use Rattle.wire.specs.Answers.{refused, given};
 ghost use Rattle.frame.specs.Session.{frameAt};
 ghost use Rattle.segments.specs.Walk.{setOf};
+ghost use Rattle.recording.specs.Salvage.{salvageOf};
 ghost use Rattle.writer.specs.Writing.{writeOf};
 ghost use Rattle.c_lent.specs.Lent.{Leaves, writtenFace};
-ghost use Rattle.c_frames.specs.Frames.{noFrame, frameFace, headerFace, setFace};
+ghost use Rattle.c_frames.specs.Frames.{noFrame, frameFace, headerFace, setFace, LeavesBoth};
 use c_lent::UlmWritten;
 use frame::FrameAnswer;
 use message::Header;
+use salvage::SalvageAnswer;
 use sets::SetAnswer;
 use writer::Given;
 
@@ -48,6 +50,14 @@ pub struct UlmSet {
     pub segments: u32,
     pub number: u32,
     pub length: u64,
+}
+
+#[repr(C)]
+pub struct UlmSalvage {
+    pub refusal: u8,
+    pub kept: u64,
+    pub length: u64,
+    pub runs: u64,
 }
 
 pub fn frame(buf: &[u8], place: usize) -> UlmFrame
@@ -148,6 +158,26 @@ fn no_set(number: u8) -> UlmSet
         segments: 0,
         number: 0,
         length: 0,
+    }
+}
+
+pub fn salvage(buf: &[u8], out: &mut [u8], runs: &mut [u64]) -> UlmSalvage
+    ensures { λ r. ⌜ LeavesBoth (salvageOf (now (buf .entry)) (now (out .entry)) (now (runs .entry))) r (now (out .exit)) (now (runs .exit)) ⌝ }
+{
+    match salvage::salvage(buf, out, runs) {
+        SalvageAnswer::Salvaged(kept, long, count) => salvage_with(0, kept, long, count),
+        SalvageAnswer::Refused(number) => salvage_with(number, 0, 0, 0),
+    }
+}
+
+fn salvage_with(refusal: u8, kept: usize, long: usize, count: usize) -> UlmSalvage
+    ensures { λ r. ⌜ r ≡ record { refusal = refusal; kept = kept; length = long; runs = count } ⌝ }
+{
+    UlmSalvage {
+        refusal,
+        kept: kept as u64,
+        length: long as u64,
+        runs: count as u64,
     }
 }
 

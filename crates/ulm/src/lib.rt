@@ -4,6 +4,7 @@ ghost use mathlib.Core.Path.{_≡_};
 ghost use Rattle.frame.specs.Session.{frameAt};
 ghost use Rattle.message.specs.Header.{headerOf};
 ghost use Rattle.segments.specs.Walk.{setOf};
+ghost use Rattle.recording.specs.Salvage.{salvageOf};
 ghost use Rattle.writer.specs.Writing.{writeOf};
 ghost use Rattle.description.specs.Refusal.{radialOf};
 ghost use Rattle.description.specs.Lookups.{momentOf, blockOf};
@@ -13,7 +14,7 @@ ghost use Rattle.clutter.specs.Censor.{censorOf, censorWritten};
 ghost use Rattle.map.specs.Reading.{summaryOf, codeOf};
 ghost use Rattle.differences.specs.Comparing.{comparisonOf};
 ghost use Rattle.c_lent.specs.Lent.{Leaves, writtenFace};
-ghost use Rattle.c_frames.specs.Frames.{frameFace, headerFace, setFace};
+ghost use Rattle.c_frames.specs.Frames.{frameFace, headerFace, setFace, LeavesBoth};
 ghost use Rattle.c_radials.specs.Radials.{radialFace, blockFace, gatesFace, worthFace};
 ghost use Rattle.c_bodies.specs.Bodies.{requestFace, censorFace, mapFace, mapCodeFace, comparisonFace};
 use c_bodies::UlmCensor;
@@ -23,6 +24,7 @@ use c_bodies::UlmMapCode;
 use c_bodies::UlmRequest;
 use c_frames::UlmFrame;
 use c_frames::UlmHeader;
+use c_frames::UlmSalvage;
 use c_frames::UlmSet;
 use c_lent::UlmWritten;
 use c_radials::UlmBlock;
@@ -54,6 +56,13 @@ pub extern "C" fn ulm_set(buf: &[u8], out: &mut [u8]) -> UlmSet
     ensures { λ r. ⌜ Leaves setFace (setOf (now (buf .entry)) (now (out .entry))) r (now (out .exit)) ⌝ }
 {
     c_frames::set(buf, out)
+}
+
+#[no_mangle]
+pub extern "C" fn ulm_salvage(buf: &[u8], out: &mut [u8], runs: &mut [u64]) -> UlmSalvage
+    ensures { λ r. ⌜ LeavesBoth (salvageOf (now (buf .entry)) (now (out .entry)) (now (runs .entry))) r (now (out .exit)) (now (runs .exit)) ⌝ }
+{
+    c_frames::salvage(buf, out, runs)
 }
 
 #[no_mangle]
