@@ -3,7 +3,7 @@
  *
  * Every function is total: it takes any pointer with its length and any number, and gives one answer.
  * A slice is a pointer and a length that counts its elements; with length 0 the pointer may be null.
- * An input is never changed, and an output must not overlap an input.
+ * An input is never changed, and an output must not overlap an input or another output.
  *
  * Every answer is a struct by value. Its first member is `refusal`: 0, or one of ULM_REFUSED_*.
  * On a refusal every other member is 0 (but `next` of ulm_frame, see there) and no byte of an output has changed.
@@ -158,6 +158,29 @@ typedef struct ulm_set_answer {
  * Refusals, in order: for each frame in turn those of ulm_frame, 9, those of ulm_header, 10, 11; after all 12, 13.
  */
 ulm_set_answer ulm_set(const uint8_t *buf, size_t len, uint8_t *out, size_t out_len);
+
+/* ---- A damaged recording ---- */
+
+typedef struct ulm_salvage_answer {
+    uint8_t refusal;
+    uint64_t kept;   /* how many frames */
+    uint64_t length; /* of the kept frames in the output, in bytes */
+    uint64_t runs;   /* how many runs are listed */
+} ulm_salvage_answer;
+
+/*
+ * Salvages a damaged recording: walks the buffer from its start. Where a data frame stands that ulm_frame accepts, with
+ * a body that ulm_header accepts, it is copied whole to the output and the walk goes on after it; otherwise one byte is
+ * skipped. A message isn't tried past its header, and nothing is looked for inside a kept frame. Frames of other kinds
+ * are skipped bytes; a frame that is right by chance is kept.
+ *
+ * Each longest run of skipped bytes is listed by two numbers, its place in the buffer and its length. The list has room
+ * for n numbers, while `runs` of the answer counts runs. Kept frames and runs cover the buffer, each byte once.
+ * Between two runs stands a frame, of 28 bytes or more: out_len = len and n = 2 * ((len + 28) / 29) always suffice.
+ *
+ * Refusal: 13, where the output or the list is too small.
+ */
+ulm_salvage_answer ulm_salvage(const uint8_t *buf, size_t len, uint8_t *out, size_t out_len, uint64_t *runs, size_t n);
 
 /* ---- Writing ---- */
 

@@ -25,7 +25,7 @@
 #define JOINED(a, b) JOIN(a, b)
 #define ASK(entry) JOINED(SIDE, entry)
 
-enum { MOST_WORDS = 9, MOST_ROOM = 1 << 20, MOST_TEXT = 4 << 20 };
+enum { MOST_WORDS = 9, MOST_ROOM = 1 << 20, MOST_RUNS = 1 << 16, MOST_TEXT = 4 << 20 };
 
 /* The answer's text. */
 static char text[MOST_TEXT];
@@ -111,30 +111,60 @@ static struct list list(size_t i)
 static uint8_t *output;
 static size_t room;
 
+/* And a list of runs, which only a salvage has. */
+static uint64_t *runs;
+static size_t runs_room;
+
 static uint8_t pattern(size_t i)
 {
     return (uint8_t)(i * 37 + 11);
 }
 
+static uint8_t *in_pattern(size_t n)
+{
+    uint8_t *p = malloc(n + 1);
+    for (size_t i = 0; i < n; i++)
+        p[i] = pattern(i);
+    return p;
+}
+
 static void lend(uint64_t wanted)
 {
     room = wanted < MOST_ROOM ? (size_t)wanted : MOST_ROOM;
-    output = malloc(room + 1);
-    for (size_t i = 0; i < room; i++)
-        output[i] = pattern(i);
+    output = in_pattern(room);
 }
 
-/* Adds the refusal, if there is one; `length` is what an acceptance wrote. Whether there is more to say. */
+/* Room for that many runs, two numbers each. */
+static void lend_runs(uint64_t wanted)
+{
+    runs_room = 2 * sizeof *runs * (wanted < MOST_RUNS ? (size_t)wanted : MOST_RUNS);
+    runs = (uint64_t *)(void *)in_pattern(runs_room);
+}
+
+static int in_pattern_from(const void *bytes, size_t from, size_t n)
+{
+    const uint8_t *p = bytes;
+    for (; from < n; from++)
+        if (p[from] != pattern(from))
+            return 0;
+    return 1;
+}
+
+/* Adds the refusal, if there is one; an acceptance wrote that much of each output. Whether there is more to say. */
+static int both_accepted(uint32_t refusal, uint64_t length, uint64_t runs_length)
+{
+    int touched = !in_pattern_from(output, refusal == 0 ? length : 0, room)
+                  || !in_pattern_from(runs, refusal == 0 ? runs_length : 0, runs_room);
+    if (touched)
+        add("touched");
+    else if (refusal != 0)
+        add("no %" PRIu32, refusal);
+    return !touched && refusal == 0;
+}
+
 static int accepted(uint32_t refusal, uint64_t length)
 {
-    for (size_t i = refusal == 0 ? length : 0; i < room; i++)
-        if (output[i] != pattern(i)) {
-            add("touched");
-            return 0;
-        }
-    if (refusal != 0)
-        add("no %" PRIu32, refusal);
-    return refusal == 0;
+    return both_accepted(refusal, length, 0);
 }
 
 static void ask_frame(void)
@@ -171,6 +201,21 @@ static void ask_set(void)
     if (accepted(r.refusal, r.length)) {
         add("set" EIGHT_NUMBERS " ", HEADER_VALUES(r));
         add_bytes(output, r.length);
+    }
+    free(b.at);
+}
+
+static void ask_salvage(void)
+{
+    struct bytes b = bytes(2);
+    lend(number(0));
+    lend_runs(number(1));
+    JOINED(SIDE, salvage_answer) r = ASK(salvage)(b.at, b.n, output, room, runs, runs_room / sizeof *runs);
+    if (both_accepted(r.refusal, r.length, 2 * sizeof *runs * r.runs)) {
+        add("salvaged %" PRIu64 " %" PRIu64 " ", r.kept, r.runs);
+        add_bytes(output, r.length);
+        for (size_t i = 0; i < 2 * r.runs; i++)
+            add(" %" PRIu64, runs[i]);
     }
     free(b.at);
 }
@@ -318,6 +363,7 @@ static const struct {
     { "frame", 2, ask_frame },
     { "header", 1, ask_header },
     { "set", 2, ask_set },
+    { "salvage", 3, ask_salvage },
     { "write", 7, ask_write },
     { "radial", 1, ask_radial },
     { "gates", 2, ask_gates },
@@ -335,11 +381,13 @@ static void ask(const char *entry)
 {
     text_length = 0;
     output = NULL;
-    room = 0;
+    runs = NULL;
+    room = runs_room = 0;
     for (size_t i = 0; i < sizeof entries / sizeof *entries; i++)
         if (strcmp(entries[i].entry, entry) == 0 && entries[i].words == word_count) {
             entries[i].ask();
             free(output);
+            free(runs);
             return;
         }
     add("malformed");

@@ -8,6 +8,7 @@
 #include <string.h>
 #include <unistd.h>
 
+#include "bytewise.h"
 #include "kilometres.h"
 #include "lend.h"
 #include "make.h"
@@ -17,8 +18,8 @@
 /* ---- The entries, and the refusals that each can give ---- */
 
 enum entry {
-    FRAME, HEADER, SET, WRITE, RADIAL, BLOCK, GATES, GATE, VALUE, REQUEST, WRITE_REQUEST, CENSOR, WRITE_CENSOR, MAP,
-    MAP_CODE, COMPARE, ENTRIES
+    FRAME, HEADER, SET, SALVAGE, WRITE, RADIAL, BLOCK, GATES, GATE, VALUE, REQUEST, WRITE_REQUEST, CENSOR, WRITE_CENSOR,
+    MAP, MAP_CODE, COMPARE, ENTRIES
 };
 
 enum { LAST_REFUSAL = 26 };
@@ -34,6 +35,7 @@ static const struct {
     [FRAME] = { "frame", "n", FROM(1, 3) },
     [HEADER] = { "header", "", FROM(4, 8) },
     [SET] = { "set", "n", FROM(1, 13) },
+    [SALVAGE] = { "salvage", "nn", ONLY(13) },
     [WRITE] = { "write", "nnnnnn", ONLY(6) | ONLY(8) | ONLY(13) | FROM(25, 26) },
     [RADIAL] = { "radial", "", FROM(14, 20) },
     [BLOCK] = { "block", "n", FROM(14, 20) },
@@ -111,13 +113,18 @@ static void fault(int signal)
 
 /* ---- Lent memory ---- */
 
-static struct lent input, second, output;
+static struct lent input, second;
 static struct chance ways;
 static int heap;
 
-/* What an output holds before the call, and what the plain implementation makes of it. */
+/* An output: what it holds before the call, and what the plain implementation makes of it. */
+static struct output {
+    struct lent lent;
+    const uint8_t *contents;
+    _Alignas(uint64_t) uint8_t expected[MOST_BYTES];
+} output, runs; /* only SALVAGE has the other one */
+
 static uint8_t before[MOST_BYTES];
-static _Alignas(uint16_t) uint8_t expected[MOST_BYTES];
 
 void compare_open(uint64_t seed, int on_heap)
 {
@@ -128,7 +135,8 @@ void compare_open(uint64_t seed, int on_heap)
     sigaction(SIGFPE, &action, NULL);
     lent_open(&input, MOST_BYTES);
     lent_open(&second, MOST_BYTES);
-    lent_open(&output, MOST_BYTES);
+    lent_open(&output.lent, MOST_BYTES);
+    lent_open(&runs.lent, MOST_BYTES);
     seed_of_run = seed;
     ways.state = ~seed;
     heap = on_heap;
@@ -164,43 +172,30 @@ static const uint8_t *lend_second(void)
     return lend(&second, now.second, now.second_n, any_way(), (unsigned)below(&ways, 64));
 }
 
-/* Halfwords lie at even places, unless there are none. */
-static uint16_t *lend_halfwords(struct lent *l, const void *bytes, size_t n)
+/* Numbers of that many bytes each lie at places that are multiples of it, unless there are none. */
+static void *lend_numbers(struct lent *l, const void *bytes, size_t n, unsigned wide)
 {
     unsigned odd = (unsigned)below(&ways, 64);
-    return (uint16_t *)(void *)lend(l, bytes, n, any_way(), n == 0 ? odd : odd & ~1u);
+    return lend(l, bytes, n, any_way(), n == 0 ? odd : odd / wide * wide);
 }
 
 static const uint16_t *lend_list(void)
 {
     now.side = "libulm";
-    return lend_halfwords(&input, now.bytes, now.n);
+    return lend_numbers(&input, now.bytes, now.n, sizeof(uint16_t));
 }
 
-/* The output's contents before a call begin at any of 256 places, so that no byte is the same each time. */
-static const uint8_t *contents;
-
-static uint8_t *expect_output(size_t room)
+/* An output's contents before a call begin at any of 256 places, so that no byte is the same each time. */
+static void *expect(struct output *o, size_t room)
 {
-    contents = before + below(&ways, 256 < sizeof before - room ? 256 : sizeof before - room + 1);
-    memcpy(expected, contents, room);
-    return room == 0 ? NULL : expected;
+    o->contents = before + below(&ways, 256 < sizeof before - room ? 256 : sizeof before - room + 1);
+    memcpy(o->expected, o->contents, room);
+    return room == 0 ? NULL : o->expected;
 }
 
-static uint8_t *lend_output(size_t room)
+static void *lend_output(struct output *o, size_t room, unsigned wide)
 {
-    return lend(&output, contents, room, any_way(), (unsigned)below(&ways, 64));
-}
-
-static void settle_output(uint32_t refusal, uint64_t length)
-{
-    size_t kept = refusal == 0 ? (size_t)length : 0;
-    if (kept > output.n || memcmp(output.at + kept, contents + kept, output.n - kept) != 0)
-        fail("output was changed on a refusal or past the reported length");
-    if (memcmp(output.at, expected, output.n) != 0)
-        fail("the output differs");
-    if (!taken_back(&output))
-        fail("memory beside the output was changed");
+    return lend_numbers(&o->lent, o->contents, room, wide);
 }
 
 /* ---- Comparing ---- */
@@ -233,6 +228,23 @@ static void settle_input(struct lent *l, const void *bytes)
         fail("an input was changed");
     if (!taken_back(l))
         fail("memory beside an input was changed");
+}
+
+static void settle_output(struct output *o, uint32_t refusal, uint64_t length)
+{
+    struct lent *l = &o->lent;
+    size_t kept = refusal == 0 ? (size_t)length : 0, i = 0;
+    if (kept > l->n || memcmp(l->at + kept, o->contents + kept, l->n - kept) != 0)
+        fail("an output was changed on a refusal or past the reported length");
+    if (memcmp(l->at, o->expected, l->n) != 0) {
+        while (l->at[i] == o->expected[i])
+            i++;
+        same("output, at byte", i, i);
+        same("output", o->expected[i], l->at[i]);
+        fail("an output differs");
+    }
+    if (!taken_back(l))
+        fail("memory beside an output was changed");
 }
 
 static void settle(void)
@@ -269,11 +281,47 @@ void compare_header(const uint8_t *msg, size_t n)
 void compare_set(const uint8_t *buf, size_t n, size_t room)
 {
     ask(SET, buf, n, room, 0, 0);
-    plain_set_answer p = plain_set(buf, n, expect_output(room), room);
-    uint8_t *out = lend_output(room);
+    plain_set_answer p = plain_set(buf, n, expect(&output, room), room);
+    uint8_t *out = lend_output(&output, room, 1);
     ulm_set_answer u = ulm_set(lend_bytes(), n, out, room);
     SAME(refusal), SAME_EACH_HEADER, SAME(length);
-    settle_output(u.refusal, u.length);
+    settle_output(&output, u.refusal, u.length);
+    settle();
+}
+
+/* Whether the plain implementation left an output of that room with n bytes at its start and the rest as it was. */
+static int left_with(const struct output *o, const void *bytes, size_t n, size_t room)
+{
+    return memcmp(o->expected, bytes, n) == 0 && memcmp(o->expected + n, o->contents + n, room - n) == 0;
+}
+
+/* Whether the plain implementation's answer, and what it left in both outputs, is what single bytes give. */
+static int as_bytewise(const uint8_t *buf, size_t n, size_t room, size_t numbers, plain_salvage_answer p)
+{
+    static uint8_t bytes[MOST_BYTES];
+    static uint64_t list[2 * (MOST_BYTES / 29 + 1)];
+    struct bytewise r = salvage_bytewise(buf, n, bytes, list);
+    uint32_t refusal = r.length > room || 2 * r.runs > numbers ? 13 : 0;
+    if (refusal != 0)
+        r = (struct bytewise){ 0, 0, 0 };
+    return p.refusal == refusal && p.kept == r.kept && p.length == r.length && p.runs == r.runs
+           && left_with(&output, bytes, r.length, room)
+           && left_with(&runs, list, 2 * r.runs * sizeof *list, numbers * sizeof *list);
+}
+
+void compare_salvage(const uint8_t *buf, size_t n, size_t room, size_t numbers)
+{
+    size_t runs_room = numbers * sizeof(uint64_t);
+    ask(SALVAGE, buf, n, room, numbers / 2, 0);
+    plain_salvage_answer p = plain_salvage(buf, n, expect(&output, room), room, expect(&runs, runs_room), numbers);
+    if (!as_bytewise(buf, n, room, numbers, p))
+        fail("the plain implementation's salvage is not that of single bytes");
+    uint8_t *out = lend_output(&output, room, 1);
+    uint64_t *list = lend_output(&runs, runs_room, sizeof *list);
+    ulm_salvage_answer u = ulm_salvage(lend_bytes(), n, out, room, list, numbers);
+    SAME(refusal), SAME(kept), SAME(length), SAME(runs), same("room, in numbers", numbers, numbers);
+    settle_output(&output, u.refusal, u.length);
+    settle_output(&runs, u.refusal, 2 * u.runs * sizeof *list);
     settle();
 }
 
@@ -284,11 +332,11 @@ void compare_write(uint8_t channel, uint8_t type, uint16_t sequence, uint16_t da
     now.numbers[3] = date;
     now.numbers[4] = ms;
     now.numbers[5] = room;
-    plain_written_answer p = plain_write(channel, type, sequence, date, ms, body, n, expect_output(room), room);
-    uint8_t *out = lend_output(room);
+    plain_written_answer p = plain_write(channel, type, sequence, date, ms, body, n, expect(&output, room), room);
+    uint8_t *out = lend_output(&output, room, 1);
     ulm_written_answer u = ulm_write(channel, type, sequence, date, ms, lend_bytes(), n, out, room);
     SAME(refusal), SAME(length);
-    settle_output(u.refusal, u.length);
+    settle_output(&output, u.refusal, u.length);
     settle();
 }
 
@@ -363,15 +411,15 @@ void compare_request(const uint8_t *body, size_t n)
 static void same_list_written(plain_written_answer p, ulm_written_answer u)
 {
     SAME(refusal), SAME(length);
-    settle_output(u.refusal, u.length);
+    settle_output(&output, u.refusal, u.length);
     settle();
 }
 
 void compare_write_request(const uint16_t *list, size_t n, size_t room)
 {
     ask(WRITE_REQUEST, list, 2 * n, room, 0, 0);
-    plain_written_answer p = plain_write_request(list, n, expect_output(room), room);
-    uint8_t *out = lend_output(room);
+    plain_written_answer p = plain_write_request(list, n, expect(&output, room), room);
+    uint8_t *out = lend_output(&output, room, 1);
     same_list_written(p, ulm_write_request(lend_list(), n, out, room));
 }
 
@@ -388,8 +436,8 @@ void compare_censor(const uint8_t *body, size_t n)
 void compare_write_censor(const uint16_t *list, size_t n, size_t room)
 {
     ask(WRITE_CENSOR, list, 2 * n, room, 0, 0);
-    plain_written_answer p = plain_write_censor(list, n, expect_output(room), room);
-    uint8_t *out = lend_output(room);
+    plain_written_answer p = plain_write_censor(list, n, expect(&output, room), room);
+    uint8_t *out = lend_output(&output, room, 1);
     same_list_written(p, ulm_write_censor(lend_list(), n, out, room));
 }
 
@@ -417,7 +465,9 @@ static int as_by_kilometres(const uint8_t *old_map, const uint8_t *new_map, size
 {
     static uint16_t list[MAP_HALFWORDS];
     size_t n = list_by_kilometres(old_map, new_map, list);
-    return n > room ? p.refusal == 13 : p.refusal == 0 && n == 6 * p.differences && memcmp(list, expected, 2 * n) == 0;
+    if (n > room)
+        return p.refusal == 13;
+    return p.refusal == 0 && n == 6 * p.differences && memcmp(list, output.expected, 2 * n) == 0;
 }
 
 size_t compare_comparison(const uint8_t *old_map, size_t old_n, const uint8_t *new_map, size_t new_n, size_t room)
@@ -425,17 +475,16 @@ size_t compare_comparison(const uint8_t *old_map, size_t old_n, const uint8_t *n
     ask(COMPARE, old_map, old_n, room, 0, 0);
     now.second = new_map;
     now.second_n = new_n;
-    const uint16_t *wanted = (const uint16_t *)(const void *)expected;
-    plain_comparison_answer p
-        = plain_compare_maps(old_map, old_n, new_map, new_n, (uint16_t *)(void *)expect_output(2 * room), room);
+    const uint16_t *wanted = (const uint16_t *)(const void *)output.expected;
+    plain_comparison_answer p = plain_compare_maps(old_map, old_n, new_map, new_n, expect(&output, 2 * room), room);
     if ((p.refusal == 0 || p.refusal == 13) && !as_by_kilometres(old_map, new_map, room, p))
         fail("the plain implementation's differences are not those of single kilometres");
-    uint16_t *out = lend_halfwords(&output, contents, 2 * room);
+    uint16_t *out = lend_output(&output, 2 * room, sizeof *out);
     const uint8_t *old_lent = lend_bytes(), *new_lent = lend_second();
     ulm_comparison_answer u = ulm_compare_maps(old_lent, old_n, new_lent, new_n, out, room);
     SAME(refusal), SAME(old_elevations), SAME(new_elevations), SAME(differences);
     same_halfwords("list from 0, at", "list", wanted, out, 6 * p.differences);
-    settle_output(u.refusal, 12 * (uint64_t)u.differences);
+    settle_output(&output, u.refusal, 12 * (uint64_t)u.differences);
     settle();
     return p.differences;
 }

@@ -16,6 +16,8 @@ void compare_open(uint64_t seed, int on_heap);
 void compare_frame(const uint8_t *buf, size_t n, uint64_t place);
 void compare_header(const uint8_t *msg, size_t n);
 void compare_set(const uint8_t *buf, size_t n, size_t room);
+/* The list of runs has room for that many numbers. */
+void compare_salvage(const uint8_t *buf, size_t n, size_t room, size_t numbers);
 void compare_write(uint8_t channel, uint8_t type, uint16_t sequence, uint16_t date, uint32_t ms, const uint8_t *body,
                    size_t n, size_t room);
 void compare_radial(const uint8_t *body, size_t n);

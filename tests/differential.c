@@ -14,6 +14,7 @@
 #include <string.h>
 #include <time.h>
 
+#include "bytewise.h"
 #include "compare.h"
 #include "kilometres.h"
 #include "make.h"
@@ -301,7 +302,8 @@ static void header_edges(void)
         }
 }
 
-/* Numbers of every size where N is 1, 2 and 0: alone, and as sets of one frame, with and without room, and of two. */
+/* Numbers of every size where N is 1, 2 and 0: alone, as sets of one frame, with and without room, and of two, and as
+ * recordings of one frame. */
 static void lone_number_edges(void)
 {
     static const uint32_t lone_types[] = { 9, 31 };
@@ -313,6 +315,7 @@ static void lone_number_edges(void)
                 size_t n = make_segment(bytes, &s, body, 2);
                 compare_header(bytes + 12, n - 12);
                 compare_set(bytes, n, number % 3);
+                compare_salvage(bytes, n, n, 2);
                 s.number = 1;
                 compare_set(bytes, n + make_segment(bytes + n, &s, body, 2), 4);
             }
@@ -500,6 +503,353 @@ static void set_by_chance(void)
     else
         damage();
     compare_set(message, message_size, room);
+}
+
+/* ---- Damaged recordings ---- */
+
+/* Puts some bytes, which don't lie in the message, in place of others at a place of it, if there is room. */
+static void replace(size_t at, size_t less, const uint8_t *bytes, size_t more)
+{
+    if (message_size - less + more > MOST_BYTES)
+        return;
+    memmove(message + at + more, message + at + less, message_size - at - less);
+    if (more != 0)
+        memcpy(message + at, bytes, more);
+    message_size += more - less;
+}
+
+static void add(const uint8_t *bytes, size_t n)
+{
+    replace(message_size, 0, bytes, n);
+}
+
+/* Bytes by chance, half of the time only ones that a kind has. */
+static void fill_any(uint8_t *p, size_t n)
+{
+    unsigned codes = one_in(2) ? 256 : 1 + (unsigned)pick(3);
+    fill(&dice, p, n);
+    for (size_t i = 0; i < n; i++)
+        p[i] = (uint8_t)(p[i] % codes);
+}
+
+/* A data frame that passes, with any second number and that much data. */
+static size_t any_kept(uint8_t *out, size_t data)
+{
+    struct make_segment s = any_segment();
+    if (data > 2400) {
+        s.type = 31;
+        s.segments = 1;
+    }
+    fill_any(out + 28, data);
+    size_t n = make_segment(out, &s, out + 28, data);
+    put(out + 4, 4, one_in(2) ? 0 : chance(&dice));
+    return n;
+}
+
+static void add_kept(size_t data)
+{
+    static uint8_t bytes[28 + 131052];
+    add(bytes, any_kept(bytes, data));
+}
+
+/* What a salvage of the message takes of both outputs, and what it writes to the first one. */
+static uint8_t salvaged[MOST_BYTES];
+
+static struct bytewise taken(void)
+{
+    static uint64_t list[2 * (MOST_BYTES / 29 + 1)];
+    return salvage_bytewise(message, message_size, salvaged, list);
+}
+
+/* The numbers that always suffice for a list of runs. */
+static size_t most_numbers(void)
+{
+    return 2 * ((message_size + 28) / 29);
+}
+
+/* With what always suffices, with what just suffices, and with rooms near that. */
+static void ask_salvage(void)
+{
+    struct bytewise r = taken();
+    compare_salvage(message, message_size, message_size, most_numbers());
+    compare_salvage(message, message_size, r.length, 2 * r.runs);
+    compare_salvage(message, message_size, room_near(r.length), room_near(2 * r.runs));
+}
+
+/* With each room around none, one run, what just suffices and what always does, for both outputs. */
+static void ask_salvage_rooms(void)
+{
+    struct bytewise r = taken();
+    size_t n = message_size, length = r.length, numbers = 2 * r.runs, most = most_numbers();
+    size_t rooms[] = { 0, 1, length - 1, length, length + 1, n - 1, n, n + 1 };
+    size_t lists[] = { 0, 1, 2, 3, numbers - 2, numbers - 1, numbers, numbers + 1, most - 2, most - 1, most, most + 1 };
+    for (size_t i = 0; i < COUNT(rooms); i++)
+        for (size_t k = 0; k < COUNT(lists); k++)
+            if (rooms[i] <= n + 1 && lists[k] <= most + 1) /* else it would be below 0 */
+                compare_salvage(message, message_size, rooms[i], lists[k]);
+}
+
+/* What was kept of the message, salvaged again: it stays whole. */
+static void salvage_again(void)
+{
+    size_t n = taken().length;
+    start_from(salvaged, n);
+    if (taken().length != n) {
+        fprintf(stderr, "what was kept is not kept again\n");
+        exit(2);
+    }
+    ask_salvage();
+}
+
+/* Four short frames: each stretch of them cut out, doubled, or lost to zeros. */
+static void stretch_edges(void)
+{
+    static const uint8_t zeros[256];
+    uint8_t bytes[256];
+    message_size = 0;
+    for (size_t data = 0; data <= 6; data += 2)
+        add_kept(data);
+    ask_salvage_rooms();
+    size_t n = message_size;
+    memcpy(bytes, message, n);
+    for (size_t at = 0; at <= n; at++)
+        for (size_t end = at; end <= n; end++) {
+            start_from(bytes, n);
+            replace(at, end - at, NULL, 0);
+            ask_salvage();
+            start_from(bytes, n);
+            replace(at, 0, bytes + at, end - at);
+            ask_salvage();
+            start_from(bytes, n);
+            replace(at, end - at, zeros, end - at);
+            ask_salvage();
+        }
+}
+
+enum { INSERTED = 28 + 8 + 12 };
+
+/* What is inserted: a frame's first bytes, none to all but two; a single byte; a frame of each kind and of one that is
+ * none, empty or with the body of a message. */
+static size_t make_inserted(size_t i, uint8_t *out)
+{
+    static const uint8_t single[] = { 0, 1, 2, 3, 4, 7, 254, 255 };
+    size_t n = any_kept(out, 2);
+    if (i < 28)
+        return i;
+    if (i < 28 + COUNT(single)) {
+        out[0] = single[i - 28];
+        return 1;
+    }
+    i -= 28 + COUNT(single);
+    put(out, 4, i / 2);
+    return i % 2 == 0 ? n : make_frame(out, (uint32_t)i / 2, (uint32_t)chance(&dice), NULL, 0);
+}
+
+/* Three frames: bytes inserted at every place, and every byte altered. */
+static void place_edges(void)
+{
+    uint8_t bytes[256], inserted[64];
+    message_size = 0;
+    for (size_t data = 0; data <= 4; data += 2)
+        add_kept(data);
+    size_t n = message_size;
+    memcpy(bytes, message, n);
+    for (size_t at = 0; at <= n; at++)
+        for (size_t i = 0; i < INSERTED; i++) {
+            start_from(bytes, n);
+            replace(at, 0, inserted, make_inserted(i, inserted));
+            ask_salvage();
+            salvage_again();
+        }
+    for (size_t at = 0; at < n; at++)
+        for (unsigned value = 0; value < 16; value++) {
+            start_from(bytes, n);
+            message[at] = value < 8 ? (uint8_t)(bytes[at] ^ 1u << value) : (uint8_t)(value - 8);
+            ask_salvage();
+        }
+}
+
+/* A frame inside another, or partly so, at every place: passed over where the outer one is kept, and found where that
+ * is of another kind or its header is refused. */
+static void nested_edges(void)
+{
+    uint8_t bytes[256], inner[64];
+    for (size_t at = 1; at <= 28 + 60; at++) {
+        struct make_segment s = { 1, 31, 2, 3, 4, 1, 1 };
+        message_size = 0;
+        memset(bytes, (int)pick(3), sizeof bytes);
+        add(bytes, make_segment(bytes, &s, bytes + 28, 60));
+        size_t outer = message_size, n = any_kept(inner, 2), covered = outer - at < n ? outer - at : n;
+        replace(at, covered, inner, n);
+        n = message_size;
+        memcpy(bytes, message, n);
+        patch_count = 0;
+        patches_of_frame(0, outer - 12);
+        patches_of_header(12, outer - 12);
+        each_patch(bytes, n, 0, ask_salvage);
+    }
+}
+
+/* The same run before, between and after two frames. */
+static void ask_with_run(const uint8_t *run, size_t n)
+{
+    message_size = 0;
+    add(run, n);
+    add_kept(0);
+    add(run, n);
+    add_kept(2);
+    add(run, n);
+    ask_salvage();
+}
+
+/* Every short run of the bytes that a kind has. */
+static void kind_edges(void)
+{
+    uint8_t run[6];
+    for (size_t n = 0, runs = 1; n <= sizeof run; n++, runs *= 3)
+        for (size_t i = 0; i < runs; i++) {
+            for (size_t k = 0, digits = i; k < n; k++, digits /= 3)
+                run[k] = (uint8_t)(digits % 3);
+            ask_with_run(run, n);
+        }
+}
+
+/* Longer ones: of zeros, of twos, and of both in turn. */
+static void long_run_edges(void)
+{
+    static const char *const turns[] = { "0", "2", "02", "002", "0002", "00002", "022" };
+    static const size_t long_ones[] = { 255, 256, 257, 4095, 4096, 4097, 65535, 65536, 65537 };
+    static uint8_t run[65537];
+    for (size_t i = 0; i < COUNT(turns); i++) {
+        for (size_t k = 0; k < sizeof run; k++)
+            run[k] = (uint8_t)(turns[i][k % strlen(turns[i])] - '0');
+        for (size_t n = 7; n < 80; n++)
+            ask_with_run(run, n);
+        for (size_t k = 0; k < COUNT(long_ones); k++)
+            ask_with_run(run, long_ones[k]);
+    }
+}
+
+/* A byte before each of the shortest frames: as many runs as there can be. */
+static void most_runs_edges(void)
+{
+    static const size_t frames[] = { 0, 1, 2, 31, 300, 36000 };
+    for (size_t i = 0; i < COUNT(frames); i++) {
+        message_size = 0;
+        for (size_t left = frames[i]; left > 0; left--) {
+            add((const uint8_t *)"\7", 1);
+            add_kept(0);
+        }
+        for (size_t last = 0; last <= 1; last++) {
+            if (taken().runs != (message_size + 28) / 29) {
+                fprintf(stderr, "not as many runs as there can be\n");
+                exit(2);
+            }
+            frames[i] <= 300 ? ask_salvage_rooms() : ask_salvage();
+            add((const uint8_t *)"\7", 1);
+        }
+    }
+}
+
+/* Bodies of every size that any type can have; the longest ones, and one halfword more and less, by both limits. */
+static void size_edges(void)
+{
+    static const size_t sizes[] = { 1207, 1208, 1209, 65533, 65534, 65535 };
+    static uint8_t bytes[12 + 2 * 65535];
+    for (size_t data = 0; data <= 2400; data += 2) {
+        message_size = 0;
+        add_kept(data);
+        add_kept(0);
+        ask_salvage();
+    }
+    for (size_t i = 0; i < COUNT(sizes); i++)
+        for (uint32_t type = 30; type <= 31; type++) {
+            struct make_segment s = { 1, type == 30 ? 2 : type, 2, 3, 4, 1, 1 };
+            message_size = 0;
+            add((const uint8_t *)"\0\0\0", 3);
+            add(bytes, make_segment(bytes, &s, bytes + 28, 2 * sizes[i] - 16));
+            size_t n = message_size;
+            ask_salvage();
+            message_size--;
+            ask_salvage();
+            message_size = n;
+            add_kept(0);
+            ask_salvage();
+        }
+}
+
+static void salvage_edges(void)
+{
+    static uint8_t bytes[MOST_BYTES];
+    for (size_t room = 0; room <= 1; room++)
+        for (size_t numbers = 0; numbers <= 2; numbers++)
+            compare_salvage(NULL, 0, room, numbers);
+    stretch_edges();
+    place_edges();
+    nested_edges();
+    kind_edges();
+    long_run_edges();
+    most_runs_edges();
+    size_edges();
+    for (uint32_t segments = 1; segments <= 3; segments++) {
+        make_set(segments, 2 * (int)segments, 0);
+        memcpy(bytes, message, set.n);
+        patches_of_set(3);
+        each_patch(bytes, set.n, 2000, ask_salvage);
+    }
+}
+
+/* A frame of any kind with any body, a frame in it now and then. */
+static void add_other(void)
+{
+    uint8_t bytes[160], body[128];
+    size_t n = pick(sizeof body);
+    fill(&dice, body, n);
+    if (one_in(3))
+        n = any_kept(body, 2 * pick(20));
+    add(bytes, make_frame(bytes, (uint32_t)pick(6), (uint32_t)chance(&dice), body, n));
+}
+
+/* Bytes by chance, or a part of the message. */
+static size_t any_stretch(uint8_t *out, size_t most)
+{
+    size_t n = pick(most + 1), at = pick(message_size + 1);
+    fill_any(out, n);
+    if (one_in(3)) {
+        n = n < message_size - at ? n : message_size - at;
+        memcpy(out, message + at, n);
+    }
+    return n;
+}
+
+/* Cuts out, inserts or puts in place of others a few bytes, or many. */
+static void damage_recording(void)
+{
+    uint8_t bytes[4096];
+    size_t at = pick(message_size + 1), less = pick(one_in(3) ? sizeof bytes : 8);
+    size_t more = any_stretch(bytes, one_in(3) ? sizeof bytes : 8);
+    less = less < message_size - at ? less : message_size - at;
+    switch (pick(4)) {
+    case 0: replace(at, less, NULL, 0); break;
+    case 1: replace(at, 0, bytes, more); break;
+    case 2: replace(at, less, bytes, less < more ? less : more); break;
+    default: replace(at, less, bytes, more); break;
+    }
+}
+
+static void salvage_by_chance(void)
+{
+    message_size = 0;
+    for (uint64_t left = pick(8); left > 0; left--) {
+        add_kept(one_in(200) ? 2 * pick(65527) : one_in(8) ? 2 * pick(1201) : 2 * pick(20));
+        if (one_in(4))
+            add_other();
+    }
+    for (uint64_t left = pick(5); left > 0; left--)
+        damage_recording();
+    ask_salvage();
+    if (one_in(4))
+        salvage_again();
 }
 
 /* ---- Writing ---- */
@@ -1277,6 +1627,7 @@ static void edges(void)
     lone_number_edges();
     set_edges();
     long_set_edges();
+    salvage_edges();
     write_edges();
     radial_edges();
     full_radial_edges();
@@ -1289,10 +1640,10 @@ static void edges(void)
     comparison_edges();
 }
 
-/* Of sixteen steps. Radials are asked four questions each; maps are long and so are few, pairs of them fewer. */
+/* Of seventeen steps. Radials are asked four questions each; maps are long and so are few, pairs of them fewer. */
 static void step(void)
 {
-    switch (pick(16)) {
+    switch (pick(17)) {
     case 0: case 1: frame_by_chance(); break;
     case 2: case 3: header_by_chance(); break;
     case 4: case 5: set_by_chance(); break;
@@ -1301,6 +1652,7 @@ static void step(void)
     case 9: request_by_chance(); break;
     case 10: case 11: censor_by_chance(); break;
     case 12: one_in(4) ? comparison_by_chance() : map_by_chance(); break;
+    case 13: salvage_by_chance(); break;
     default: radial_by_chance(); break;
     }
 }

@@ -46,6 +46,12 @@ AT(ulm_set_answer, segments, 28);
 AT(ulm_set_answer, number, 32);
 AT(ulm_set_answer, length, 40);
 
+SIZE(ulm_salvage_answer, 32);
+AT(ulm_salvage_answer, refusal, 0);
+AT(ulm_salvage_answer, kept, 8);
+AT(ulm_salvage_answer, length, 16);
+AT(ulm_salvage_answer, runs, 24);
+
 SIZE(ulm_written_answer, 16);
 AT(ulm_written_answer, refusal, 0);
 AT(ulm_written_answer, length, 8);
@@ -152,7 +158,7 @@ static uint64_t member_at(const uint8_t *answer, const struct member *m)
     memcpy(&x16, answer + m->at, sizeof x16);
     memcpy(&x32, answer + m->at, sizeof x32);
     memcpy(&x64, answer + m->at, sizeof x64);
-    return m->wide == 2 ? x16 : m->wide == 4 ? x32 : x64;
+    return m->wide == 1 ? answer[m->at] : m->wide == 2 ? x16 : m->wide == 4 ? x32 : x64;
 }
 
 static void check_members(const char *function, const uint8_t *answer, const struct member *m)
@@ -195,6 +201,7 @@ static void check_written(const char *function, void (*call)(void *to), size_t s
 void openly_frame(void *, const uint8_t *, size_t, size_t) __asm__("ulm_frame");
 void openly_header(void *, const uint8_t *, size_t) __asm__("ulm_header");
 void openly_set(void *, const uint8_t *, size_t, uint8_t *, size_t) __asm__("ulm_set");
+void openly_salvage(void *, const uint8_t *, size_t, uint8_t *, size_t, uint64_t *, size_t) __asm__("ulm_salvage");
 void openly_radial(void *, const uint8_t *, size_t) __asm__("ulm_radial");
 void openly_block(void *, const uint8_t *, size_t, uint32_t) __asm__("ulm_block");
 void openly_gates(void *, const uint8_t *, size_t, uint32_t) __asm__("ulm_gates");
@@ -279,6 +286,50 @@ static void check_set(void)
         fail("ulm_set", "joined data", 0, out[0], 'a');
     CHECK_WRITTEN("ulm_set, refused", call_set_refused, 48, { 0, 4, 13 }, { 4, 4, 0 }, { 8, 4, 0 }, { 12, 4, 0 },
                   { 16, 4, 0 }, { 20, 4, 0 }, { 24, 4, 0 }, { 28, 4, 0 }, { 32, 4, 0 }, { 40, 8, 0 });
+}
+
+static uint8_t recording[96];
+static size_t recording_size;
+static uint64_t runs[7];
+
+static void call_salvage(void *to)
+{
+    openly_salvage(to, recording, recording_size, out, sizeof out, runs, 6);
+}
+
+static void call_salvage_small_output(void *to)
+{
+    openly_salvage(to, recording, recording_size, out, 57, runs, 6);
+}
+
+static void call_salvage_few_runs(void *to)
+{
+    openly_salvage(to, recording, recording_size, out, 58, runs, 5);
+}
+
+/* Two frames between runs of 3, 5 and 7 bytes. */
+static void check_salvage(void)
+{
+    static const uint64_t wanted[] = { 0, 3, 31, 5, 66, 7, 99 };
+    struct make_segment s = { 200, 13, 0x1234, 0x5678, 0x01234567, 77, 55 };
+    uint8_t kept[59];
+    memset(kept, 0xA5, sizeof kept);
+    memcpy(recording + 3, kept, make_segment(kept, &s, NULL, 0));
+    memcpy(recording + 36, kept + 28, make_segment(kept + 28, &s, (const uint8_t *)"ab", 2));
+    recording_size = 73;
+    memset(out, 0xA5, sizeof out);
+    runs[6] = 99;
+    CHECK_WRITTEN("ulm_salvage", call_salvage, 32, { 0, 1, 0 }, { 8, 8, 2 }, { 16, 8, 58 }, { 24, 8, 3 });
+    for (size_t i = 0; i < 7; i++)
+        if (runs[i] != wanted[i])
+            fail("ulm_salvage", "list of runs", 8 * i, runs[i], wanted[i]);
+    for (size_t i = 0; i < sizeof kept; i++)
+        if (out[i] != kept[i])
+            fail("ulm_salvage", "output", i, out[i], kept[i]);
+    CHECK_WRITTEN("ulm_salvage, refused for the output", call_salvage_small_output, 32, { 0, 1, 13 }, { 8, 8, 0 },
+                  { 16, 8, 0 }, { 24, 8, 0 });
+    CHECK_WRITTEN("ulm_salvage, refused for the runs", call_salvage_few_runs, 32, { 0, 1, 13 }, { 8, 8, 0 },
+                  { 16, 8, 0 }, { 24, 8, 0 });
 }
 
 /* Every argument of the writer is seen in what it writes. */
@@ -497,6 +548,7 @@ int main(void)
     check_frame();
     check_header();
     check_set();
+    check_salvage();
     check_write();
     check_radial();
     check_blocks();
@@ -508,6 +560,6 @@ int main(void)
     check_map();
     check_comparison();
     if (!failed)
-        printf("16 functions, every member in its place\n");
+        printf("17 functions, every member in its place\n");
     return failed;
 }

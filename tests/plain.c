@@ -212,6 +212,63 @@ plain_set_answer plain_set(const uint8_t *buf, size_t len, uint8_t *out, size_t 
                                s.one.date, s.one.ms,   s.one.segments, s.one.number, s.total };
 }
 
+/* ---- A damaged recording ---- */
+
+/* The size of the data frame at p, or 0 where none stands whose header passes. */
+static inline size_t kept_size(const uint8_t *p, size_t left)
+{
+    plain_header_answer h;
+    if (frame_refusal(p, left) != 0 || get32(p) != DATA || read_header(p + FRAME_HEADER, get32(p + 8), &h) != 0)
+        return 0;
+    return FRAME_HEADER + get32(p + 8);
+}
+
+/* The first place from `at` on where a frame is kept, and its size; or the end, and 0. A frame begins with 0, 0, 0, 2:
+ * where the fourth byte is not 0, none begins at the three places that follow. */
+static inline size_t next_kept(const uint8_t *buf, size_t len, size_t at, size_t *size)
+{
+    while (len - at >= FRAME_HEADER + MESSAGE_HEADER) {
+        uint8_t fourth = buf[at + 3];
+        if (fourth == 0) {
+            at++;
+            continue;
+        }
+        if (fourth == DATA && (*size = kept_size(buf + at, len - at)) != 0)
+            return at;
+        at += 4;
+    }
+    *size = 0;
+    return len;
+}
+
+/* The walk over a recording; frames and runs are written where there are outputs. */
+static inline plain_salvage_answer walk(const uint8_t *buf, size_t len, uint8_t *out, uint64_t *runs)
+{
+    plain_salvage_answer r = { 0 };
+    for (size_t at = 0, size, next; at < len; at = next + size) {
+        next = next_kept(buf, len, at, &size);
+        if (next != at && runs != NULL) {
+            runs[2 * r.runs] = at;
+            runs[2 * r.runs + 1] = next - at;
+        }
+        r.runs += next != at;
+        if (size != 0 && out != NULL)
+            memcpy(out + r.length, buf + next, size);
+        r.kept += size != 0;
+        r.length += size;
+    }
+    return r;
+}
+
+plain_salvage_answer plain_salvage(const uint8_t *buf, size_t len, uint8_t *out, size_t out_len, uint64_t *runs,
+                                   size_t n)
+{
+    plain_salvage_answer counted = walk(buf, len, NULL, NULL);
+    if (counted.length > out_len || 2 * counted.runs > n)
+        return (plain_salvage_answer){ .refusal = 13 };
+    return walk(buf, len, out, runs);
+}
+
 /* ---- Writing ---- */
 
 static inline uint32_t write_refusal(uint8_t type, uint16_t date, uint32_t ms, size_t len)

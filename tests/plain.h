@@ -26,6 +26,11 @@ typedef struct {
 
 typedef struct {
     uint32_t refusal;
+    uint64_t kept, length, runs;
+} plain_salvage_answer;
+
+typedef struct {
+    uint32_t refusal;
     uint64_t length;
 } plain_written_answer;
 
@@ -73,6 +78,8 @@ typedef struct {
 plain_frame_answer plain_frame(const uint8_t *buf, size_t len, size_t place);
 plain_header_answer plain_header(const uint8_t *msg, size_t len);
 plain_set_answer plain_set(const uint8_t *buf, size_t len, uint8_t *out, size_t out_len);
+plain_salvage_answer plain_salvage(const uint8_t *buf, size_t len, uint8_t *out, size_t out_len, uint64_t *runs,
+                                   size_t n);
 plain_written_answer plain_write(uint8_t channel, uint8_t type, uint16_t sequence, uint16_t date, uint32_t ms,
                                  const uint8_t *body, size_t len, uint8_t *out, size_t out_len);
 plain_radial_answer plain_radial(const uint8_t *body, size_t len);
