@@ -145,21 +145,65 @@ TASK(compare_apart_less)
     return compare_with(&sweep.apart, MOST_HALFWORDS - 1);
 }
 
+/* The counts, the last byte that was written, and the first run. */
+static inline uint64_t salvage(const struct recording *r, size_t room, size_t numbers)
+{
+    ANSWER(salvage) a = ASK(salvage)(r->bytes, r->size, sweep.salvaged, room, sweep.runs, numbers);
+    return a.refusal + a.kept + a.length + a.runs + (a.length == 0 ? 0 : sweep.salvaged[a.length - 1])
+           + (a.runs == 0 ? 0 : sweep.runs[0] + sweep.runs[1]);
+}
+
+TASK(salvage_clean)
+{
+    return salvage(&sweep.clean, LONG_RECORDING, MOST_NUMBERS);
+}
+
+TASK(salvage_damaged)
+{
+    return salvage(&sweep.damaged, LONG_RECORDING, MOST_NUMBERS);
+}
+
+TASK(salvage_random)
+{
+    return salvage(&sweep.random, LONG_RECORDING, MOST_NUMBERS);
+}
+
+TASK(salvage_clean_less)
+{
+    return salvage(&sweep.clean, sweep.clean.length, sweep.clean.numbers);
+}
+
+TASK(salvage_damaged_less)
+{
+    return salvage(&sweep.damaged, sweep.damaged.length, sweep.damaged.numbers);
+}
+
+TASK(salvage_random_less)
+{
+    return salvage(&sweep.random, sweep.random.length, sweep.random.numbers);
+}
+
 const struct batch JOINED(SIDE, batches)[] = {
-    { "frame_walk", RADIALS + 1, JOINED(SIDE, task_frame_walk) },
-    { "header", RADIALS, JOINED(SIDE, task_header) },
-    { "radial", RADIALS, JOINED(SIDE, task_radial) },
-    { "gates", RADIALS * 6, JOINED(SIDE, task_gates) },
-    { "gate", RADIALS * ASKED_GATES, JOINED(SIDE, task_gate) },
-    { "value", RADIALS * 1832, JOINED(SIDE, task_value) },
-    { "set", 1, JOINED(SIDE, task_set) },
-    { "write", 1, JOINED(SIDE, task_write) },
-    { "write_radial", RADIALS, JOINED(SIDE, task_write_radial) },
-    { "map", 1, JOINED(SIDE, task_map) },
-    { "map_code", QUERIES, JOINED(SIDE, task_map_code) },
-    { "compare_near", 1, JOINED(SIDE, task_compare_near) },
-    { "compare_apart", 1, JOINED(SIDE, task_compare_apart) },
-    { "compare_near_less", 1, JOINED(SIDE, task_compare_near_less) },
-    { "compare_apart_less", 1, JOINED(SIDE, task_compare_apart_less) },
-    { NULL, 0, NULL },
+    { "frame_walk", RADIALS + 1, JOINED(SIDE, task_frame_walk), NULL },
+    { "header", RADIALS, JOINED(SIDE, task_header), NULL },
+    { "radial", RADIALS, JOINED(SIDE, task_radial), NULL },
+    { "gates", RADIALS * 6, JOINED(SIDE, task_gates), NULL },
+    { "gate", RADIALS * ASKED_GATES, JOINED(SIDE, task_gate), NULL },
+    { "value", RADIALS * 1832, JOINED(SIDE, task_value), NULL },
+    { "set", 1, JOINED(SIDE, task_set), NULL },
+    { "write", 1, JOINED(SIDE, task_write), NULL },
+    { "write_radial", RADIALS, JOINED(SIDE, task_write_radial), NULL },
+    { "map", 1, JOINED(SIDE, task_map), NULL },
+    { "map_code", QUERIES, JOINED(SIDE, task_map_code), NULL },
+    { "compare_near", 1, JOINED(SIDE, task_compare_near), NULL },
+    { "compare_apart", 1, JOINED(SIDE, task_compare_apart), NULL },
+    { "compare_near_less", 1, JOINED(SIDE, task_compare_near_less), NULL },
+    { "compare_apart_less", 1, JOINED(SIDE, task_compare_apart_less), NULL },
+    { "salvage_clean", 1, JOINED(SIDE, task_salvage_clean), &sweep.clean.size },
+    { "salvage_damaged", 1, JOINED(SIDE, task_salvage_damaged), &sweep.damaged.size },
+    { "salvage_random", 1, JOINED(SIDE, task_salvage_random), &sweep.random.size },
+    { "salvage_clean_less", 1, JOINED(SIDE, task_salvage_clean_less), &sweep.clean.size },
+    { "salvage_damaged_less", 1, JOINED(SIDE, task_salvage_damaged_less), &sweep.damaged.size },
+    { "salvage_random_less", 1, JOINED(SIDE, task_salvage_random_less), &sweep.random.size },
+    { NULL, 0, NULL, NULL },
 };

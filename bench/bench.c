@@ -1,7 +1,7 @@
 /*
  * The plain implementation and libulm on the same tasks.
  *
- *     bench [ROUNDS]          for each task the best time of each side, in nanoseconds a call
+ *     bench [ROUNDS]          for each task the best time of each side, in nanoseconds a call, and a call's bytes
  *     bench count SIDE TASK   the task once, for callgrind to count instructions in; writes the number of calls
  *
  * Each round runs each task by both sides in turn, the other side first in every second round, so that a change of the
@@ -57,7 +57,7 @@ static uint64_t copy(void)
     return 0;
 }
 
-static const struct batch copied = { "memcpy", 1, copy };
+static const struct batch copied = { "memcpy", 1, copy, NULL };
 
 static void check_same(const struct batch *a, const struct batch *b)
 {
@@ -83,10 +83,11 @@ static void time_all(unsigned rounds)
         keep_best(&best_memcpy, time_of(&copied, repeats_of(&copied)));
     }
     for (size_t i = 0; plain_batches[i].name != NULL; i++) {
-        double calls = (double)plain_batches[i].calls;
-        printf("%s %.2f %.2f\n", plain_batches[i].name, (double)best[i][0] / calls, (double)best[i][1] / calls);
+        const struct batch *b = &plain_batches[i];
+        printf("%s %.2f %.2f %zu\n", b->name, (double)best[i][0] / (double)b->calls,
+               (double)best[i][1] / (double)b->calls, b->bytes == NULL ? 0 : *b->bytes);
     }
-    printf("memcpy %.2f %.2f\n", (double)best_memcpy, (double)best_memcpy);
+    printf("memcpy %.2f %.2f 0\n", (double)best_memcpy, (double)best_memcpy);
 }
 
 static int count_one(const char *side, const char *task)

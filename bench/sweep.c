@@ -2,8 +2,10 @@
 
 #include <stdio.h>
 #include <stdlib.h>
+#include <string.h>
 
 #include "make.h"
+#include "plain.h"
 
 struct sweep sweep;
 
@@ -38,6 +40,78 @@ static void make_set(struct chance *c)
     }
 }
 
+/* A radial with that many gates in each moment, most of them 0: stretches of zeros, and shorter ones of any code. */
+static size_t make_sparse_radial(uint8_t *out, uint32_t gates, struct chance *c)
+{
+    struct make_radial r = { .constant = { 44, 12, 28 }, .moments = 6 };
+    for (unsigned k = 0; k < 6; k++)
+        r.moment[k] = (struct make_moment){ make_names[k], gates, k == 3 || k == 4 ? 16 : 8, 0x40000000, 0x42840000 };
+    size_t size = make_radial(out, &r, c);
+    for (unsigned k = 0; k < 6; k++) {
+        uint8_t *first = out + get(out + 32 + 4 * (3 + k), 4) + 28;
+        uint8_t *end = k < 5 ? out + get(out + 32 + 4 * (4 + k), 4) : out + size;
+        for (uint8_t *at = first; at < end; at += below(c, 100)) {
+            size_t left = (size_t)(end - at), zeros = 1 + below(c, left < 400 ? left : 400);
+            memset(at, 0, zeros);
+            at += zeros;
+        }
+    }
+    return size;
+}
+
+static void add_bytes(struct recording *r, const uint8_t *bytes, size_t n)
+{
+    if (r->size + n > LONG_RECORDING) {
+        fprintf(stderr, "a recording has more than %d bytes\n", LONG_RECORDING);
+        exit(2);
+    }
+    memcpy(r->bytes + r->size, bytes, n);
+    r->size += n;
+}
+
+/* Adds a frame with one to eight bytes altered in its headers, or cut out or inserted anywhere. */
+static void add_damaged(struct recording *r, uint8_t *frame, size_t n, uint64_t way, struct chance *c)
+{
+    uint8_t inserted[8];
+    size_t few = 1 + below(c, 8), at = below(c, (way == 0 ? 28 : n) - few + 1);
+    fill(c, way == 0 ? frame + at : inserted, few);
+    add_bytes(r, frame, at);
+    if (way == 2)
+        add_bytes(r, inserted, few);
+    if (way == 1)
+        at += few;
+    add_bytes(r, frame + at, n - at);
+}
+
+/* What a salvage of a recording takes. */
+static void set_rooms(struct recording *r)
+{
+    plain_salvage_answer a = plain_salvage(r->bytes, r->size, sweep.salvaged, r->size, sweep.runs, MOST_NUMBERS);
+    r->length = a.length;
+    r->numbers = 2 * a.runs;
+}
+
+static void make_recordings(struct chance *c)
+{
+    static uint8_t frame[16384];
+    struct make_segment s = { 8, 31, 0, 16000, 43200000, 1, 1 };
+    for (uint32_t i = 0; i < RADIALS; i++) {
+        size_t body = make_sparse_radial(frame + 28, 200 + (uint32_t)below(c, 1641), c);
+        s.sequence = i;
+        size_t n = make_segment(frame, &s, frame + 28, body);
+        add_bytes(&sweep.clean, frame, n);
+        if (i % 100 == 50)
+            add_damaged(&sweep.damaged, frame, n, i / 100 % 3, c);
+        else
+            add_bytes(&sweep.damaged, frame, n);
+    }
+    sweep.random.size = sweep.clean.size;
+    fill(c, sweep.random.bytes, sweep.random.size);
+    set_rooms(&sweep.clean);
+    set_rooms(&sweep.damaged);
+    set_rooms(&sweep.random);
+}
+
 void make_sweep(void)
 {
     struct chance c = { 720 };
@@ -46,4 +120,5 @@ void make_sweep(void)
     sweep.map.size = make_map(sweep.map.bytes, 5, 4, &c);
     sweep.near.size = make_near_map(sweep.near.bytes, sweep.map.bytes, 100, &c);
     sweep.apart.size = make_map(sweep.apart.bytes, 5, 4, &c);
+    make_recordings(&c);
 }

@@ -1,7 +1,7 @@
 /*
  * What the benchmark works on: the sample recording's shape scaled to one sweep. 720 radials of nine blocks each (REF
  * with 1,832 gates, VEL, SW, ZDR, RHO with 1,192 of 8 bits, PHI with 1,192 of 16), a set of 128 full segments, a filter
- * map of five elevation segments, and two to compare it with.
+ * map of five elevation segments, and two to compare it with; recordings to salvage.
  */
 #ifndef SWEEP_H
 #define SWEEP_H
@@ -12,9 +12,17 @@
 enum { RADIALS = 720, BODY = 9304, FRAME = BODY + 28, LONG_BODY = 307200, SEGMENTS = 128, LONG_MAP = 147606 };
 enum { MOST_HALFWORDS = 421200 }; /* of a list of differences */
 
+enum { LONG_RECORDING = 6100000, MOST_NUMBERS = 2 * ((LONG_RECORDING + 28) / 29) };
+
 struct map {
     uint8_t bytes[LONG_MAP];
     size_t size;
+};
+
+struct recording {
+    uint8_t bytes[LONG_RECORDING];
+    size_t size;
+    size_t length, numbers; /* what a salvage of it takes of its outputs */
 };
 
 struct sweep {
@@ -24,6 +32,11 @@ struct sweep {
     struct map map;
     struct map near;  /* the same but for one azimuth in 100 */
     struct map apart; /* of the same shape, its zones by chance too */
+    struct recording clean;   /* 720 radials of 200 to 1,840 gates, most of them 0 */
+    struct recording damaged; /* the same with a few bytes altered, cut out or inserted in one frame of 100 */
+    struct recording random;  /* bytes by chance, as many */
+    uint8_t salvaged[LONG_RECORDING];
+    uint64_t runs[MOST_NUMBERS];
     uint16_t list[MOST_HALFWORDS];
     uint8_t out[LONG_BODY + SEGMENTS * 28];
 };
@@ -33,11 +46,12 @@ extern struct sweep sweep;
 void make_sweep(void);
 
 /* One task done by one side: `run` makes `calls` calls and gives a number that depends on their answers, the same one
- * for both sides. A list ends with no name. */
+ * for both sides. `bytes` is how many a call goes through, where that is to be told. A list ends with no name. */
 struct batch {
     const char *name;
     uint64_t calls;
     uint64_t (*run)(void);
+    const size_t *bytes;
 };
 
 extern const struct batch plain_batches[], ulm_batches[];
