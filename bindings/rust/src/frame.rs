@@ -1,4 +1,4 @@
-//! Session frames, message headers, sets of segments, and messages written.
+//! Session frames, message headers, sets of segments, damaged recordings, and messages written.
 
 use crate::{part, raw, Refusal};
 
@@ -157,6 +157,65 @@ pub fn set<'o>(buffer: &[u8], out: &'o mut [u8]) -> Result<Set<'o>, Refusal> {
     let r = unsafe { raw::ulm_set(buffer.as_ptr(), buffer.len(), out.as_mut_ptr(), out.len()) };
     let header = Header::of(r.header)?;
     Ok(Set { header, body: &out[..r.length as usize] })
+}
+
+/// Room for the runs of any recording of so many bytes, in numbers: two for each run, and between two runs stands a
+/// frame of 28 bytes or more.
+pub const fn runs_room(length: usize) -> usize {
+    2 * length.div_ceil(29)
+}
+
+/// A damaged recording salvaged.
+#[derive(Clone, Copy, Debug, PartialEq, Eq)]
+pub struct Salvaged<'o> {
+    /// How many frames were kept.
+    pub kept: usize,
+    /// The kept frames, whole and in order, in the output that was lent.
+    pub frames: &'o [u8],
+    /// Two numbers for each run, in the list that was lent.
+    pub numbers: &'o [u64],
+}
+
+/// A longest run of skipped bytes.
+#[derive(Clone, Copy, Debug, PartialEq, Eq)]
+pub struct Run {
+    /// Where it begins in the recording.
+    pub place: usize,
+    /// How many bytes.
+    pub length: usize,
+}
+
+impl<'o> Salvaged<'o> {
+    /// The runs, in the order of the recording.
+    pub fn runs(&self) -> impl ExactSizeIterator<Item = Run> + 'o {
+        self.numbers.chunks_exact(2).map(|r| Run { place: r[0] as usize, length: r[1] as usize })
+    }
+}
+
+/// Salvages a damaged recording: walks it from its start, copies each data frame whose header passes whole to an output
+/// and goes on after it, and skips one byte where none stands. Runs of skipped bytes are listed.
+///
+/// An output as long as the recording and a list of [`runs_room`] numbers are always enough. Refused as 13, for either;
+/// both stay as they were past what is written.
+///
+/// ```
+/// let request = ulm::Message { channel: 0, message_type: 9, sequence: 5, date: 16_000, ms: 1_000, body: &[0, 129] };
+/// let mut out = [0; 30];
+/// let frame = ulm::write(&request, &mut out)?;
+/// let damaged = [frame, &[7, 7], frame, &frame[..20]].concat();
+/// let (mut out, mut runs) = (vec![0; damaged.len()], vec![0; ulm::runs_room(damaged.len())]);
+/// let salvaged = ulm::salvage(&damaged, &mut out, &mut runs)?;
+/// assert_eq!((salvaged.kept, salvaged.frames), (2, &frame.repeat(2)[..]));
+/// assert!(salvaged.runs().map(|run| (run.place, run.length)).eq([(30, 2), (62, 20)]));
+/// # Ok::<(), ulm::Refusal>(())
+/// ```
+pub fn salvage<'o>(buffer: &[u8], out: &'o mut [u8], runs: &'o mut [u64]) -> Result<Salvaged<'o>, Refusal> {
+    // SAFETY: the pointers and the lengths are slices', and a `&mut` overlaps nothing.
+    let r = unsafe {
+        raw::ulm_salvage(buffer.as_ptr(), buffer.len(), out.as_mut_ptr(), out.len(), runs.as_mut_ptr(), runs.len())
+    };
+    Refusal::check(r.refusal.into())?;
+    Ok(Salvaged { kept: r.kept as usize, frames: &out[..r.length as usize], numbers: &runs[..2 * r.runs as usize] })
 }
 
 /// A message to write.

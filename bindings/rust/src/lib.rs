@@ -33,7 +33,9 @@ pub use clutter::{
     censor, compare_maps, map, map_code, request, write_censor, write_request, Censor, Comparison, Difference, Map,
     Region, COMPARISON_ROOM,
 };
-pub use frame::{frame, frames, header, set, write, Frame, Frames, Header, Kind, Message, Set};
+pub use frame::{
+    frame, frames, header, runs_room, salvage, set, write, Frame, Frames, Header, Kind, Message, Run, Salvaged, Set,
+};
 pub use radial::{
     block, gate, gates, radial, value, Block, Constant, Gate, Gates, Moment, Name, Radial, DPHI, DREF, DRHO, DSW, DVEL,
     DZDR, RELV, RRAD, RVOL,

@@ -38,6 +38,15 @@ pub struct SetAnswer {
 
 #[repr(C)]
 #[derive(Clone, Copy)]
+pub struct SalvageAnswer {
+    pub refusal: u8,
+    pub kept: u64,
+    pub length: u64,
+    pub runs: u64,
+}
+
+#[repr(C)]
+#[derive(Clone, Copy)]
 pub struct WrittenAnswer {
     pub refusal: u32,
     pub length: u64,
@@ -149,6 +158,14 @@ extern "C" {
     pub fn ulm_frame(buf: *const u8, len: usize, place: usize) -> FrameAnswer;
     pub fn ulm_header(msg: *const u8, len: usize) -> HeaderAnswer;
     pub fn ulm_set(buf: *const u8, len: usize, out: *mut u8, out_len: usize) -> SetAnswer;
+    pub fn ulm_salvage(
+        buf: *const u8,
+        len: usize,
+        out: *mut u8,
+        out_len: usize,
+        runs: *mut u64,
+        n: usize,
+    ) -> SalvageAnswer;
     pub fn ulm_write(
         channel: u8,
         message_type: u8,

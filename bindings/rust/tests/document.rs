@@ -1,5 +1,5 @@
-//! The numbered cases of document 01, two maps compared, and what the wrapper adds: parts with lifetimes, refusals with
-//! words.
+//! The numbered cases of document 01, recordings salvaged, two maps compared, and what the wrapper adds: parts with
+//! lifetimes, refusals with words.
 
 use ulm::{Block, Gate, Kind, Message, Name, Refusal};
 
@@ -68,6 +68,16 @@ fn differences(old: &[u8], new: &[u8]) -> Vec<(u16, u16, u16, u16, u16)> {
     comparison.differences().map(|d| (d.elevation, d.first, d.last, d.old, d.new)).collect()
 }
 
+const KEEP_ALIVE: [u8; 12] = [0, 0, 0, 4, 0, 0, 0, 0, 0, 0, 0, 0];
+
+/// What is kept of a recording, and place and length of each run.
+fn salvage(recording: &[u8]) -> (Vec<u8>, Vec<(usize, usize)>) {
+    let (mut out, mut runs) = (vec![7; recording.len()], vec![7; ulm::runs_room(recording.len())]);
+    let salvaged = ulm::salvage(recording, &mut out, &mut runs).unwrap();
+    assert_eq!(salvaged.kept, ulm::frames(salvaged.frames).map(Result::unwrap).count());
+    (salvaged.frames.to_vec(), salvaged.runs().map(|run| (run.place, run.length)).collect())
+}
+
 #[test]
 fn cases_1_and_2_short_buffers() {
     assert_eq!(ulm::frame(&[], 0), Ok(None));
@@ -131,6 +141,59 @@ fn cases_7_and_8_sets() {
     let mut small = vec![9; 2401];
     assert_eq!(ulm::set(&frames, &mut small), Err(Refusal::OUTPUT_SMALL));
     assert_eq!(small, vec![9; 2401]);
+}
+
+#[test]
+fn recordings_salvaged() {
+    let twice = CASE_3.repeat(2);
+    assert_eq!(salvage(&[]), (vec![], vec![]));
+    assert_eq!(salvage(&[1, 2, 3]), (vec![], vec![(0, 3)]));
+    assert_eq!(salvage(&twice), (twice.clone(), vec![]));
+    // Bytes inserted before, between and after; a keep alive is skipped, and runs that touch are one.
+    assert_eq!(salvage(&[&[0, 0], &twice[..], &[0]].concat()), (twice.clone(), vec![(0, 2), (62, 1)]));
+    assert_eq!(salvage(&[&CASE_3[..], &KEEP_ALIVE, &CASE_3].concat()), (twice.clone(), vec![(30, 12)]));
+    let altered = with(&CASE_3, 13, 8);
+    assert_eq!(salvage(&[&CASE_3[..], &altered, &KEEP_ALIVE, &CASE_3].concat()), (twice, vec![(30, 42)]));
+    // Cut at either end.
+    assert_eq!(salvage(&CASE_3[..29]), (vec![], vec![(0, 29)]));
+    assert_eq!(salvage(&[&CASE_3[1..], &CASE_3].concat()), (CASE_3.to_vec(), vec![(0, 29)]));
+}
+
+#[test]
+fn a_frame_inside_another_is_found_where_the_outer_one_is_not_kept() {
+    let message = Message { message_type: 31, body: &[&CASE_3[..], &[0; 6]].concat(), ..request() };
+    let mut out = [0; 64];
+    let outer = ulm::write(&message, &mut out).unwrap().to_vec();
+    assert_eq!(salvage(&outer), (outer.clone(), vec![]));
+    assert_eq!(salvage(&with(&outer, 3, 4)), (CASE_3.to_vec(), vec![(0, 28), (58, 6)]));
+    // Of a lone segment any number is kept as it is.
+    let lone = with(&outer, 27, 200);
+    assert_eq!(salvage(&lone), (lone, vec![]));
+}
+
+#[test]
+fn salvages_fill_their_outputs_or_refuse() {
+    let recording = [&[9][..], &CASE_3, &[9, 9], &CASE_3].concat();
+    let (mut out, mut runs) = ([7; 62], [7; 6]);
+    let salvaged = ulm::salvage(&recording, &mut out, &mut runs).unwrap();
+    assert_eq!((salvaged.kept, salvaged.frames.len(), salvaged.runs().len()), (2, 60, 2));
+    assert_eq!(salvaged.numbers, [0, 1, 31, 2]);
+    assert_eq!((&out[60..], &runs[4..]), (&[7; 2][..], &[7; 2][..]));
+    let (mut out, mut runs) = ([7; 60], [7; 4]);
+    assert_eq!(ulm::salvage(&recording, &mut out[..59], &mut runs), Err(Refusal::OUTPUT_SMALL));
+    assert_eq!(ulm::salvage(&recording, &mut out, &mut runs[..3]), Err(Refusal::OUTPUT_SMALL));
+    assert_eq!((out, runs), ([7; 60], [7; 4]));
+    assert!(ulm::salvage(&recording, &mut out, &mut runs).is_ok());
+    assert_eq!(ulm::salvage(&[], &mut [], &mut []).unwrap().kept, 0);
+}
+
+#[test]
+fn as_many_runs_as_there_can_be() {
+    let frame = written(0);
+    for frames in 0..4 {
+        let recording = [[&[9][..], &frame].concat().repeat(frames), vec![9]].concat();
+        assert_eq!(2 * salvage(&recording).1.len(), ulm::runs_room(recording.len()));
+    }
 }
 
 #[test]

@@ -16,6 +16,7 @@ fn declarations_have_the_headers_layout() {
     layout!(HeaderAnswer, 36, refusal 0, size 4, channel 8, message_type 12, sequence 16, date 20, ms 24, segments 28,
         number 32);
     layout!(SetAnswer, 48, header 0, length 40);
+    layout!(SalvageAnswer, 32, refusal 0, kept 8, length 16, runs 24);
     layout!(WrittenAnswer, 16, refusal 0, length 8);
     layout!(RadialAnswer, 60, refusal 0, station 4, time 8, date 12, azimuth_number 16, azimuth 20, radial_length 24,
         spacing 28, status 32, elevation_number 36, sector 40, elevation 44, blanking 48, indexing 52, blocks 56);
