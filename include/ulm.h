@@ -162,7 +162,7 @@ ulm_set_answer ulm_set(const uint8_t *buf, size_t len, uint8_t *out, size_t out_
 /* ---- A damaged recording ---- */
 
 typedef struct ulm_salvage_answer {
-    uint8_t refusal;
+    uint32_t refusal;
     uint64_t kept;   /* how many frames */
     uint64_t length; /* of the kept frames in the output, in bytes */
     uint64_t runs;   /* how many runs are listed */

@@ -158,7 +158,7 @@ static uint64_t member_at(const uint8_t *answer, const struct member *m)
     memcpy(&x16, answer + m->at, sizeof x16);
     memcpy(&x32, answer + m->at, sizeof x32);
     memcpy(&x64, answer + m->at, sizeof x64);
-    return m->wide == 1 ? answer[m->at] : m->wide == 2 ? x16 : m->wide == 4 ? x32 : x64;
+    return m->wide == 2 ? x16 : m->wide == 4 ? x32 : x64;
 }
 
 static void check_members(const char *function, const uint8_t *answer, const struct member *m)
@@ -319,16 +319,16 @@ static void check_salvage(void)
     recording_size = 73;
     memset(out, 0xA5, sizeof out);
     runs[6] = 99;
-    CHECK_WRITTEN("ulm_salvage", call_salvage, 32, { 0, 1, 0 }, { 8, 8, 2 }, { 16, 8, 58 }, { 24, 8, 3 });
+    CHECK_WRITTEN("ulm_salvage", call_salvage, 32, { 0, 4, 0 }, { 8, 8, 2 }, { 16, 8, 58 }, { 24, 8, 3 });
     for (size_t i = 0; i < 7; i++)
         if (runs[i] != wanted[i])
             fail("ulm_salvage", "list of runs", 8 * i, runs[i], wanted[i]);
     for (size_t i = 0; i < sizeof kept; i++)
         if (out[i] != kept[i])
             fail("ulm_salvage", "output", i, out[i], kept[i]);
-    CHECK_WRITTEN("ulm_salvage, refused for the output", call_salvage_small_output, 32, { 0, 1, 13 }, { 8, 8, 0 },
+    CHECK_WRITTEN("ulm_salvage, refused for the output", call_salvage_small_output, 32, { 0, 4, 13 }, { 8, 8, 0 },
                   { 16, 8, 0 }, { 24, 8, 0 });
-    CHECK_WRITTEN("ulm_salvage, refused for the runs", call_salvage_few_runs, 32, { 0, 1, 13 }, { 8, 8, 0 },
+    CHECK_WRITTEN("ulm_salvage, refused for the runs", call_salvage_few_runs, 32, { 0, 4, 13 }, { 8, 8, 0 },
                   { 16, 8, 0 }, { 24, 8, 0 });
 }
 

@@ -214,7 +214,7 @@ pub fn salvage<'o>(buffer: &[u8], out: &'o mut [u8], runs: &'o mut [u64]) -> Res
     let r = unsafe {
         raw::ulm_salvage(buffer.as_ptr(), buffer.len(), out.as_mut_ptr(), out.len(), runs.as_mut_ptr(), runs.len())
     };
-    Refusal::check(r.refusal.into())?;
+    Refusal::check(r.refusal)?;
     Ok(Salvaged { kept: r.kept as usize, frames: &out[..r.length as usize], numbers: &runs[..2 * r.runs as usize] })
 }
 

@@ -39,7 +39,7 @@ pub struct SetAnswer {
 #[repr(C)]
 #[derive(Clone, Copy)]
 pub struct SalvageAnswer {
-    pub refusal: u8,
+    pub refusal: u32,
     pub kept: u64,
     pub length: u64,
     pub runs: u64,
