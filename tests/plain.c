@@ -223,19 +223,17 @@ static inline size_t kept_size(const uint8_t *p, size_t left)
     return FRAME_HEADER + get32(p + 8);
 }
 
-/* The first place from `at` on where a frame is kept, and its size; or the end, and 0. A frame begins with 0, 0, 0, 2:
- * where the fourth byte is not 0, none begins at the three places that follow. */
+/* The first place from `at` on where a frame is kept, and its size; or the end, and 0. A frame begins with 0, 0, 0, 2,
+ * so the next place that is tried is three bytes before the next 2. */
 static inline size_t next_kept(const uint8_t *buf, size_t len, size_t at, size_t *size)
 {
     while (len - at >= FRAME_HEADER + MESSAGE_HEADER) {
-        uint8_t fourth = buf[at + 3];
-        if (fourth == 0) {
-            at++;
-            continue;
-        }
-        if (fourth == DATA && (*size = kept_size(buf + at, len - at)) != 0)
+        if ((*size = kept_size(buf + at, len - at)) != 0)
             return at;
-        at += 4;
+        const uint8_t *two = memchr(buf + at + 4, DATA, len - at - 4);
+        if (two == NULL)
+            break;
+        at = (size_t)(two - buf) - 3;
     }
     *size = 0;
     return len;

@@ -54,7 +54,7 @@ pub struct UlmSet {
 
 #[repr(C)]
 pub struct UlmSalvage {
-    pub refusal: u8,
+    pub refusal: u32,
     pub kept: u64,
     pub length: u64,
     pub runs: u64,
@@ -174,7 +174,7 @@ fn salvage_with(refusal: u8, kept: usize, long: usize, count: usize) -> UlmSalva
     ensures { λ r. ⌜ r ≡ record { refusal = refusal; kept = kept; length = long; runs = count } ⌝ }
 {
     UlmSalvage {
-        refusal,
+        refusal: refusal as u32,
         kept: kept as u64,
         length: long as u64,
         runs: count as u64,
