@@ -64,9 +64,13 @@ runs-told (skippedPiece bytes ∷ pieces) place l =
     ∙ ap (λ (rs : List Run). rs ++ runsOf next next (stepsIn pieces)) (run-one place long (l .0))
     ∙ ap (λ (rs : List Run). record { place = place; long = long } ∷ rs) (runs-told pieces next (l .2))
 
+module _ (b : List ℕ) (pieces : List Piece) (a : Account b pieces) where
+  pub kept-told : framesOf (stepsOf b) ≡ keptIn pieces
+  kept-told = ap framesOf (steps-told b pieces a) ∙ frames-told pieces
+
+  pub skipped-told : runsOf 0 0 (stepsOf b) ≡ runsIn 0 pieces
+  skipped-told = ap (λ (steps : List Step). runsOf 0 0 steps) (steps-told b pieces a) ∙ runs-told pieces 0 (a .longest)
+
 pub salvage-told : ByAccount
 unfolding salvageOf
-salvage-told b out runs pieces a =
-    let s = steps-told b pieces a in
-    ap (λ (steps : List Step). salvaged (framesOf steps) (runsOf 0 0 steps) out runs) s
-    ∙ (λ i. salvaged (frames-told pieces i) (runs-told pieces 0 (a .longest) i) out runs)
+salvage-told b out runs pieces a = λ i. salvaged (kept-told b pieces a i) (skipped-told b pieces a i) out runs
