@@ -11,6 +11,7 @@ use Rattle.frame.specs.Session.{Stream, end, frame, frameAt}
 use Rattle.message.specs.declared.Header.{Header}
 use Rattle.message.specs.Header.{headerOf}
 use Rattle.segments.specs.Walk.{SetSays, setOf}
+use Rattle.recording.specs.Salvage.{salvageOf}
 use Rattle.description.specs.Description.{Moment, Description}
 use Rattle.description.specs.Refusal.{radialOf}
 use Rattle.description.specs.Lookups.{Asked, noSuch, lies, momentOf, blockOf}
@@ -23,7 +24,8 @@ use Rattle.c_lent.specs.Lent.{Leaves, writtenFace}
 use Rattle.c_frames.specs.declared.UlmFrame.{UlmFrame}
 use Rattle.c_frames.specs.declared.UlmHeader.{UlmHeader}
 use Rattle.c_frames.specs.declared.UlmSet.{UlmSet}
-use Rattle.c_frames.specs.Frames.{frameFace, headerFace, setFace}
+use Rattle.c_frames.specs.declared.UlmSalvage.{UlmSalvage}
+use Rattle.c_frames.specs.Frames.{frameFace, headerFace, setFace, salvageFace, LeavesBoth}
 use Rattle.c_radials.specs.declared.UlmRadial.{UlmRadial}
 use Rattle.c_radials.specs.declared.UlmBlock.{UlmBlock}
 use Rattle.c_radials.specs.declared.UlmGates.{UlmGates}
@@ -35,9 +37,10 @@ use Rattle.c_bodies.specs.declared.UlmMap.{UlmMap}
 use Rattle.c_bodies.specs.declared.UlmMapCode.{UlmMapCode}
 use Rattle.c_bodies.specs.declared.UlmComparison.{UlmComparison}
 use Rattle.c_bodies.specs.Bodies.{requestFace, censorFace, mapFace, mapCodeFace, comparisonFace}
-use Rattle.demands.specs.Notions.{One, OfTheTable, ByChecks, KeptLent}
+use Rattle.demands.specs.Notions.{One, OfTheTable, ByChecks, KeptLent, KeptBoth}
+use Rattle.demands.specs.Orders.{salvageChecks}
 use Rattle.demands.specs.Face.{Shown, ShownLent, FaceOfC, blankFrame, blankHeader, blankSet, blankWritten, blankRadial, blankBlock, blankGates}
-use Rattle.demands.specs.Face.{blankGate, blankRequest, blankCensor, blankMap, blankMapCode, blankComparison}
+use Rattle.demands.specs.Face.{blankGate, blankRequest, blankCensor, blankMap, blankMapCode, blankComparison, blankSalvage}
 use Rattle.demands.proofs.First.{demand1}
 
 -- one law for every function: the face of a refusal is blank but for its number, the face of anything else has the number 0
@@ -93,6 +96,20 @@ written-lent : {S : Type 0} (tell : S → Answer Bytes) (ks : List Check) (right
 written-lent tell ks right out k =
     shown-lent writtenFace (λ (r : UlmWritten). r .refusal) blankWritten (λ n. (refl, refl)) (λ v. refl) tell ks right out k
 
+salvage-both : (buf out runs : List ℕ) → KeptBoth (LeavesBoth (salvageOf buf out runs)) (salvageChecks buf out runs) (salvageOf buf out runs) out runs
+salvage-both buf out runs =
+    let right = salvageOf buf out runs in
+    let k = demand1 .salvage buf out runs in
+    record {
+      one = record {
+        the = (salvageFace (right .answer), right .output, right .listed);
+        meets = record { answers = refl; leaves = refl; lists = refl };
+        only = λ p e. λ i. (e .answers i, e .leaves i, e .lists i);
+      };
+      byChecks = k .byChecks;
+      untouched = k .untouched;
+    }
+
 pub faceOfC : FaceOfC
 faceOfC = record {
   frame = λ buf place.
@@ -126,4 +143,8 @@ faceOfC = record {
   compareMaps = λ old new out.
       shown-lent comparisonFace (λ (r : UlmComparison). r .refusal) blankComparison (λ n. (refl, refl)) (λ v. refl) _ _ (comparisonOf old new out) out
       (demand1 .compare old new out);
+  salvage = λ buf out runs. (
+    salvage-both buf out runs,
+    shown salvageFace (λ (r : UlmSalvage). r .refusal) blankSalvage (λ n. (refl, refl)) (λ v. refl) _ (demand1 .salvage buf out runs .byChecks .numbered),
+  );
 }

@@ -1,11 +1,11 @@
 -- Demand 1. Assumes nothing.
 use Prim.Native.Nat.{ℕ}
-use mathlib.Core.Path.{_≡_, refl}
+use mathlib.Core.Path.{_≡_, refl, ap}
 use mathlib.Core.Bool.{true}
 use mathlib.Core.List.{List, [], _∷_, _++_}
 use lib.Dec.{eqb, ltb}
 use lib.ListN.{length, getD}
-use Rattle.wire.specs.Answers.{Promise}
+use Rattle.wire.specs.Answers.{rule, Promise}
 use Rattle.frame.specs.Session.{frameAt}
 use Rattle.frame.specs.Promises.{tellFrame}
 use Rattle.frame.proofs.OneAnswer.{frame-only}
@@ -15,6 +15,10 @@ use Rattle.message.proofs.OneAnswer.{header-only}
 use Rattle.segments.specs.Walk.{setOf}
 use Rattle.sets.specs.Promises.{tellSet}
 use Rattle.sets.proofs.OneAnswer.{set-only}
+use Rattle.recording.specs.Walk.{stepsOf, framesOf as keptFrames, runsOf}
+use Rattle.recording.specs.Salvage.{Salvage, report, salvageOf}
+use Rattle.salvage.specs.Answers.{Salvages}
+use Rattle.salvage.proofs.OneAnswer.{one-salvage}
 use Rattle.description.specs.Refusal.{radialChecks, radialOf}
 use Rattle.description.specs.Lookups.{momentOf, blockOf}
 use Rattle.radial.specs.Shown.{shown}
@@ -46,15 +50,16 @@ use Rattle.differences.specs.Differences.{differences}
 use Rattle.differences.specs.Comparing.{comparison, halfwords, comparisonOf, roomChecks}
 use Rattle.compare.specs.Answers.{tellCompare}
 use Rattle.compare.proofs.OneAnswer.{one-comparison}
-use Rattle.demands.specs.Notions.{ByChecks, KeptLent}
-use Rattle.demands.specs.Orders.{streamChecks, setChecks, momentChecks, gateChecks, writerChecks, comparisonChecks}
+use Rattle.demands.specs.Notions.{ByChecks, KeptLent, KeptBoth}
+use Rattle.demands.specs.Orders.{streamChecks, setChecks, momentChecks, gateChecks, writerChecks, comparisonChecks, salvageChecks}
 use Rattle.demands.specs.Demand1.{Demand1}
-use Rattle.demands.proofs.ByChecksLaws.{inside, inside-join, by-rule, by-outcome, outcome-untouched, kept, kept-lent}
+use Rattle.demands.proofs.ByChecksLaws.{inside, inside-join, by-rule, by-same, by-outcome, outcome-untouched, kept, kept-lent}
 use Rattle.demands.proofs.Inside.{regions-inside, map-inside}
 use Rattle.demands.proofs.Shows.{showFrame, frame-back, showHeader, header-back, showSet, set-back, showMoment, moment-back, showBlock, block-back}
 use Rattle.demands.proofs.Shows.{showWrite, write-back, showRequest, request-back, showGate, gate-back, showMap, map-back, showCode, code-back}
-use Rattle.demands.proofs.Shows.{showCompare, compare-back}
+use Rattle.demands.proofs.Shows.{showCompare, compare-back, showSalvage, salvage-back}
 use Rattle.demands.proofs.Readers.{by-stream, by-set, set-untouched, by-radial, by-moment, by-block, by-value, by-gate}
+use Rattle.demands.proofs.SalvagedLaws.{salvaged-answer, salvaged-refused}
 
 by-header : (b : List ℕ) → ByChecks (headerChecks b) (headerOf b)
 unfolding headerOf
@@ -110,6 +115,28 @@ censor-kept : (list out : List ℕ) → KeptLent tellWrite (writerChecks (listCh
 unfolding censorWritten
 censor-kept list out = written-kept (listChecks list) (bodyOf list) out (regions-inside (count list) (fields list)) (censor-write-only list out)
 
+-- ---- two outputs
+salvage-kept : (b out runs : List ℕ) → KeptBoth (Salvages (salvageOf b out runs)) (salvageChecks b out runs) (salvageOf b out runs) out runs
+unfolding salvageOf
+salvage-kept b out runs =
+    let frames = keptFrames (stepsOf b) in
+    let skipped = runsOf 0 0 (stepsOf b) in
+    let all = salvageChecks b out runs in
+    let right = salvageOf b out runs in
+    let shown = showSalvage (right .answer) in
+    let meets : Salvages right shown (right .output) (right .listed) = record { answers = salvage-back (right .answer); leaves = refl; lists = refl } in
+    record {
+      one = record {
+        the = (shown, right .output, right .listed);
+        meets = meets;
+        only = λ p e. let q = one-salvage b out runs (p .0) shown (p .1) (right .output) (p .2) (right .listed) e meets in λ i. (q .0 i, q .1 i, q .2 i);
+      };
+      byChecks = by-same all (right .answer) (rule all (report frames skipped)) (salvaged-answer frames skipped out runs) (by-rule all (report frames skipped) refl);
+      untouched = λ n e.
+          let q = salvaged-refused frames skipped out runs n e in
+          (ap (λ (s : Salvage). s .output) q, ap (λ (s : Salvage). s .listed) q);
+    }
+
 pub demand1 : Demand1
 demand1 = record {
   frame = λ stream place.
@@ -135,4 +162,5 @@ demand1 = record {
       kept tellCode showCode code-back (mapChecks body ++ askedChecks (segmentsIn body) elevation azimuth kilometre) (codeOf body elevation azimuth kilometre)
       (one-code-answer body elevation azimuth kilometre) (by-query body elevation azimuth kilometre);
   compare = compare-kept;
+  salvage = salvage-kept;
 }

@@ -4,6 +4,7 @@ pub mod ByChecksLaws
 pub mod Inside
 pub mod Shows
 pub mod Readers
+pub mod SalvagedLaws
 pub mod First
 pub mod Third
 pub mod Painted
@@ -12,3 +13,4 @@ pub mod FaceHolds
 pub mod HandedToC
 pub mod Alone
 pub mod TwoMapsHold
+pub mod DamagedRecordingHolds

@@ -15,6 +15,10 @@ use Rattle.segments.specs.Walk.{SetSays}
 use Rattle.sets.specs.declared.SetAnswer.{SetAnswer}
 use Rattle.sets.specs.declared.SetAnswer.the-variants.{Set, Refused as NoSet}
 use Rattle.sets.specs.Promises.{tellSet}
+use Rattle.recording.specs.Salvage.{Report}
+use Rattle.salvage.specs.declared.SalvageAnswer.{SalvageAnswer}
+use Rattle.salvage.specs.declared.SalvageAnswer.the-variants.{Salvaged, Refused as NoSalvage}
+use Rattle.salvage.specs.Answers.{tellSalvage}
 use Rattle.radial.specs.declared.MomentHead.{MomentHead}
 use Rattle.lookup.specs.declared.MomentAnswer.{MomentAnswer}
 use Rattle.lookup.specs.declared.MomentAnswer.the-variants.{Moment as Found, Refused as NotFound}
@@ -149,3 +153,11 @@ showRequest (given code) = RequestCode code
 pub request-back : (a : Answer ℕ) → tellRequest (showRequest a) ≡ a
 request-back (refused n) = refl
 request-back (given code) = refl
+
+abbrev pub showSalvage : Answer Report → SalvageAnswer
+showSalvage (refused n) = NoSalvage n
+showSalvage (given s) = Salvaged (s .kept) (s .long) (s .runs)
+
+pub salvage-back : (a : Answer Report) → tellSalvage (showSalvage a) ≡ a
+salvage-back (refused n) = refl
+salvage-back (given s) = refl

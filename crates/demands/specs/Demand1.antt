@@ -1,7 +1,7 @@
 -- Demand 1. "Any bytes may be given to any public entry. Each ends with an answer or with one refusal number of document 01, given when its rule
 -- says so and not otherwise. A refusal changes no lent byte and reports a count of 0."
 -- For each entry of the library: for every input exactly one answer meets the promise of its contract; a refusal's number is of the table and is
--- that of the first broken check, all earlier ones hold; and a refusal leaves the lent output as it was. That each entry ends with an answer that
+-- that of the first broken check, all earlier ones hold; and a refusal leaves what was lent as it was. That each entry ends with an answer that
 -- meets its promise is its own proof, in its crate.
 use Prim.Native.Nat.{ℕ}
 use mathlib.Core.Path.{_≡_}
@@ -17,6 +17,8 @@ use Rattle.message.specs.Header.{headerChecks, headerOf}
 use Rattle.message.specs.Promises.{tellHeader}
 use Rattle.segments.specs.Walk.{setOf}
 use Rattle.sets.specs.Promises.{tellSet}
+use Rattle.recording.specs.Salvage.{salvageOf}
+use Rattle.salvage.specs.Answers.{Salvages}
 use Rattle.writer.specs.declared.Given.{Given}
 use Rattle.writer.specs.Writing.{framesOf, writeChecks, writeOf}
 use Rattle.description.specs.Refusal.{radialChecks, radialOf}
@@ -35,8 +37,8 @@ use Rattle.map.specs.Reading.{segmentsIn, mapChecks, askedChecks, summaryOf, co
 use Rattle.filter.specs.Answers.{tellMap, tellCode}
 use Rattle.differences.specs.Comparing.{comparisonOf}
 use Rattle.compare.specs.Answers.{tellCompare}
-use Rattle.demands.specs.Notions.{One, ByChecks, Kept, KeptLent}
-use Rattle.demands.specs.Orders.{streamChecks, setChecks, momentChecks, gateChecks, writerChecks, comparisonChecks}
+use Rattle.demands.specs.Notions.{One, ByChecks, Kept, KeptLent, KeptBoth}
+use Rattle.demands.specs.Orders.{streamChecks, setChecks, momentChecks, gateChecks, writerChecks, comparisonChecks, salvageChecks}
 
 pub record Demand1 : Type 0 where
   -- `frame_at`, `read_header`
@@ -61,3 +63,5 @@ pub record Demand1 : Type 0 where
   pub code : (body : List ℕ) (elevation azimuth kilometre : ℕ)
       → Kept tellCode (mapChecks body ++ askedChecks (segmentsIn body) elevation azimuth kilometre) (codeOf body elevation azimuth kilometre)
   pub compare : (old new out : List ℕ) → KeptLent tellCompare (comparisonChecks old new (length out)) (comparisonOf old new out) out
+  -- `salvage`
+  pub salvage : (buffer out runs : List ℕ) → KeptBoth (Salvages (salvageOf buffer out runs)) (salvageChecks buffer out runs) (salvageOf buffer out runs) out runs

@@ -9,6 +9,7 @@ use Rattle.wire.specs.Answers.{Answer, refused, given, Outcome}
 use Rattle.frame.specs.Session.{frameAt}
 use Rattle.message.specs.Header.{headerOf}
 use Rattle.segments.specs.Walk.{setOf}
+use Rattle.recording.specs.Salvage.{salvageOf}
 use Rattle.writer.specs.declared.Given.{Given}
 use Rattle.writer.specs.Writing.{writeOf}
 use Rattle.description.specs.Refusal.{radialOf}
@@ -23,7 +24,8 @@ use Rattle.c_lent.specs.Lent.{Leaves, writtenFace}
 use Rattle.c_frames.specs.declared.UlmFrame.{UlmFrame}
 use Rattle.c_frames.specs.declared.UlmHeader.{UlmHeader}
 use Rattle.c_frames.specs.declared.UlmSet.{UlmSet}
-use Rattle.c_frames.specs.Frames.{frameFace, headerFace, setFace}
+use Rattle.c_frames.specs.declared.UlmSalvage.{UlmSalvage}
+use Rattle.c_frames.specs.Frames.{frameFace, headerFace, setFace, salvageFace, LeavesBoth}
 use Rattle.c_radials.specs.declared.UlmRadial.{UlmRadial}
 use Rattle.c_radials.specs.declared.UlmBlock.{UlmBlock}
 use Rattle.c_radials.specs.declared.UlmGates.{UlmGates}
@@ -35,7 +37,8 @@ use Rattle.c_bodies.specs.declared.UlmMap.{UlmMap}
 use Rattle.c_bodies.specs.declared.UlmMapCode.{UlmMapCode}
 use Rattle.c_bodies.specs.declared.UlmComparison.{UlmComparison}
 use Rattle.c_bodies.specs.Bodies.{requestFace, censorFace, mapFace, mapCodeFace, comparisonFace}
-use Rattle.demands.specs.Notions.{One, OfTheTable}
+use Rattle.demands.specs.Notions.{One, OfTheTable, KeptBoth}
+use Rattle.demands.specs.Orders.{salvageChecks}
 
 -- the face of an answer: `number` is the struct's refusal, `blank n` the struct that holds n and nothing else
 pub record Shown {R A : Type 0} (face : Answer A → R) (number : R → ℕ) (blank : ℕ → R) (right : Answer A) : Type 0 where
@@ -58,6 +61,9 @@ blankHeader n = record { refusal = n; size = 0; channel = 0; kind = 0; sequence 
 
 abbrev pub blankSet : ℕ → UlmSet
 blankSet n = record { refusal = n; size = 0; channel = 0; kind = 0; sequence = 0; date = 0; ms = 0; segments = 0; number = 0; length = 0 }
+
+abbrev pub blankSalvage : ℕ → UlmSalvage
+blankSalvage n = record { refusal = n; kept = 0; length = 0; runs = 0 }
 
 abbrev pub blankWritten : ℕ → UlmWritten
 blankWritten n = record { refusal = n; length = 0 }
@@ -140,3 +146,5 @@ pub record FaceOfC : Type 0 where
   pub mapCode : (body : List ℕ) (elevation azimuth kilometre : ℕ)
       → Shown mapCodeFace (λ (r : UlmMapCode). r .refusal) blankMapCode (codeOf body elevation azimuth kilometre)
   pub compareMaps : (old new out : List ℕ) → ShownLent comparisonFace (λ (r : UlmComparison). r .refusal) blankComparison (comparisonOf old new out) out
+  pub salvage : (buf out runs : List ℕ) → KeptBoth (LeavesBoth (salvageOf buf out runs)) (salvageChecks buf out runs) (salvageOf buf out runs) out runs
+      × Shown salvageFace (λ (r : UlmSalvage). r .refusal) blankSalvage (salvageOf buf out runs .answer)

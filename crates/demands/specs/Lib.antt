@@ -10,3 +10,4 @@ pub mod Face
 pub mod FaceOfRadial
 pub mod LoneSegment
 pub mod TwoMaps
+pub mod DamagedRecording

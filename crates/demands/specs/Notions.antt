@@ -4,6 +4,7 @@ use mathlib.Core.Path.{_≡_}
 use mathlib.Core.List.{List}
 use Rattle.wire.specs.Checks.{Check, AllHold, Blamed}
 use Rattle.wire.specs.Answers.{Answer, refused, given, Outcome, Promise}
+use Rattle.recording.specs.Salvage.{Salvage}
 
 -- exactly one value has the property
 pub record One {R : Type 0} (P : R → Type 0) : Type 0 where
@@ -35,3 +36,9 @@ pub record KeptLent {R A : Type 0} (tell : R → Answer A) (ks : List Check) (ri
   pub one : One (λ (p : R × List ℕ). Promise tell right (p .0) (p .1))
   pub byChecks : ByChecks ks (right .answer)
   pub untouched : (n : ℕ) → right .answer ≡ refused n → right .output ≡ out
+
+-- the same of an entry that writes to two outputs, by its promise
+pub record KeptBoth {R : Type 0} (promise : R → List ℕ → List ℕ → Type 0) (ks : List Check) (right : Salvage) (out runs : List ℕ) : Type 0 where
+  pub one : One (λ (p : R × List ℕ × List ℕ). promise (p .0) (p .1) (p .2))
+  pub byChecks : ByChecks ks (right .answer)
+  pub untouched : (n : ℕ) → right .answer ≡ refused n → (right .output ≡ out) × (right .listed ≡ runs)

@@ -1,7 +1,7 @@
 -- "Order": the checks of each entry that asks more than one rule, one list after the other.
 use Prim.Native.Nat.{ℕ, zero, suc}
 use mathlib.Core.Bool.{Bool, true, false}
-use mathlib.Core.List.{List, [], _∷_, _++_}
+use mathlib.Core.List.{List, [], _∷_, _++_, flatten}
 use lib.Dec.{eqb, leb, ltb}
 use lib.ListN.{length, drop}
 use Rattle.wire.specs.Checks.{pick, Check, check}
@@ -9,6 +9,8 @@ use Rattle.wire.specs.Answers.{Answer, refused, given}
 use Rattle.frame.specs.Session.{after, frameChecks}
 use Rattle.segments.specs.Segment.{Segment, segmentIn}
 use Rattle.segments.specs.Walk.{turnChecks, endChecks}
+use Rattle.recording.specs.Walk.{stepsOf, framesOf, runsOf}
+use Rattle.recording.specs.Salvage.{numbers, roomChecks}
 use Rattle.description.specs.Description.{Moment, gates}
 use Rattle.description.specs.Refusal.{description, radialChecks}
 use Rattle.description.specs.Lookups.{momentNamed}
@@ -54,3 +56,7 @@ writerChecks ks whole room = ks ++ (check 13 (ltb room (length whole)) ∷ [])
 -- K2: "A bad map is refused by its own number, the first map first; too little output is 13"
 abbrev pub comparisonChecks : List ℕ → List ℕ → ℕ → List Check
 comparisonChecks old new room = writerChecks (mapChecks old ++ mapChecks new) (halfwords (differences (mapIn old) (mapIn new))) room
+
+-- K10: "Should either output be too small, 13"
+abbrev pub salvageChecks : List ℕ → List ℕ → List ℕ → List Check
+salvageChecks b out runs = roomChecks (flatten (framesOf (stepsOf b))) (numbers (runsOf 0 0 (stepsOf b))) out runs
