@@ -89,7 +89,7 @@ fn first_mark(part: &[u8]) -> usize
     i
 }
 
-// A place from which on a frame may begin: none begins between. Whole blocks are passed over.
+// The next place at which a frame may begin, by its kind; at none before it does one. Blocks without one are passed over whole.
 fn next_mark(buf: &[u8], from: usize) -> usize
     requires { ⌜ from ≤ length (now buf) ⌝ }
     ensures { λ r. ⌜ NoneFrom (now (buf .entry)) from r ⌝ }
