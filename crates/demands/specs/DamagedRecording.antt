@@ -1,6 +1,6 @@
 -- K10. "Salvage of a damaged recording.": what comes of `salvage` and of `ulm_salvage` for every buffer and every two outputs. What is kept of a
--- buffer and what is skipped is told by its account, over its bytes and document 01's checks: it is in these pieces, each frame kept passes, at no
--- place skipped does one begin, and the runs are longest.
+-- buffer and what is skipped is told by its account, over its bytes and document 01's checks: the account's pieces joined are the buffer, each
+-- frame kept passes, at no place skipped does one begin, and the runs are longest.
 use Prim.Native.Nat.{ℕ, suc, _+_, _*_, _/_, _≤_, _<_}
 use mathlib.Core.Path.{_≡_}
 use mathlib.Core.List.{List, flatten}
@@ -18,7 +18,7 @@ use Rattle.c_frames.specs.Frames.{LeavesBoth}
 use Rattle.demands.specs.Notions.{One}
 use Rattle.demands.specs.Face.{blankSalvage}
 
--- this answer and these two outputs meet the promise of `salvage`, this struct and they that of `ulm_salvage`, and nothing else does
+-- this answer with these two outputs meets the promise of `salvage`, this struct with them that of `ulm_salvage`, and nothing else does
 pub record Comes (b out runs : List ℕ) (answer : SalvageAnswer) (struct : UlmSalvage) (left listed : List ℕ) : Type 0 where
   pub met : Salvages (salvageOf b out runs) answer left listed
   pub metForC : LeavesBoth (salvageOf b out runs) struct left listed
