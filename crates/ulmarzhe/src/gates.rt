@@ -7,10 +7,10 @@ use crate::part::part;
 use crate::part::wide16;
 use crate::picture;
 use crate::real;
-use crate::recording;
-use crate::recording::Carried;
-use crate::recording::Walk;
-use crate::recording::paged;
+use crate::recorded;
+use crate::recorded::Carried;
+use crate::recorded::Walk;
+use crate::recorded::paged;
 use crate::window::WINDOW;
 use frame::FrameAnswer;
 use gate::GateAnswer;
@@ -25,8 +25,8 @@ pub fn listed(
     window: &mut [u8; WINDOW],
     sheet: &mut [u8; SHEET],
 ) -> Walk {
-    let w = recording::begun(fd, place, 0, picture::empty());
-    let w = recording::ready(w, window);
+    let w = recorded::begun(fd, place, 0, picture::empty());
+    let w = recorded::ready(w, window);
     if w.done {
         return w;
     }
@@ -57,7 +57,7 @@ fn in_message(
     whole: &[u8],
     sheet: &mut [u8; SHEET],
 ) -> Walk {
-    match recording::carried_by(kind, whole) {
+    match recorded::carried_by(kind, whole) {
         Carried::Other => paged(w, listing::no_radial(sheet, 0, place)),
         Carried::Refused(n) => paged(w, listing::refused(sheet, 0, place, whole, n)),
         Carried::Radial => in_radial(w, place, name, whole, sheet),
@@ -65,7 +65,7 @@ fn in_message(
 }
 
 fn in_radial(w: Walk, place: u64, name: [u8; 4], whole: &[u8], sheet: &mut [u8; SHEET]) -> Walk {
-    let body = recording::body_of(whole);
+    let body = recorded::body_of(whole);
     match lookup::moment(body, name) {
         MomentAnswer::Refused(n) => paged(w, listing::refused(sheet, 0, place, whole, n)),
         MomentAnswer::Moment(m) => {
@@ -101,7 +101,7 @@ fn lines(w: Walk, m: MomentHead, gates: &[u8], sheet: &mut [u8; SHEET]) -> Walk 
 
 fn one(w: Walk, m: MomentHead, i: u16, metres: u64, code: u16, sheet: &mut [u8; SHEET]) -> Walk {
     let values = [wide16(i), metres / 1000, metres % 1000, wide16(code)];
-    let w = recording::emptied(w, PAGE / 2, sheet);
+    let w = recorded::emptied(w, PAGE / 2, sheet);
     let next = page::filled(sheet, w.page, b"<  <.& km  <  ", &values);
     let worth = gate::value(code, m.scale_bits, m.offset_bits);
     paged(w, value(sheet, next, worth))

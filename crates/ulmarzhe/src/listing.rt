@@ -6,9 +6,9 @@ use crate::part::wide8;
 use crate::part::wide16;
 use crate::part::wide32;
 use crate::real;
-use crate::recording;
-use crate::recording::Carried;
-use crate::recording::DATA;
+use crate::recorded;
+use crate::recorded::Carried;
+use crate::recorded::DATA;
 use crate::why;
 use crate::words;
 use message::Header;
@@ -97,7 +97,7 @@ pub fn of_radial(
 }
 
 fn radial_line(sheet: &mut [u8; SHEET], at: usize, place: u64, whole: &[u8]) -> usize {
-    let body = recording::body_of(whole);
+    let body = recorded::body_of(whole);
     let answer = radial::read_radial(body);
     if answer.refusal != 0 {
         return refused(sheet, at, place, whole, answer.refusal);

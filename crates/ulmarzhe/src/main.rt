@@ -13,7 +13,7 @@ mod part;
 mod picture;
 mod readers;
 mod real;
-mod recording;
+mod recorded;
 mod sink;
 mod told;
 mod why;
@@ -24,9 +24,9 @@ mod writers;
 use filter::CodeAnswer;
 use lists::LIST;
 use page::SHEET;
-use recording::ROWS;
-use recording::SURVEY;
-use recording::Walk;
+use recorded::ROWS;
+use recorded::SURVEY;
+use recorded::Walk;
 use window::Reading;
 use window::WINDOW;
 use words::Number;
@@ -63,8 +63,8 @@ fn main() {
     }
     match command {
         CASES => run_cases(),
-        FRAMES => run_listing(recording::FRAMES),
-        RADIALS => run_listing(recording::RADIALS),
+        FRAMES => run_listing(recorded::FRAMES),
+        RADIALS => run_listing(recorded::RADIALS),
         GATES => run_gates(),
         PICTURE => run_picture(),
         MAP => run_map(),
@@ -209,16 +209,16 @@ fn run_listing(mode: u8) {
     }
     let mut window = [0u8; WINDOW];
     let mut sheet = [0u8; SHEET];
-    let w = recording::begun(fd, 0, 0, picture::empty());
+    let w = recorded::begun(fd, 0, 0, picture::empty());
     ended(
-        recording::walked(w, mode, [0; 4], &mut window, &mut sheet),
+        recorded::walked(w, mode, [0; 4], &mut window, &mut sheet),
         &sheet,
     );
 }
 
 // What is left of the page is written, and a recording that could not be read to its end is told.
 fn ended(w: Walk, sheet: &[u8; SHEET]) {
-    let w = recording::emptied(w, 0, sheet);
+    let w = recorded::emptied(w, 0, sheet);
     let r = w.reading;
     if r.failed {
         os::fail(b"recording");
@@ -272,8 +272,8 @@ fn run_picture() {
 }
 
 fn pictured(fd: i32, name: [u8; 4], window: &mut [u8; WINDOW], sheet: &mut [u8; SHEET]) -> Walk {
-    let w = recording::begun(fd, 0, 0, picture::empty());
-    let w = recording::walked(w, SURVEY, name, window, sheet);
+    let w = recorded::begun(fd, 0, 0, picture::empty());
+    let w = recorded::walked(w, SURVEY, name, window, sheet);
     let r = w.reading;
     if r.failed {
         return w;
@@ -290,8 +290,8 @@ fn pictured(fd: i32, name: [u8; 4], window: &mut [u8; WINDOW], sheet: &mut [u8; 
         os::fail(b"recording");
         return w;
     }
-    let again = recording::begun(fd, 0, picture::head(p, sheet), p);
-    recording::walked(again, ROWS, name, window, sheet)
+    let again = recorded::begun(fd, 0, picture::head(p, sheet), p);
+    recorded::walked(again, ROWS, name, window, sheet)
 }
 
 fn run_map() {
@@ -383,7 +383,7 @@ fn both(
     if r.failed {
         return;
     }
-    let w = recording::begun(new, 0, 0, picture::empty());
+    let w = recorded::begun(new, 0, 0, picture::empty());
     ended(compared(w, window, end, r.fill, list, sheet), sheet);
 }
 

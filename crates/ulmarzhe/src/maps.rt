@@ -6,8 +6,8 @@ use crate::page::SHEET;
 use crate::part::part;
 use crate::part::wide16;
 use crate::part::wide32;
-use crate::recording;
-use crate::recording::Walk;
+use crate::recorded;
+use crate::recorded::Walk;
 use crate::why;
 use crate::words;
 use compare::CompareAnswer;
@@ -65,14 +65,14 @@ pub fn compared(
     sheet: &mut [u8; SHEET],
 ) -> Walk {
     match compare::compare(old, new, list) {
-        CompareAnswer::Refused(n) => recording::paged(w, refused(sheet, old, n)),
+        CompareAnswer::Refused(n) => recorded::paged(w, refused(sheet, old, n)),
         CompareAnswer::Compared(before, now, count) => {
             let mut tally = [0u64; CELLS];
             let w = lines(w, list, count, &mut tally, sheet);
             if w.done {
                 return w;
             }
-            recording::paged(w, summary(sheet, w.page, before, now, count, &tally))
+            recorded::paged(w, summary(sheet, w.page, before, now, count, &tally))
         }
     }
 }
@@ -108,7 +108,7 @@ fn lines(
 fn one(w: Walk, d: Difference, tally: &mut [u64; CELLS], sheet: &mut [u8; SHEET]) -> Walk {
     counted(tally, d);
     let at = line(sheet, w.page, d);
-    recording::emptied(recording::paged(w, at), PAGE / 2, sheet)
+    recorded::emptied(recorded::paged(w, at), PAGE / 2, sheet)
 }
 
 fn nth(list: &[u16], i: u32) -> Difference {

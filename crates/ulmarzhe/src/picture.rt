@@ -2,7 +2,7 @@
 use crate::page;
 use crate::page::SHEET;
 use crate::part::wide16;
-use crate::recording::Carried;
+use crate::recorded::Carried;
 use lookup::MomentAnswer;
 
 // How many rows a picture has, how many gates the longest, and whether a code takes two bytes.

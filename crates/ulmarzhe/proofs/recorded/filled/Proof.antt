@@ -1,27 +1,30 @@
 use borrow.Author.Needs.{needs}
-use Rattle.ulmarzhe.proofs.recording.walked.Statement.{statement}
-use Rattle.ulmarzhe.proofs.recording.walked.Tie as tie
+use Rattle.ulmarzhe.proofs.recorded.filled.Statement.{statement}
+use Rattle.ulmarzhe.proofs.recorded.filled.Tie as tie
 
 abbrev Inv-loop : tie.InvT-loop
-Inv-loop mode name window₀ sheet₀ w₀ turns₀ window sheet w turns = Unit {0}
+Inv-loop window₀ r₀ turns₀ window r turns = Unit {0}
 
 abbrev μ-loop : tie.MeasureT-loop
-μ-loop mode name window₀ sheet₀ w₀ turns₀ window sheet w turns = turns
+μ-loop window₀ r₀ turns₀ window r turns = turns
 
 loop-holds : tie.Need-loop-holds Inv-loop μ-loop
 loop-holds c = search needs
 
-ready-requires : tie.Need-ready-requires Inv-loop μ-loop
-ready-requires c κs = search needs
-
 returns : tie.Need-returns Inv-loop μ-loop
 returns c = search needs
 
-step-requires : tie.Need-step-requires Inv-loop μ-loop
-step-requires c κs = search needs
+part-requires : tie.Need-part-requires Inv-loop μ-loop
+part-requires c κs = search needs
+
+is-whole-requires : tie.Need-is-whole-requires Inv-loop μ-loop
+is-whole-requires c κs = search needs
 
 returns-2 : tie.Need-returns-2 Inv-loop μ-loop
 returns-2 c = search needs
+
+more-requires : tie.Need-more-requires Inv-loop μ-loop
+more-requires c κs = search needs
 
 sub-turns : tie.Need-sub-turns Inv-loop μ-loop
 sub-turns c = search needs
@@ -35,17 +38,18 @@ loop-again c = search needs
 returns-3 : tie.Need-returns-3 Inv-loop μ-loop
 returns-3 c = search needs
 
-pub walked-spec : {M : Type 1} → statement M
-walked-spec =
+pub filled-spec : {M : Type 1} → statement M
+filled-spec =
     tie.close
     (tie.spec
     Inv-loop
     μ-loop
     loop-holds
-    ready-requires
     returns
-    step-requires
+    part-requires
+    is-whole-requires
     returns-2
+    more-requires
     sub-turns
     loop-less
     loop-again
