@@ -9,6 +9,7 @@ use crate::picture::Picture;
 use crate::window;
 use crate::window::Reading;
 use crate::window::WINDOW;
+use frame::DATA;
 use frame::FrameAnswer;
 use message::HeaderAnswer;
 use wire::refusal;
@@ -21,9 +22,6 @@ pub const RADIALS: u8 = 1;
 pub const SURVEY: u8 = 2;
 
 pub const ROWS: u8 = 3;
-
-// The kind of a frame that carries data.
-pub const DATA: u32 = 2;
 
 const RADIAL: u8 = 31;
 
