@@ -11,6 +11,7 @@ use crate::part::less;
 use crate::part::part;
 use crate::part::sum;
 use crate::readers;
+use crate::runs;
 use crate::sink;
 use crate::sink::Sink;
 use crate::told;
@@ -130,6 +131,10 @@ fn case(line: &[u8], a: Args, sheet: &mut [u8; SHEET]) {
 
 fn answered(a: Args, line: &[u8], s: Sink, expected: &[u8], sheet: &mut [u8; SHEET]) -> Sink {
     let body = within(line, a.digits);
+    if a.entry == entries::SALVAGE {
+        let n = a.numbers;
+        return runs::answered(n, body, s, expected, sheet);
+    }
     let t = told_of(a, within(line, a.before), body, sheet);
     let s = sink::say(s, sheet, t);
     if t.which == told::RADIAL {

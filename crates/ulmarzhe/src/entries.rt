@@ -30,14 +30,16 @@ pub const MAP_CODE: usize = 12;
 
 pub const COMPARE: usize = 13;
 
+pub const SALVAGE: usize = 14;
+
 pub fn named(word: &[u8]) -> usize {
     let names =
-        b"frame;header;set;write;radial;gates;gate;request;write-request;censor;write-censor;map;map-code;compare";
+        b"frame;header;set;write;radial;gates;gate;request;write-request;censor;write-censor;map;map-code;compare;salvage";
     words::which(word, names)
 }
 
 // The words after an entry.
 pub fn asked(entry: usize, question: &[u8], at: usize) -> Args {
-    let shapes = b"nx;x;nx;bbhhwnx;x;mx;mnx;x;nl;x;nl;x;nnnx;nxx";
+    let shapes = b"nx;x;nx;bbhhwnx;x;mx;mnx;x;nl;x;nl;x;nnnx;nxx;nnx";
     args::parsed(question, at, words::pick(shapes, entry))
 }

@@ -14,6 +14,7 @@ mod picture;
 mod readers;
 mod real;
 mod recorded;
+mod runs;
 mod sink;
 mod told;
 mod why;

@@ -55,7 +55,8 @@ fn is_plain(mark: u8) -> bool {
     b'a' <= mark && mark <= b'z'
 }
 
-fn nth(numbers: &[u64], k: usize) -> u64 {
+// A number of a list, or 0 past its last.
+pub fn nth(numbers: &[u64], k: usize) -> u64 {
     if k < numbers.len() {
         return numbers[k];
     }

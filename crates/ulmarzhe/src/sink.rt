@@ -34,7 +34,7 @@ pub fn met(s: Sink, expected: &[u8]) -> bool {
 
 pub fn say(s: Sink, sheet: &mut [u8; SHEET], t: Told) -> Sink {
     let list =
-        b"no #;touched;end;frame # # # # #;header # # # # # # # #;set # # # # # # # # x;wrote x;radial x~ # # # x~ # # # # # x~ # # #; | # # x~; | # # x~ x~ # # # # # # # x~ x~;gates x;below;folded;value x~;request #;censor # x;map # # #;code #;compare # # # x";
+        b"no #;touched;end;frame # # # # #;header # # # # # # # #;set # # # # # # # # x;wrote x;radial x~ # # # x~ # # # # # x~ # # #; | # # x~; | # # x~ x~ # # # # # # # x~ x~;gates x;below;folded;value x~;request #;censor # x;map # # #;code #;compare # # # x;salvaged # # x";
     let values = t.values;
     let mut s = s;
     s.at = page::filled(sheet, s.at, words::pick(list, t.which), &values);
@@ -53,6 +53,16 @@ pub fn bytes(s: Sink, sheet: &mut [u8; SHEET], expected: &[u8], length: usize) -
         s = octet(s, sheet, expected, b);
         i += 1;
     }
+    s
+}
+
+// Two numbers more.
+pub fn pair(s: Sink, sheet: &mut [u8; SHEET], expected: &[u8], a: u64, b: u64) -> Sink {
+    let mut s = s;
+    if PAGE / 2 < s.at {
+        s = settled(s, sheet, expected);
+    }
+    s.at = page::filled(sheet, s.at, b" # #", &[a, b]);
     s
 }
 

@@ -1,5 +1,5 @@
-// An answer in numbers: `which` words it is said with, the numbers that stand among them, and how many bytes of the lent output or
-// blocks of a radial follow.
+// An answer in numbers: `which` words it is said with, the numbers that stand among them, and how many bytes of the lent output and
+// blocks of a radial or runs of a damaged recording follow.
 pub struct Told {
     pub which: usize,
     pub values: [u64; 14],
@@ -45,6 +45,8 @@ pub const MAP: usize = 16;
 pub const CODE: usize = 17;
 
 pub const COMPARED: usize = 18;
+
+pub const SALVAGED: usize = 19;
 
 pub fn three(which: usize, a: u64, b: u64, c: u64) -> Told {
     Told {

@@ -60,14 +60,14 @@ fn wrote(answer: WriteAnswer) -> Told {
     }
 }
 
-fn room_of(room: u64, most: usize) -> usize {
+pub fn room_of(room: u64, most: usize) -> usize {
     if room < most as u64 {
         return room as usize;
     }
     most
 }
 
-fn touched() -> Told {
+pub fn touched() -> Told {
     told::one(told::TOUCHED, 0)
 }
 
@@ -75,7 +75,7 @@ fn pattern(i: usize) -> u8 {
     (i % 251) as u8
 }
 
-fn lay(sheet: &mut [u8; SHEET], end: usize) {
+pub fn lay(sheet: &mut [u8; SHEET], end: usize) {
     let mut i = PAGE;
     while i < end {
         if SHEET <= i {
@@ -87,7 +87,7 @@ fn lay(sheet: &mut [u8; SHEET], end: usize) {
 }
 
 // Whether the pattern stands after a length to the end of what was lent.
-fn kept(sheet: &[u8; SHEET], length: usize, end: usize) -> bool {
+pub fn kept(sheet: &[u8; SHEET], length: usize, end: usize) -> bool {
     let mut i = length;
     while i < ROOM {
         if end <= PAGE + i {
