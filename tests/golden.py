@@ -1,7 +1,8 @@
 """What the program and the loader must write for the sample, computed apart from the library: python3 tests/golden.py
 
-It writes the files of tests/golden/ and examples/sample.totals from examples/sample.rec, examples/sample.map and
-examples/later.map, by offsets of the interface document and with nothing checked: the sample is sound.
+It writes the files of tests/golden/, examples/sample.totals and examples/damaged.rec from examples/sample.rec,
+examples/sample.map and examples/later.map, by offsets of the interface document and with nothing checked: the sample is
+sound. Only what is salvaged is checked, by document 01.
 """
 import datetime
 import decimal
@@ -21,6 +22,7 @@ STATUS = [
     "start of last elevation",
 ]
 MAP_CODES = ["bypass filter", "bypass map in control", "force filter"]
+PERMITTED = {*range(1, 14), 15, 18, 31}
 
 
 def single(x):
@@ -182,6 +184,66 @@ def table_lines(tally, elevations):
             yield "".join(f"{tally.get((column, row), 0):>10}" for column in columns) + f"  {says}\n"
 
 
+def passing(recording, at):
+    """The bytes of the data frame with a header that passes at a place, or 0."""
+    left = len(recording) - at - 12
+    if left < 16:
+        return 0
+    kind, _, size = struct.unpack_from(">III", recording, at)
+    halfwords, _, message, _, days, ms, segments, number = struct.unpack_from(">HBBHHIHH", recording, at + 12)
+    broken = (
+        kind != 2 or size > min(left, 131068) or size != 2 * halfwords or not 8 <= halfwords <= 65534
+        or message not in PERMITTED or not 1 <= segments <= 128 or segments > 1 and not 1 <= number <= segments
+        or segments > 1 and message == 31 or halfwords > 1208 and message != 31 or days < 1 or ms > 86399999
+    )
+    return 0 if broken else 12 + size
+
+
+def pieces(recording):
+    """Frames kept and runs skipped, in order: where each begins, where it ends, and whether it is kept."""
+    first = at = 0
+    while at < len(recording):
+        size = passing(recording, at)
+        if not size:
+            # to the next kind of a data frame, or to the end
+            at = recording.find(b"\0\0\0\2", at + 1) % (len(recording) + 1)
+            continue
+        if first < at:
+            yield first, at, False
+        yield at, at + size, True
+        first = at = at + size
+    if first < at:
+        yield first, at, False
+
+
+def salvaged(recording):
+    """The clean recording, and the account of it."""
+    clean = [recording[first:end] for first, end, kept in pieces(recording) if kept]
+    account = "".join(
+        f"{first:10}  skipped, {end - first} byte{'s' * (end > first + 1)}\n"
+        for first, end, kept in pieces(recording) if not kept
+    )
+    size = sum(map(len, clean))
+    account += f"{len(clean):10}  frames kept\n{size:10}  bytes kept\n{len(recording) - size:10}  bytes skipped\n"
+    return b"".join(clean), account + f"{len(recording):10}  bytes in all\n"
+
+
+def damaged(recording):
+    """The first messages of a recording as a recorder whose line was cut again and again left them."""
+    sound = [recording[at : at + 12 + len(message)] for at, message in itertools.islice(frames(recording), 12)]
+    return b"".join((
+        sound[0][1000:], sound[1], sound[2],
+        # cut off, and gone on within another
+        sound[3][:700], sound[4][2000:], sound[5],
+        # eight bytes lost: the frame takes them from the next one
+        sound[6][:900], sound[6][908:], sound[7], sound[8],
+        # a keep alive, and a gap filled with zeros
+        struct.pack(">III", 4, 0, 0), sound[9], bytes(100),
+        # a date of 0
+        sound[10][:18], bytes(2), sound[10][20:], sound[11][:-1],
+    ))
+
+
 def write(name, content, folder=HERE / "golden"):
     content = content if isinstance(content, bytes) else "".join(content).encode()
     (folder / name).write_bytes(content)
@@ -198,5 +260,7 @@ if __name__ == "__main__":
     sample, later = ((EXAMPLES / name).read_bytes() for name in ("sample.map", "later.map"))
     write("map", map_line(sample, 2, 100, 250))
     write("compare", compare_lines(sample, later))
+    write("damaged.rec", damaged(recorded), EXAMPLES)
+    write("salvage", salvaged(damaged(recorded))[1])
     every_moment = ("REF", "VEL", "SW", "ZDR", "PHI", "RHO")
     write("sample.totals", (line for m in every_moment for line in totals_lines(recorded, m)), EXAMPLES)

@@ -1,6 +1,8 @@
 // The program: cases run against the library, and recordings shown to people.
 mod args;
 mod cases;
+mod clean;
+mod damaged;
 mod date;
 mod entries;
 mod gates;
@@ -22,6 +24,7 @@ mod window;
 mod words;
 mod writers;
 
+use damaged::Salvage;
 use filter::CodeAnswer;
 use lists::LIST;
 use page::SHEET;
@@ -47,16 +50,18 @@ const MAP: usize = 5;
 
 const COMPARE: usize = 6;
 
-const WHY: usize = 7;
+const SALVAGE: usize = 7;
 
-const HELP: usize = 8;
+const WHY: usize = 8;
+
+const HELP: usize = 9;
 
 fn main() {
     let mut word = io::buffer();
     let length = os::arg(1, &mut word);
     let command = words::which(
         &word[..length],
-        b"cases;frames;radials;gates;picture;map;compare;why;help",
+        b"cases;frames;radials;gates;picture;map;compare;salvage;why;help",
     );
     if !is_right(command, os::arg_count()) {
         wrong(command);
@@ -70,6 +75,7 @@ fn main() {
         PICTURE => run_picture(),
         MAP => run_map(),
         COMPARE => run_compare(),
+        SALVAGE => run_salvage(),
         WHY => run_why(),
         _ => help(),
     }
@@ -83,9 +89,20 @@ fn is_right(command: usize, count: usize) -> bool {
         GATES => count == 5,
         PICTURE | COMPARE => count == 4,
         MAP => count == 6,
+        SALVAGE => count == 4 || says_over(count),
         HELP => count == 2,
         _ => false,
     }
+}
+
+// Whether a fourth word is the last and says that a file may be written over.
+fn says_over(count: usize) -> bool {
+    if count != 5 {
+        return false;
+    }
+    let mut word = [0u8; 32];
+    let length = os::arg(4, &mut word);
+    words::same(&word[..length], b"over")
 }
 
 // One line on standard error: the form of the command, or where to find all of them.
@@ -96,7 +113,7 @@ fn wrong(command: usize) {
 
 fn wrong_line(command: usize, sheet: &mut [u8; SHEET]) {
     let list =
-        b"cases FILE...;frames RECORDING;radials RECORDING;gates RECORDING PLACE MOMENT;picture RECORDING MOMENT;map FILE ELEVATION AZIMUTH KILOMETRE;compare OLD NEW;why NUMBER;help";
+        b"cases FILE...;frames RECORDING;radials RECORDING;gates RECORDING PLACE MOMENT;picture RECORDING MOMENT;map FILE ELEVATION AZIMUTH KILOMETRE;compare OLD NEW;salvage DAMAGED CLEAN [over];why NUMBER;help";
     let mut at = page::text(sheet, 0, b"ulmarzhe: the command line should be: ulmarzhe ");
     let form = words::pick(list, command);
     if command <= HELP {
@@ -401,6 +418,50 @@ fn compared(
     maps::compared(w, old, new, list, sheet)
 }
 
+fn run_salvage() {
+    let fd = open_arg(2);
+    if fd < 0 {
+        return;
+    }
+    let mut clean = io::buffer();
+    let length = os::arg(3, &mut clean);
+    if os::errno() != 0 {
+        os::fail(b"file name");
+        return;
+    }
+    salvaged(fd, &clean[..length], os::arg_count() == 5);
+}
+
+fn salvaged(fd: i32, clean: &[u8], over: bool) {
+    let mut window = [0u8; WINDOW];
+    let mut sheet = [0u8; SHEET];
+    if !clean::is_free(clean, fd, over, &mut sheet) {
+        return;
+    }
+    let file = clean::opened(clean, &mut sheet);
+    if file < 0 {
+        return;
+    }
+    let s = damaged::walked(damaged::begun(fd, file), &mut window, &mut sheet);
+    let w = accounted(s, &mut sheet);
+    ended(w, &sheet);
+    if w.done {
+        clean::removed(clean, &mut sheet);
+        return;
+    }
+    clean::placed(clean, over, &mut sheet);
+}
+
+// The rest of the account, written out; its totals where nothing failed.
+fn accounted(s: Salvage, sheet: &mut [u8; SHEET]) -> Walk {
+    let s = damaged::stored(s);
+    let w = s.walk;
+    if w.done {
+        return recorded::emptied(w, 0, sheet);
+    }
+    recorded::emptied(damaged::totals(s, sheet), 0, sheet)
+}
+
 fn run_why() {
     let n = number_arg(2);
     if !n.good || n.value < 1 || why::NUMBERS < n.value {
@@ -421,7 +482,7 @@ fn why_line(n: u64, sheet: &mut [u8; SHEET]) {
 fn help() {
     io::write_all(
         libc::STDOUT_FILENO,
-        b"ulmarzhe shows recordings of RDA/RPG messages, and runs cases against the library.
+        b"ulmarzhe shows recordings of RDA/RPG messages, salvages damaged ones, and runs cases against the library.
 
 ulmarzhe frames RECORDING
     a line a frame: place, kind, bytes; of data type, sequence number, date, time and segment
@@ -435,12 +496,14 @@ ulmarzhe map FILE ELEVATION AZIMUTH KILOMETRE
     the code there of a clutter filter map; FILE is the body of message 15
 ulmarzhe compare OLD NEW
     a line a difference of two clutter filter maps, then a table of the kilometres changed; OLD and NEW are bodies of message 15
+ulmarzhe salvage DAMAGED CLEAN [over]
+    the data frames whose header passes, written to CLEAN; a line a run of bytes skipped: place, length; then how much was kept
 ulmarzhe why NUMBER
     a refusal in words
 ulmarzhe cases FILE...
     each line of FILE asked of the library, its answer compared or written
 
-MOMENT is REF, VEL, SW, ZDR, PHI or RHO.
+MOMENT is REF, VEL, SW, ZDR, PHI or RHO. CLEAN is CLEAN.part until it is whole; one that is there is replaced only by the word over.
 ",
     );
 }

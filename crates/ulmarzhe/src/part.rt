@@ -22,6 +22,14 @@ pub fn less(a: usize, b: usize) -> usize {
     a - b
 }
 
+// A number that is not below 0, else 0.
+pub fn natural(n: i64) -> u64 {
+    if n < 0 {
+        return 0;
+    }
+    n as u64
+}
+
 // A number by itself, so that whoever widens many has nothing to show of each.
 pub fn wide8(x: u8) -> u64 {
     x as u64
@@ -33,4 +41,8 @@ pub fn wide16(x: u16) -> u64 {
 
 pub fn wide32(x: u32) -> u64 {
     x as u64
+}
+
+pub fn wide_signed(n: i32) -> i64 {
+    n as i64
 }

@@ -42,7 +42,7 @@ pub struct Walk {
     pub picture: Picture,
 }
 
-fn walk_at(r: Reading, page: usize, done: bool, p: Picture) -> Walk {
+pub fn walk_at(r: Reading, page: usize, done: bool, p: Picture) -> Walk {
     Walk {
         reading: r,
         page,
