@@ -32,6 +32,9 @@ pub const DATA: u32 = 2;
 
 const SESSION_LIMIT: u32 = 131068;
 
+// The bytes of the longest frame.
+pub const LONGEST: usize = HEAD + SESSION_LIMIT as usize;
+
 // What stands at a place of the stream. The place stays the caller's: a refused read leaves it where it was.
 pub fn frame_at(stream: &[u8], place: usize) -> FrameAnswer
     ensures { λ r. ⌜ tellFrame r ≡ frameAt (now (stream .entry)) place ⌝ }

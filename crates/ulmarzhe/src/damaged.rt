@@ -14,9 +14,7 @@ use crate::window;
 use crate::window::Reading;
 use crate::window::WINDOW;
 use crate::words;
-
-// The bytes of the longest frame.
-const LONGEST: usize = 131080;
+use frame::LONGEST;
 
 const MEBIBYTE: u64 = 1048576;
 
