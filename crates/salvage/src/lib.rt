@@ -1,7 +1,6 @@
 // A damaged recording salvaged: the frames that pass are copied one after the other, and each run of bytes between them is listed.
 use frame::DATA;
 use frame::FrameAnswer;
-use message::HeaderAnswer;
 use wire::refusal;
 ghost use mathlib.Core.Path.{_≡_};
 ghost use mathlib.Core.Bool.{false};
@@ -51,10 +50,11 @@ pub fn whole_at(buf: &[u8], place: usize) -> usize
             }
             let start = f.start;
             let next = f.next;
-            match message::read_header(&buf[start..next]) {
-                HeaderAnswer::Refused(_) => 0,
-                HeaderAnswer::Read(_) => next - place,
+            let message = &buf[start..next];
+            if message::check_header(message::stored(message), message.len()) != 0 {
+                return 0;
             }
+            next - place
         }
     }
 }
