@@ -7,7 +7,7 @@ use lib.ListN.{length, take, drop}
 use lib.Seq.{take-append-seam}
 use Rattle.wire.specs.Answers.{Answer, refused, given}
 use Rattle.wire.specs.Writing.{filled}
-use Rattle.recording.specs.Walk.{Run, stepsOf, framesOf, runsOf}
+use Rattle.recording.specs.Walk.{Run, keptOf, skippedOf}
 use Rattle.recording.specs.Salvage.{Report, Salvage, numbers, salvaged, salvageOf}
 use Rattle.recording.specs.Account.{Piece, Account, keptIn, runsIn}
 use Rattle.recording.specs.Statements.{longAll, leastFrame, Apart}
@@ -92,7 +92,7 @@ wrote-for-c b out runs r out′ runs′ room more p z h = go (salvageOf b out ru
 
 -- ---- frames and runs, by the account
 module _ (b : List ℕ) (pieces : List Piece) (a : Account b pieces) where
-  in-account : (P : List (List ℕ) → List Run → Type 0) → P (framesOf (stepsOf b)) (runsOf 0 0 (stepsOf b)) → P (keptIn pieces) (runsIn 0 pieces)
+  in-account : (P : List (List ℕ) → List Run → Type 0) → P (keptOf b) (skippedOf b) → P (keptIn pieces) (runsIn 0 pieces)
   in-account P p = subst (λ (l : List (List ℕ) × List Run). P (l .0) (l .1)) (λ i. (kept-told b pieces a i, skipped-told b pieces a i)) p
 
 pub damaged-recording : DamagedRecording

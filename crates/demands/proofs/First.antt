@@ -15,7 +15,7 @@ use Rattle.message.proofs.OneAnswer.{header-only}
 use Rattle.segments.specs.Walk.{setOf}
 use Rattle.sets.specs.Promises.{tellSet}
 use Rattle.sets.proofs.OneAnswer.{set-only}
-use Rattle.recording.specs.Walk.{stepsOf, framesOf as keptFrames, runsOf}
+use Rattle.recording.specs.Walk.{keptOf, skippedOf}
 use Rattle.recording.specs.Salvage.{Salvage, report, salvageOf}
 use Rattle.salvage.specs.Answers.{Salvages}
 use Rattle.salvage.proofs.OneAnswer.{one-salvage}
@@ -119,8 +119,8 @@ censor-kept list out = written-kept (listChecks list) (bodyOf list) out (regions
 salvage-kept : (b out runs : List ℕ) → KeptBoth (Salvages (salvageOf b out runs)) (salvageChecks b out runs) (salvageOf b out runs) out runs
 unfolding salvageOf
 salvage-kept b out runs =
-    let frames = keptFrames (stepsOf b) in
-    let skipped = runsOf 0 0 (stepsOf b) in
+    let frames = keptOf b in
+    let skipped = skippedOf b in
     let all = salvageChecks b out runs in
     let right = salvageOf b out runs in
     let shown = showSalvage (right .answer) in

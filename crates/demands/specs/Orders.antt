@@ -9,7 +9,7 @@ use Rattle.wire.specs.Answers.{Answer, refused, given}
 use Rattle.frame.specs.Session.{after, frameChecks}
 use Rattle.segments.specs.Segment.{Segment, segmentIn}
 use Rattle.segments.specs.Walk.{turnChecks, endChecks}
-use Rattle.recording.specs.Walk.{stepsOf, framesOf, runsOf}
+use Rattle.recording.specs.Walk.{keptOf, skippedOf}
 use Rattle.recording.specs.Salvage.{numbers, roomChecks}
 use Rattle.description.specs.Description.{Moment, gates}
 use Rattle.description.specs.Refusal.{description, radialChecks}
@@ -59,4 +59,4 @@ comparisonChecks old new room = writerChecks (mapChecks old ++ mapChecks new) (h
 
 -- K10: "Should either output be too small, 13"
 abbrev pub salvageChecks : List ℕ → List ℕ → List ℕ → List Check
-salvageChecks b out runs = roomChecks (flatten (framesOf (stepsOf b))) (numbers (runsOf 0 0 (stepsOf b))) out runs
+salvageChecks b out runs = roomChecks (flatten (keptOf b)) (numbers (skippedOf b)) out runs

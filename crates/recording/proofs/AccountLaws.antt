@@ -5,7 +5,7 @@ use mathlib.Core.Path.{_≡_, refl, sym, ap, _∙_}
 use mathlib.Core.List.{List, [], _∷_, _++_, flatten, append-nil}
 use lib.ListN.{length, drop, replicate, length-append}
 use lib.Seq.{drop-append-seam}
-use Rattle.recording.specs.Walk.{Step, kept, skipped, stepsOf, framesOf, Run, run, runsOf}
+use Rattle.recording.specs.Walk.{Step, kept, skipped, stepsOf, framesOf, Run, run, runsOf, keptOf, skippedOf}
 use Rattle.recording.specs.Salvage.{salvaged, salvageOf}
 use Rattle.recording.specs.Account.{Piece, kept as keptPiece, skipped as skippedPiece, joined, EachPasses, NoneSkipped, NotSkipped, LongestRuns, Account, keptIn, runsIn}
 use Rattle.recording.specs.Statements.{ByAccount}
@@ -65,10 +65,10 @@ runs-told (skippedPiece bytes ∷ pieces) place l =
     ∙ ap (λ (rs : List Run). record { place = place; long = long } ∷ rs) (runs-told pieces next (l .2))
 
 module _ (b : List ℕ) (pieces : List Piece) (a : Account b pieces) where
-  pub kept-told : framesOf (stepsOf b) ≡ keptIn pieces
+  pub kept-told : keptOf b ≡ keptIn pieces
   kept-told = ap framesOf (steps-told b pieces a) ∙ frames-told pieces
 
-  pub skipped-told : runsOf 0 0 (stepsOf b) ≡ runsIn 0 pieces
+  pub skipped-told : skippedOf b ≡ runsIn 0 pieces
   skipped-told = ap (λ (steps : List Step). runsOf 0 0 steps) (steps-told b pieces a) ∙ runs-told pieces 0 (a .longest)
 
 pub salvage-told : ByAccount

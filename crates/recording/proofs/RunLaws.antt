@@ -8,7 +8,7 @@ use lib.Dec.{eqb}
 use lib.ListN.{length, length-append}
 use borrow.Author.Tests.{eqb-true, eqb-false, eq-eqb, ne-eqb}
 use Rattle.segments.specs.Whole.{Passes}
-use Rattle.recording.specs.Walk.{Step, kept, stepsOf, framesOf, Run, run, runsOf}
+use Rattle.recording.specs.Walk.{Step, kept, stepsOf, framesOf, Run, run, runsOf, skippedOf}
 use Rattle.recording.specs.Statements.{leastFrame, longAll, Apart, InAll, RunsApart, MostRuns, MostKept}
 use Rattle.recording.proofs.WalkLaws.{passes-least, walk-by}
 
@@ -102,4 +102,4 @@ few-apart (r ∷ rs) from long a h =
     omega (arith, a .0, a .1, a .2, few-apart rs (r .place + r .long + leastFrame) long (a .3) (omega (arith, a .2)))
 
 pub runs-few : MostRuns
-runs-few b = omega (arith, few-apart (runsOf 0 0 (stepsOf b)) 0 (length b) (apart-all b) (omega arith))
+runs-few b = omega (arith, few-apart (skippedOf b) 0 (length b) (apart-all b) (omega arith))

@@ -6,7 +6,7 @@ use lib.ListN.{length, replicate, take, drop}
 use Rattle.wire.specs.Numbers.{be}
 use Rattle.wire.specs.Answers.{given}
 use Rattle.segments.specs.Cases.{frameWith}
-use Rattle.recording.specs.Walk.{Run, stepsOf, framesOf, runsOf}
+use Rattle.recording.specs.Walk.{Run, keptOf, skippedOf}
 use Rattle.recording.specs.Salvage.{Salvage, untouched, salvageOf}
 
 -- document 01's request 129, 30 bytes
@@ -31,7 +31,7 @@ pub data Case : Type 0 where
   comes : List ℕ → List ℕ → List ℕ → Salvage → Case
 
 abbrev pub Holds : Case → Type 0
-Holds (walked b frames runs) = (framesOf (stepsOf b) ≡ frames) × (runsOf 0 0 (stepsOf b) ≡ runs)
+Holds (walked b frames runs) = (keptOf b ≡ frames) × (skippedOf b ≡ runs)
 Holds (comes b out runs right) = salvageOf b out runs ≡ right
 
 abbrev pub AllHeld : List Case → Type 0

@@ -6,7 +6,7 @@ use lib.ListN.{length}
 use Rattle.wire.specs.Checks.{Check, check, decide}
 use Rattle.wire.specs.Answers.{Answer, refused, given}
 use Rattle.wire.specs.Writing.{filled}
-use Rattle.recording.specs.Walk.{Run, stepsOf, framesOf, runsOf}
+use Rattle.recording.specs.Walk.{Run, keptOf, skippedOf}
 
 -- "the number of frames kept", the bytes written, the number of runs
 pub record Report : Type 0 where
@@ -48,4 +48,4 @@ salvaged frames skipped out runs =
 
 -- what comes of a buffer, an output of bytes and one of runs
 unfoldable pub salvageOf : List ℕ → List ℕ → List ℕ → Salvage
-salvageOf b out runs = salvaged (framesOf (stepsOf b)) (runsOf 0 0 (stepsOf b)) out runs
+salvageOf b out runs = salvaged (keptOf b) (skippedOf b) out runs

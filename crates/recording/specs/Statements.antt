@@ -9,7 +9,7 @@ use Rattle.wire.specs.Writing.{filled}
 use Rattle.frame.specs.Session.{headSize, sessionLimit}
 use Rattle.message.specs.Header.{headerSize}
 use Rattle.segments.specs.Whole.{Passes}
-use Rattle.recording.specs.Walk.{stands, Run, stepsOf, framesOf, runsOf, nextKept}
+use Rattle.recording.specs.Walk.{stands, Run, keptOf, skippedOf, nextKept}
 use Rattle.recording.specs.Salvage.{report, numbers, untouched, salvaged, salvageOf}
 use Rattle.recording.specs.Account.{Piece, Account, keptIn, runsIn}
 
@@ -60,7 +60,7 @@ longAll [] = 0
 longAll (r ∷ rs) = r .long + longAll rs
 
 abbrev pub InAll : Type 0
-InAll = (b : List ℕ) → length (flatten (framesOf (stepsOf b))) + longAll (runsOf 0 0 (stepsOf b)) ≡ length b
+InAll = (b : List ℕ) → length (flatten (keptOf b)) + longAll (skippedOf b) ≡ length b
 
 -- the least frame that passes, and the longest: a header alone, and as much as a session carries
 abbrev pub leastFrame : ℕ
@@ -75,14 +75,14 @@ Apart from long [] = Unit {0}
 Apart from long (r ∷ rs) = (from ≤ r .place) × (0 < r .long) × (r .place + r .long ≤ long) × Apart (r .place + r .long + leastFrame) long rs
 
 abbrev pub RunsApart : Type 0
-RunsApart = (b : List ℕ) → Apart 0 (length b) (runsOf 0 0 (stepsOf b))
+RunsApart = (b : List ℕ) → Apart 0 (length b) (skippedOf b)
 
 -- so many runs at most, and bytes of output that always suffice
 abbrev pub MostRuns : Type 0
-MostRuns = (b : List ℕ) → suc leastFrame * length (runsOf 0 0 (stepsOf b)) ≤ length b + leastFrame
+MostRuns = (b : List ℕ) → suc leastFrame * length (skippedOf b) ≤ length b + leastFrame
 
 abbrev pub MostKept : Type 0
-MostKept = (b : List ℕ) → length (flatten (framesOf (stepsOf b))) ≤ length b
+MostKept = (b : List ℕ) → length (flatten (keptOf b)) ≤ length b
 
 -- ---- a recording seen through a window: its first bytes, and what follows them
 -- a frame that stands in the window stands in the recording; and where the longest frame would end in the window, both say the same

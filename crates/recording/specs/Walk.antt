@@ -66,6 +66,13 @@ runsOf first next [] = run first next
 runsOf first next (kept frame ∷ steps) = run first next ++ runsOf (next + length frame) (next + length frame) steps
 runsOf first next (skipped ∷ steps) = runsOf first (suc next) steps
 
+-- what is kept and what is skipped of a buffer
+abbrev pub keptOf : List ℕ → List (List ℕ)
+keptOf b = framesOf (stepsOf b)
+
+abbrev pub skippedOf : List ℕ → List Run
+skippedOf b = runsOf 0 0 (stepsOf b)
+
 -- how many bytes are skipped before the first frame kept
 unfoldable pub skippedFirst : List Step → ℕ
 skippedFirst [] = 0

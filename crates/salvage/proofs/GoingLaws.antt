@@ -9,12 +9,12 @@ use lib.Seq.{length-take-le}
 use lib.Dec.{eqb}
 use Rattle.wire.specs.Checks.{pick}
 use Rattle.wire.specs.Writing.{filled}
-use Rattle.recording.specs.Walk.{Step, kept, Run, run, stepsOf, framesOf, runsOf}
+use Rattle.recording.specs.Walk.{Step, kept, Run, run, stepsOf, framesOf, runsOf, keptOf, skippedOf}
 use Rattle.recording.specs.Salvage.{numbers}
 use Rattle.recording.proofs.RunLaws.{run-none}
 use Rattle.recording.proofs.InTurn.{numbers-length}
 use Rattle.salvage.specs.declared.Stretch.{Stretch}
-use Rattle.salvage.specs.Walks.{FoundFrom, StretchFrom, laid, Laid, LaidRun, keptOf, skippedOf, WalkedOver}
+use Rattle.salvage.specs.Walks.{FoundFrom, StretchFrom, laid, Laid, LaidRun, WalkedOver}
 use Rattle.salvage.proofs.LayLaws.{laid-more}
 use Rattle.salvage.proofs.PlaceLaws.{flatten-append, numbers-append, frames-there, runs-there, steps-over, runs-closed, goes-forward}
 

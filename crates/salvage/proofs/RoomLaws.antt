@@ -10,13 +10,14 @@ use borrow.Author.Tests.{leb-true, leb-false, le-leb}
 use Rattle.wire.specs.Answers.{given}
 use Rattle.wire.specs.Writing.{filled}
 use Rattle.wire.proofs.CheckLaws.{never}
+use Rattle.recording.specs.Walk.{keptOf, skippedOf}
 use Rattle.recording.specs.Salvage.{Report, Salvage, numbers, untouched, report, salvaged, salvageOf}
 use Rattle.recording.specs.Statements.{InTurn}
 use Rattle.recording.proofs.Theorems.{refused-in-order, most-runs, most-kept}
 use Rattle.salvage.specs.declared.Totals.{Totals}
 use Rattle.salvage.specs.declared.SalvageAnswer.the-variants.{Salvaged, Refused}
 use Rattle.salvage.specs.Answers.{tellSalvage, Salvages}
-use Rattle.salvage.specs.Walks.{keptOf, skippedOf, WalkedOver, roomFor}
+use Rattle.salvage.specs.Walks.{WalkedOver, roomFor}
 
 both-of : (s t : Bool) → s && t ≡ true → (s ≡ true) × (t ≡ true)
 both-of true t e = (refl, e)

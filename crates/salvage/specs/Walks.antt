@@ -8,7 +8,7 @@ use lib.ListN.{length, take, drop}
 use Rattle.wire.specs.Numbers.{num}
 use Rattle.wire.specs.Writing.{filled}
 use Rattle.frame.specs.Session.{dataKind}
-use Rattle.recording.specs.Walk.{stands, Run, run, stepsOf, framesOf, runsOf}
+use Rattle.recording.specs.Walk.{stands, run, stepsOf, framesOf, runsOf, keptOf, skippedOf}
 use Rattle.recording.specs.Salvage.{numbers}
 use Rattle.salvage.specs.declared.Stretch.{Stretch}
 use Rattle.salvage.specs.declared.Totals.{Totals}
@@ -54,13 +54,6 @@ Laid out at list after = at + length list ≤ length out → after ≡ laid out 
 pub record LaidRun (runs : List ℕ) (count first next r : ℕ) (after : List ℕ) : Type 0 where
   pub counted : r ≡ count + length (run first next)
   pub listed : Laid runs (2 * count) (numbers (run first next)) after
-
--- what is kept and what is skipped of a buffer
-abbrev pub keptOf : List ℕ → List (List ℕ)
-keptOf b = framesOf (stepsOf b)
-
-abbrev pub skippedOf : List ℕ → List Run
-skippedOf b = runsOf 0 0 (stepsOf b)
 
 -- all of it is counted, and each output holds it if there was room
 pub record WalkedOver (b out runs : List ℕ) (r : Totals) (out′ runs′ : List ℕ) : Type 0 where
