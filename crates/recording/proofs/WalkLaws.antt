@@ -11,8 +11,7 @@ use lib.Seq.{length-take-le, take-at, drop-append-seam}
 use borrow.Author.Tests.{eqb-true, eq-eqb, ne-eqb, not-true, not-false}
 use Rattle.wire.specs.Checks.{pick, someBroken, AllHold}
 use Rattle.wire.proofs.CheckLaws.{never, all-hold, hold-none}
-use Rattle.frame.specs.Session.{headSize, dataKind, sessionLimit, kindIn, sizeIn, bodyIn}
-use Rattle.message.specs.Header.{headerSize}
+use Rattle.frame.specs.Session.{headSize, dataKind, kindIn, sizeIn, bodyIn}
 use Rattle.segments.specs.Segment.{ownChecks}
 use Rattle.segments.specs.Whole.{Passes}
 use Rattle.segments.proofs.OrderLaws.{first-same-none}

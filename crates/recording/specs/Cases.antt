@@ -2,12 +2,12 @@
 use Prim.Native.Nat.{ℕ}
 use mathlib.Core.Path.{_≡_}
 use mathlib.Core.List.{List, [], _∷_, _++_}
-use lib.ListN.{length, replicate, take, drop}
+use lib.ListN.{replicate, take, drop}
 use Rattle.wire.specs.Numbers.{be}
-use Rattle.wire.specs.Answers.{given}
+use Rattle.wire.specs.Answers.{refused, given}
 use Rattle.segments.specs.Cases.{frameWith}
 use Rattle.recording.specs.Walk.{Run, keptOf, skippedOf}
-use Rattle.recording.specs.Salvage.{Salvage, untouched, salvageOf}
+use Rattle.recording.specs.Salvage.{Salvage, salvageOf}
 
 -- document 01's request 129, 30 bytes
 abbrev pub request : List ℕ
@@ -75,8 +75,8 @@ cases =
       output = request ++ request;
       listed = 30 ∷ 1 ∷ [];
     })
-    ∷ comes (7 ∷ request) (replicate 29 9) (5 ∷ 5 ∷ []) (untouched (replicate 29 9) (5 ∷ 5 ∷ []) 13)
-    ∷ comes (7 ∷ request) (replicate 30 9) (5 ∷ []) (untouched (replicate 30 9) (5 ∷ []) 13)
+    ∷ comes (7 ∷ request) (replicate 29 9) (5 ∷ 5 ∷ []) (record { answer = refused 13; output = replicate 29 9; listed = 5 ∷ 5 ∷ [] })
+    ∷ comes (7 ∷ request) (replicate 30 9) (5 ∷ []) (record { answer = refused 13; output = replicate 30 9; listed = 5 ∷ [] })
     ∷ comes [] [] [] (record { answer = given (record { kept = 0; long = 0; runs = 0 }); output = []; listed = [] })
     ∷ []
 

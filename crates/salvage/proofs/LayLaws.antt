@@ -12,7 +12,7 @@ use Rattle.wire.proofs.ListLaws.{two-stored}
 use Rattle.recording.specs.Walk.{Run, run}
 use Rattle.recording.specs.Salvage.{numbers}
 use Rattle.recording.proofs.RunLaws.{run-none, run-some}
-use Rattle.salvage.specs.Walks.{laid, Laid, LaidRun}
+use Rattle.salvage.specs.Walks.{laid, LaidRun}
 
 -- one piece after what was laid before it
 pub laid-more : (out₀ out before list : List ℕ) → out ≡ filled before out₀ → length before + length list ≤ length out₀

@@ -1,5 +1,5 @@
 -- Room for what is kept and skipped of a buffer, and what comes of a salvage with it and without. Assumes nothing.
-use Prim.Native.Nat.{ℕ, _+_, _*_, _/_, _≤_, _<_}
+use Prim.Native.Nat.{ℕ, _+_, _*_, _/_}
 use mathlib.Core.Path.{_≡_, refl, sym, ap, subst, _∙_}
 use mathlib.Core.Bool.{Bool, true, false, _&&_}
 use mathlib.Core.List.{List, flatten}
@@ -8,15 +8,14 @@ use lib.Dec.{leb}
 use lib.ListN.{length}
 use borrow.Author.Tests.{leb-true, leb-false, le-leb}
 use Rattle.wire.specs.Answers.{given}
-use Rattle.wire.specs.Writing.{filled}
 use Rattle.wire.proofs.CheckLaws.{never}
 use Rattle.recording.specs.Walk.{keptOf, skippedOf}
-use Rattle.recording.specs.Salvage.{Report, Salvage, numbers, untouched, report, salvaged, salvageOf}
+use Rattle.recording.specs.Salvage.{Salvage, numbers, untouched, salvaged, salvageOf}
 use Rattle.recording.specs.Statements.{InTurn}
 use Rattle.recording.proofs.Theorems.{refused-in-order, most-runs, most-kept}
 use Rattle.salvage.specs.declared.Totals.{Totals}
 use Rattle.salvage.specs.declared.SalvageAnswer.the-variants.{Salvaged, Refused}
-use Rattle.salvage.specs.Answers.{tellSalvage, Salvages}
+use Rattle.salvage.specs.Answers.{Salvages}
 use Rattle.salvage.specs.Walks.{WalkedOver, roomFor}
 
 both-of : (s t : Bool) → s && t ≡ true → (s ≡ true) × (t ≡ true)

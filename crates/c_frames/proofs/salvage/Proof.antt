@@ -9,10 +9,6 @@ use Rattle.c_frames.specs.Frames.{salvageFace, LeavesBoth}
 use borrow.Author.Needs.{needs}
 use Rattle.c_frames.proofs.salvage.Statement.{statement}
 use Rattle.c_frames.proofs.salvage.Tie as tie
-use Rattle.c_frames.proofs.salvage.Reads as reads
-use Rattle.c_frames.proofs.salvage.Lts as lts
-use Rattle.c_frames.proofs.salvage_with.Reads as salvage-with-reads
-use Rattle.salvage.proofs.salvage.Reads as salvage-reads
 
 -- the promise of the salvage is the promise to C
 both-of : (right : Salvage) (s : SalvageAnswer) (r : UlmSalvage) (out runs : List ℕ) → Salvages right s out runs → r ≡ salvageFace (tellSalvage s)

@@ -1,6 +1,5 @@
 use borrow.Author.Needs.{needs}
 use denote.Ref.{now}
-use native.Mathlib.Omega.{arith}
 use Rattle.salvage.proofs.PlaceLaws.{next-found, next-past}
 use Rattle.salvage.proofs.next_kept.Statement.{statement}
 use Rattle.salvage.proofs.next_kept.Tie as tie
