@@ -3,7 +3,7 @@ use Prim.Native.Nat.{ℕ}
 use mathlib.Core.Path.{_≡_, ap, _∙_}
 use mathlib.Core.List.{List}
 use Rattle.wire.specs.Answers.{Answer, Outcome, Promise}
-use Rattle.c_lent.specs.Lent.{Leaves}
+use Rattle.c_lent.specs.Face.{Leaves}
 
 pub leaves-of : {R S A : Type 0} (tell : S → Answer A) (face : Answer A → R) (right : Outcome A) (s : S) (r : R) (after : List ℕ) → Promise tell right s after
     → r ≡ face (tell s) → Leaves face right r after

@@ -1,2 +1,2 @@
 -- Memory that a C caller lends to be written.
-pub mod Lent
+pub mod Face

@@ -1,7 +1,7 @@
 // What C is told by a function that writes: how much, and what its lent memory holds.
 ghost use mathlib.Core.Path.{_≡_};
 ghost use Rattle.wire.specs.Writing.{tellWrite};
-ghost use Rattle.c_lent.specs.Lent.{writtenFace};
+ghost use Rattle.c_lent.specs.Face.{writtenFace};
 use wire::WriteAnswer;
 
 #[repr(C)]

@@ -13,16 +13,16 @@ use borrow.Author.Tests.{eqb-true, eqb-false}
 use Rattle.wire.specs.Numbers.{fetched}
 use Rattle.wire.specs.Checks.{AllHold}
 use Rattle.wire.proofs.ListLaws.{part-is as part-from}
-use Rattle.map.specs.Map.{azimuths, Zone, zonesAt, codeFrom}
-use Rattle.map.specs.Reading.{value, runSize, azimuthPart, segmentsIn, mapIn}
-use Rattle.map.proofs.CheckFacts.{MapFacts, map-facts}
-use Rattle.map.proofs.Runs.{run-none, run-more, run-next}
-use Rattle.map.proofs.Accepted.{azimuth-long}
-use Rattle.map.proofs.Places.{asked-there, asked-holds, asked-zones}
-use Rattle.filter.proofs.PartLaws.{fetched-value}
-use Rattle.differences.specs.Differences.{Difference, stretches, azimuthDifferences, inOrder}
-use Rattle.differences.proofs.Most.{runs-few}
-use Rattle.compare.specs.Sheets.{Sheet, mostCounted, sheet, onto, zonesDifferences, elevationsDifferences, Same, Has}
+use Rattle.map_spec.specs.Map.{azimuths, Zone, zonesAt, codeFrom}
+use Rattle.map_spec.specs.Reading.{value, runSize, azimuthPart, segmentsIn, mapIn}
+use Rattle.map_spec.proofs.CheckFacts.{MapFacts, map-facts}
+use Rattle.map_spec.proofs.Runs.{run-none, run-more, run-next}
+use Rattle.map_spec.proofs.Accepted.{azimuth-long}
+use Rattle.map_spec.proofs.Places.{asked-there, asked-holds, asked-zones}
+use Rattle.map_spec.proofs.PartLaws.{fetched-value}
+use Rattle.compare_spec.specs.Differences.{Difference, stretches, azimuthDifferences, inOrder}
+use Rattle.compare_spec.proofs.Most.{runs-few}
+use Rattle.compare.specs.Steps.{Sheet, mostCounted, sheet, onto, zonesDifferences, elevationsDifferences, Same, Has}
 use Rattle.compare.proofs.SheetLaws.{onto-append, onto-count}
 use Rattle.compare.proofs.TurnLaws.{none-listed}
 use Rattle.compare.proofs.SameBytes.{azimuth-same, size-same, same-beyond}

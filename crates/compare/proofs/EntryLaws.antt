@@ -12,16 +12,16 @@ use Rattle.wire.specs.Answers.{refused, given, refusal}
 use Rattle.wire.specs.Writing.{filled}
 use Rattle.wire.proofs.CheckLaws.{all-hold, decide-some}
 use Rattle.wire.proofs.AnswerLaws.{rule-given, rule-refused}
-use Rattle.map.specs.Reading.{elevationPart, segmentsIn, mapChecks, mapIn, mapOf, Summary, summary, summaryOf}
-use Rattle.map.proofs.Accepted.{accepted-range}
-use Rattle.map.proofs.Runs.{run-count}
-use Rattle.differences.specs.Differences.{Difference, differences, presentInBoth}
-use Rattle.differences.specs.Comparing.{Comparison, comparison, halfwords, mostHalfwords, comparisonOf}
-use Rattle.differences.proofs.Maps.{lesser-both}
-use Rattle.differences.proofs.Most.{halfwords-length}
-use Rattle.differences.proofs.Theorems.{room-for-all}
-use Rattle.differences.proofs.InTurn.{map-given, in-order}
-use Rattle.compare.specs.Sheets.{Sheet, sheet, onto, elevationsDifferences, listOf, Has, Counts, Checked}
+use Rattle.map_spec.specs.Reading.{elevationPart, segmentsIn, mapChecks, mapIn, mapOf, Summary, summary, summaryOf}
+use Rattle.map_spec.proofs.Accepted.{accepted-range}
+use Rattle.map_spec.proofs.Runs.{run-count}
+use Rattle.compare_spec.specs.Differences.{Difference, differences, presentInBoth}
+use Rattle.compare_spec.specs.Comparing.{Comparison, comparison, halfwords, mostHalfwords, comparisonOf}
+use Rattle.compare_spec.proofs.Maps.{lesser-both}
+use Rattle.compare_spec.proofs.Most.{halfwords-length}
+use Rattle.compare_spec.proofs.Theorems.{room-for-all}
+use Rattle.compare_spec.proofs.InTurn.{map-given, in-order}
+use Rattle.compare.specs.Steps.{Sheet, sheet, onto, elevationsDifferences, listOf, Has, Counts, Checked}
 use Rattle.compare.proofs.SheetLaws.{lay-room, onto-count}
 
 -- ---- differences that all have room stand one after the other

@@ -1,4 +1,4 @@
--- The laws that the proofs of the functions cite, and the proofs of specs/Statements.antt.
+-- The laws that the proofs of the functions cite, and that the promise has one answer.
 pub mod SheetLaws
 pub mod StretchLaws
 pub mod ZoneWalk

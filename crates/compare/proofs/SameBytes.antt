@@ -11,10 +11,10 @@ use borrow.Author.Tests.{ltb-true, ltb-false}
 use Rattle.wire.specs.Numbers.{num, be, fetched, Octets}
 use Rattle.wire.specs.Checks.{AllHold}
 use Rattle.wire.proofs.NumberLaws.{num-same, be-num}
-use Rattle.map.specs.Reading.{value, after, zonesIn, azimuthPart}
-use Rattle.map.proofs.Accepted.{azimuth-long}
-use Rattle.filter.proofs.PartLaws.{fetched-value}
-use Rattle.compare.specs.Sheets.{Same}
+use Rattle.map_spec.specs.Reading.{value, after, zonesIn, azimuthPart}
+use Rattle.map_spec.proofs.Accepted.{azimuth-long}
+use Rattle.map_spec.proofs.PartLaws.{fetched-value}
+use Rattle.compare.specs.Steps.{Same}
 
 -- ---- four bytes more, by their number
 module _ (old new : List ℕ) (octetsOld : Octets old) (octetsNew : Octets new) (at : ℕ) (inOld : at + 4 ≤ length old) (inNew : at + 4 ≤ length new)

@@ -9,9 +9,9 @@ use mir.Val.{boolByte}
 use lib.ListN.{length, take, drop, set}
 use native.Mathlib.Numerals.{add-one}
 use borrow.Author.Tests.{le-leb, lt-leb}
-use Rattle.differences.specs.Differences.{Difference}
-use Rattle.differences.specs.Comparing.{halfwords}
-use Rattle.compare.specs.Sheets.{Sheet, sheet, lay, onto, oneIf}
+use Rattle.compare_spec.specs.Differences.{Difference}
+use Rattle.compare_spec.specs.Comparing.{halfwords}
+use Rattle.compare.specs.Steps.{Sheet, sheet, lay, onto, oneIf}
 
 -- six halfwords stored one after the other in six places
 pub six-stored : (out : List ℕ) (a b c d e f : ℕ) → length out ≡ 6 → set (set (set (set (set (set out 0 a) 1 b) 2 c) 3 d) 4 e) 5 f ≡ a ∷ b ∷ c ∷ d ∷ e ∷ f ∷ []

@@ -7,7 +7,7 @@ use mathlib.Core.Bool.{Bool, true, false}
 use mathlib.Core.List.{List, [], _++_}
 use borrow.Author.Tests.{eq-eqb}
 use Rattle.wire.specs.Checks.{pick}
-use Rattle.differences.specs.Differences.{Difference, stay, stretch, stretches}
+use Rattle.compare_spec.specs.Differences.{Difference, stay, stretch, stretches}
 
 -- codes that are the same list nothing
 module _ (elevation azimuth : ℕ) (codes : ℕ → ℕ) where

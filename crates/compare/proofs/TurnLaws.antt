@@ -9,13 +9,13 @@ use lib.ListN.{length}
 use borrow.Author.Tests.{eqb-true, eqb-false, not-true}
 use Rattle.wire.specs.Checks.{pick, both, AllHold}
 use Rattle.wire.proofs.CheckLaws.{never, both-true}
-use Rattle.map.specs.Map.{Zone, codeFrom}
-use Rattle.map.specs.Reading.{azimuthPart}
-use Rattle.filter.proofs.QueryLaws.{zoneAt}
-use Rattle.differences.specs.Differences.{Difference, stay, stretch, stretches}
-use Rattle.differences.proofs.Maps.{lesser-both, both-lesser}
-use Rattle.differences.proofs.Most.{stretch-few}
-use Rattle.compare.specs.Sheets.{Sheet, sheet, onto, oneIf, zonesDifferences}
+use Rattle.map_spec.specs.Map.{Zone, codeFrom}
+use Rattle.map_spec.specs.Reading.{azimuthPart}
+use Rattle.map.proofs.QueryLaws.{zoneAt}
+use Rattle.compare_spec.specs.Differences.{Difference, stay, stretch, stretches}
+use Rattle.compare_spec.proofs.Maps.{lesser-both, both-lesser}
+use Rattle.compare_spec.proofs.Most.{stretch-few}
+use Rattle.compare.specs.Steps.{Sheet, sheet, onto, oneIf, zonesDifferences}
 use Rattle.compare.proofs.SheetLaws.{onto-append, onto-count}
 use Rattle.compare.proofs.StretchLaws.{same-stay, part-stays, part-ends, from-first, stretches-last, stretches-none}
 use Rattle.compare.proofs.ZoneWalk.{Facing, facing-first, facing-low, facing-high, facing-code, facing-past}

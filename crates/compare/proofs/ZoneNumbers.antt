@@ -7,8 +7,8 @@ use lib.ListN.{length, getD, take, drop, length-drop}
 use lib.Seq.{length-take-le}
 use Rattle.wire.specs.Numbers.{num, fetched, Octets}
 use Rattle.wire.proofs.NumberLaws.{num-two, num-four, num-drop, num-take, num-fits, fetched-whole}
-use Rattle.filter.proofs.PartLaws.{fetched-value, next-value}
-use Rattle.filter.proofs.QueryLaws.{zoneAt}
+use Rattle.map_spec.proofs.PartLaws.{fetched-value, next-value}
+use Rattle.map.proofs.QueryLaws.{zoneAt}
 
 -- ---- what `four_at` fetches, n the length of the part that is lent
 pub number-fetched : (b : List ℕ) (at n : ℕ) → n ≡ 4 → at + 4 ≤ length b → fetched 4 (take n (drop at b)) 0 ≡ num 4 b at

@@ -8,12 +8,12 @@ use lib.Dec.{eqb}
 use lib.ListN.{length, drop}
 use borrow.Author.Tests.{le-leb, lt-leb, eqb-true, eqb-false}
 use Rattle.wire.specs.Checks.{pick, AllHold}
-use Rattle.map.specs.Map.{Zone, codeFrom}
-use Rattle.map.specs.Reading.{value, after, zonesIn, azimuthPart}
-use Rattle.map.proofs.ZoneLaws.{RisesFrom}
-use Rattle.map.proofs.CheckFacts.{azimuth-facts}
-use Rattle.map.proofs.Accepted.{zones-rise, azimuth-long}
-use Rattle.filter.proofs.QueryLaws.{zoneAt, zones-more}
+use Rattle.map_spec.specs.Map.{Zone, codeFrom}
+use Rattle.map_spec.specs.Reading.{value, after, zonesIn, azimuthPart}
+use Rattle.map_spec.proofs.ZoneLaws.{RisesFrom}
+use Rattle.map_spec.proofs.CheckFacts.{azimuth-facts}
+use Rattle.map_spec.proofs.Accepted.{zones-rise, azimuth-long}
+use Rattle.map.proofs.QueryLaws.{zoneAt, zones-more}
 
 -- ---- ends that rise from a kilometre on to the last
 abbrev Rises : ℕ → List Zone → Type 0

@@ -1,7 +1,7 @@
 // Two clutter filter maps compared: both are checked, their differences counted and, where the output has room for all of them, listed.
-use filter::AZIMUTHS;
-use filter::LAST_KILOMETRE;
-use filter::MapAnswer;
+use map::AZIMUTHS;
+use map::MapAnswer;
+use map_check::LAST_KILOMETRE;
 use wire::refusal;
 ghost use mathlib.Core.Path.{_≡_};
 ghost use Prim.Native.Nat.{_+_, _*_, _/_, _%_, _≤_, _<_};
@@ -12,10 +12,10 @@ ghost use lib.ListN.{length};
 ghost use Rattle.wire.specs.Answers.{Promise};
 ghost use Rattle.wire.specs.Numbers.{num, fetched};
 ghost use Rattle.wire.specs.Checks.{pick, AllHold};
-ghost use Rattle.map.specs.Reading.{runSize, azimuthPart};
-ghost use Rattle.differences.specs.Comparing.{comparisonOf};
-ghost use Rattle.compare.specs.Answers.{tellCompare};
-ghost use Rattle.compare.specs.Sheets.{mostCounted, sheet, onto, oneIf, zonesDifferences, elevationsDifferences, listOf, Same, Has, Counts, Checked};
+ghost use Rattle.map_spec.specs.Reading.{runSize, azimuthPart};
+ghost use Rattle.compare_spec.specs.Comparing.{comparisonOf};
+ghost use Rattle.compare.specs.Told.{tellCompare};
+ghost use Rattle.compare.specs.Steps.{mostCounted, sheet, onto, oneIf, zonesDifferences, elevationsDifferences, listOf, Same, Has, Counts, Checked};
 
 // The halfwords that a difference takes.
 const SIZE: usize = 6;
@@ -285,9 +285,9 @@ fn compare_checked(old: &[u8], new: &[u8], older: u16, newer: u16, out: &mut [u1
 pub fn compare(old: &[u8], new: &[u8], out: &mut [u16]) -> CompareAnswer
     ensures { λ r. ⌜ Promise tellCompare (comparisonOf (now (old .entry)) (now (new .entry)) (now (out .entry))) r (now (out .exit)) ⌝ }
 {
-    match filter::check_map(old) {
+    match map::check_map(old) {
         MapAnswer::Refused(number) => CompareAnswer::Refused(number),
-        MapAnswer::Map(_, _, older) => match filter::check_map(new) {
+        MapAnswer::Map(_, _, older) => match map::check_map(new) {
             MapAnswer::Refused(number) => CompareAnswer::Refused(number),
             MapAnswer::Map(_, _, newer) => { compare_checked(old, new, older, newer, out) }
         },

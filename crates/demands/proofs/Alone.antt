@@ -3,16 +3,17 @@ use Prim.Native.Nat.{ℕ}
 use mathlib.Core.Path.{_≡_, sym, ap, _∙_}
 use mathlib.Core.List.{List}
 use Rattle.wire.specs.Answers.{given, Outcome}
-use Rattle.message.specs.declared.Header.{Header}
-use Rattle.message.specs.Header.{storedIn, headerIn, headerOf}
-use Rattle.message.proofs.HeaderLaws.{number-lone, number-other}
-use Rattle.message.proofs.LoneLaws.{lone-header}
-use Rattle.message.proofs.OneAnswer.{header-only}
-use Rattle.segments.specs.Walk.{SetSays, setOf}
-use Rattle.segments.proofs.FrameFacts.{header-given}
-use Rattle.segments.proofs.LoneNumber.{lone-segment}
-use Rattle.sets.proofs.OneAnswer.{set-only}
-use Rattle.c_frames.specs.Frames.{headerFace, setFace}
+use Rattle.header.specs.declared.Header.{Header}
+use Rattle.header.specs.Header.{storedIn, headerIn, headerOf}
+use Rattle.header.proofs.HeaderLaws.{number-lone, number-other}
+use Rattle.header.proofs.LoneLaws.{lone-header}
+use Rattle.header.proofs.OneAnswer.{read-header-only}
+use Rattle.set_spec.specs.Walk.{SetSays, setOf}
+use Rattle.set_spec.proofs.FrameFacts.{header-given}
+use Rattle.set_spec.proofs.LoneNumber.{lone-segment}
+use Rattle.set.proofs.OneAnswer.{read-set-only}
+use Rattle.c_frame.specs.Face.{headerFace}
+use Rattle.c_set.specs.Face.{setFace}
 use Rattle.demands.specs.LoneSegment.{SameHeader, SameSet, LoneSegment}
 
 one : (b : List ℕ) (h : Header) → headerOf b ≡ given h → h .segments ≡ 1 → h .number ≡ 1
@@ -30,14 +31,14 @@ others b h e n =
 
 same-header : (b b′ : List ℕ) → headerOf b ≡ headerOf b′ → SameHeader b b′
 same-header b b′ e = record {
-  entry = λ r r′ p q. header-only b r r′ p (q ∙ sym e);
+  entry = λ r r′ p q. read-header-only b r r′ p (q ∙ sym e);
   face = λ r r′ p q. p ∙ ap headerFace e ∙ sym q;
 }
 
 same-set : (frames frames′ out : List ℕ) → setOf frames out ≡ setOf frames′ out → SameSet frames frames′ out
 same-set frames frames′ out e = record {
   entry = λ r r′ left left′ p q.
-      set-only frames out r r′ left left′ p
+      read-set-only frames out r r′ left left′ p
       (record { answers = q .answers ∙ ap (λ (o : Outcome SetSays). o .answer) (sym e); leaves = q .leaves ∙ ap (λ (o : Outcome SetSays). o .output) (sym e) });
   face = λ r r′ left left′ p q. (
     p .answers ∙ ap (λ (o : Outcome SetSays). setFace (o .answer)) e ∙ sym (q .answers),

@@ -5,14 +5,14 @@ use lib.Ieee as Ieee
 use lib.Ieee.{ofBits}
 use Rattle.wire.specs.Numbers.{num}
 use Rattle.frame.specs.Session.{frameAt}
-use Rattle.message.specs.Header.{storedIn, headerIn, headerOf}
-use Rattle.segments.specs.Segment.{numbered}
-use Rattle.segments.specs.Walk.{walk, allSeen, joined, setOf}
+use Rattle.header.specs.Header.{storedIn, headerIn, headerOf}
+use Rattle.set_spec.specs.Segment.{numbered}
+use Rattle.set_spec.specs.Walk.{walk, allSeen, joined, setOf}
 use Rattle.writer.specs.Writing.{cut, heads, frameOf, framesFrom, framesOf, writeOf}
-use Rattle.description.specs.Refusal.{radialOf}
-use Rattle.gate.specs.Value.{valueOf}
-use Rattle.map.specs.Map.{codeFrom}
-use Rattle.map.specs.Reading.{zonesChecks, zonesIn, runSize, runChecks, runIn}
+use Rattle.radial_spec.specs.Refusal.{radialOf}
+use Rattle.gate_value.specs.Value.{valueOf}
+use Rattle.map_spec.specs.Map.{codeFrom}
+use Rattle.map_spec.specs.Reading.{zonesChecks, zonesIn, runSize, runChecks, runIn}
 use Rattle.demands.specs.Cases.{Starred}
 
 pub starred : Starred

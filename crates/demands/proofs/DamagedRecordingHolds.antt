@@ -7,18 +7,18 @@ use lib.ListN.{length, take, drop}
 use lib.Seq.{take-append-seam}
 use Rattle.wire.specs.Answers.{Answer, refused, given}
 use Rattle.wire.specs.Writing.{filled}
-use Rattle.recording.specs.Walk.{Run, keptOf, skippedOf}
-use Rattle.recording.specs.Salvage.{Report, Salvage, numbers, salvaged, salvageOf}
-use Rattle.recording.specs.Account.{Piece, Account, keptIn, runsIn}
-use Rattle.recording.specs.Statements.{longAll, leastFrame, Apart}
-use Rattle.recording.proofs.AccountLaws.{kept-told, skipped-told}
-use Rattle.recording.proofs.Theorems.{accounted-once, by-account, undamaged, again, refused-in-order, in-all, runs-apart, most-runs, most-kept}
+use Rattle.salvage_spec.specs.Walk.{Run, keptOf, skippedOf}
+use Rattle.salvage_spec.specs.Salvage.{Report, Salvage, numbers, salvaged, salvageOf}
+use Rattle.salvage_spec.specs.Account.{Piece, Account, keptIn, runsIn}
+use Rattle.salvage_spec.specs.Theorems.{longAll, leastFrame, Apart}
+use Rattle.salvage_spec.proofs.AccountLaws.{kept-told, skipped-told}
+use Rattle.salvage_spec.proofs.Theorems.{accounted-once, by-account, undamaged, again, refused-in-order, in-all, runs-apart, most-runs, most-kept}
 use Rattle.salvage.specs.declared.SalvageAnswer.{SalvageAnswer}
 use Rattle.salvage.specs.declared.SalvageAnswer.the-variants.{Salvaged, Refused}
-use Rattle.salvage.specs.Answers.{tellSalvage}
+use Rattle.salvage.specs.Told.{tellSalvage}
 use Rattle.salvage.proofs.OneAnswer.{salvage-apart}
-use Rattle.c_frames.specs.declared.UlmSalvage.{UlmSalvage}
-use Rattle.c_frames.specs.Frames.{salvageFace, LeavesBoth}
+use Rattle.c_salvage.specs.declared.UlmSalvage.{UlmSalvage}
+use Rattle.c_salvage.specs.Face.{salvageFace, LeavesBoth}
 use Rattle.demands.specs.DamagedRecording.{Comes, Reports, Tells, DamagedRecording}
 use Rattle.demands.proofs.SalvagedLaws.{salvaged-given}
 use Rattle.demands.proofs.First.{demand1}

@@ -8,35 +8,41 @@ use Rattle.wire.specs.Answers.{Answer, refused, given, Outcome, Promise}
 use Rattle.wire.specs.declared.Bytes.{Bytes}
 use Rattle.wire.specs.Writing.{tellWrite}
 use Rattle.frame.specs.Session.{Stream, end, frame, frameAt}
-use Rattle.message.specs.declared.Header.{Header}
-use Rattle.message.specs.Header.{headerOf}
-use Rattle.segments.specs.Walk.{SetSays, setOf}
-use Rattle.recording.specs.Salvage.{salvageOf}
-use Rattle.description.specs.Description.{Moment, Description}
-use Rattle.description.specs.Refusal.{radialOf}
-use Rattle.description.specs.Lookups.{Asked, noSuch, lies, momentOf, blockOf}
-use Rattle.lookup.specs.Told.{headShown, blockShown}
-use Rattle.gate.specs.Value.{Worth, belowThreshold, rangeFolded, worth}
-use Rattle.map.specs.Reading.{Summary}
-use Rattle.differences.specs.Comparing.{comparisonOf}
+use Rattle.header.specs.declared.Header.{Header}
+use Rattle.header.specs.Header.{headerOf}
+use Rattle.set_spec.specs.Walk.{SetSays, setOf}
+use Rattle.salvage_spec.specs.Salvage.{salvageOf}
+use Rattle.radial_spec.specs.Description.{Moment, Description}
+use Rattle.radial_spec.specs.Refusal.{radialOf}
+use Rattle.radial_spec.specs.Lookups.{Asked, noSuch, lies, momentOf, blockOf}
+use Rattle.radial.specs.Told.{headShown, blockShown}
+use Rattle.gate_value.specs.Value.{Worth, belowThreshold, rangeFolded, worth}
+use Rattle.map_spec.specs.Reading.{Summary}
+use Rattle.compare_spec.specs.Comparing.{comparisonOf}
 use Rattle.c_lent.specs.declared.UlmWritten.{UlmWritten}
-use Rattle.c_lent.specs.Lent.{Leaves, writtenFace}
-use Rattle.c_frames.specs.declared.UlmFrame.{UlmFrame}
-use Rattle.c_frames.specs.declared.UlmHeader.{UlmHeader}
-use Rattle.c_frames.specs.declared.UlmSet.{UlmSet}
-use Rattle.c_frames.specs.declared.UlmSalvage.{UlmSalvage}
-use Rattle.c_frames.specs.Frames.{frameFace, headerFace, setFace, salvageFace, LeavesBoth}
-use Rattle.c_radials.specs.declared.UlmRadial.{UlmRadial}
-use Rattle.c_radials.specs.declared.UlmBlock.{UlmBlock}
-use Rattle.c_radials.specs.declared.UlmGates.{UlmGates}
-use Rattle.c_radials.specs.declared.UlmGate.{UlmGate}
-use Rattle.c_radials.specs.Radials.{radialFace, lyingFace, blockFace, gatesFace, worthFace}
-use Rattle.c_bodies.specs.declared.UlmRequest.{UlmRequest}
-use Rattle.c_bodies.specs.declared.UlmCensor.{UlmCensor}
-use Rattle.c_bodies.specs.declared.UlmMap.{UlmMap}
-use Rattle.c_bodies.specs.declared.UlmMapCode.{UlmMapCode}
-use Rattle.c_bodies.specs.declared.UlmComparison.{UlmComparison}
-use Rattle.c_bodies.specs.Bodies.{requestFace, censorFace, mapFace, mapCodeFace, comparisonFace}
+use Rattle.c_lent.specs.Face.{Leaves, writtenFace}
+use Rattle.c_frame.specs.declared.UlmFrame.{UlmFrame}
+use Rattle.c_frame.specs.declared.UlmHeader.{UlmHeader}
+use Rattle.c_set.specs.declared.UlmSet.{UlmSet}
+use Rattle.c_salvage.specs.declared.UlmSalvage.{UlmSalvage}
+use Rattle.c_frame.specs.Face.{frameFace, headerFace}
+use Rattle.c_set.specs.Face.{setFace}
+use Rattle.c_salvage.specs.Face.{salvageFace, LeavesBoth}
+use Rattle.c_radial.specs.declared.UlmRadial.{UlmRadial}
+use Rattle.c_radial.specs.declared.UlmBlock.{UlmBlock}
+use Rattle.c_gates.specs.declared.UlmGates.{UlmGates}
+use Rattle.c_gates.specs.declared.UlmGate.{UlmGate}
+use Rattle.c_radial.specs.Face.{radialFace, lyingFace, blockFace}
+use Rattle.c_gates.specs.Face.{gatesFace, worthFace}
+use Rattle.c_request.specs.declared.UlmRequest.{UlmRequest}
+use Rattle.c_censor.specs.declared.UlmCensor.{UlmCensor}
+use Rattle.c_map.specs.declared.UlmMap.{UlmMap}
+use Rattle.c_map.specs.declared.UlmMapCode.{UlmMapCode}
+use Rattle.c_compare.specs.declared.UlmComparison.{UlmComparison}
+use Rattle.c_request.specs.Face.{requestFace}
+use Rattle.c_censor.specs.Face.{censorFace}
+use Rattle.c_map.specs.Face.{mapFace, mapCodeFace}
+use Rattle.c_compare.specs.Face.{comparisonFace}
 use Rattle.demands.specs.Notions.{One, OfTheTable, ByChecks, KeptLent, KeptBoth}
 use Rattle.demands.specs.Orders.{salvageChecks}
 use Rattle.demands.specs.Face.{Shown, ShownLent, FaceOfC, blankFrame, blankHeader, blankSet, blankWritten, blankRadial, blankBlock, blankGates}

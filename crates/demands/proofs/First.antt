@@ -7,26 +7,25 @@ use lib.Dec.{eqb, ltb}
 use lib.ListN.{length, getD}
 use Rattle.wire.specs.Answers.{rule, Promise}
 use Rattle.frame.specs.Session.{frameAt}
-use Rattle.frame.specs.Promises.{tellFrame}
-use Rattle.frame.proofs.OneAnswer.{frame-only}
-use Rattle.message.specs.Header.{headerIn, headerChecks, headerOf}
-use Rattle.message.specs.Promises.{tellHeader}
-use Rattle.message.proofs.OneAnswer.{header-only}
-use Rattle.segments.specs.Walk.{setOf}
-use Rattle.sets.specs.Promises.{tellSet}
-use Rattle.sets.proofs.OneAnswer.{set-only}
-use Rattle.recording.specs.Walk.{keptOf, skippedOf}
-use Rattle.recording.specs.Salvage.{Salvage, report, salvageOf}
-use Rattle.salvage.specs.Answers.{Salvages}
-use Rattle.salvage.proofs.OneAnswer.{one-salvage}
-use Rattle.description.specs.Refusal.{radialChecks, radialOf}
-use Rattle.description.specs.Lookups.{momentOf, blockOf}
-use Rattle.radial.specs.Shown.{shown}
-use Rattle.lookup.specs.Told.{tellMoment, headShown, tellBlock, blockShown}
-use Rattle.lookup.proofs.OneAnswer.{only-moment, only-block}
-use Rattle.gate.specs.Value.{valueChecks, valueOf, gateOf}
-use Rattle.gate.specs.Promises.{tellGate}
-use Rattle.gate.proofs.OneAnswer.{value-only, gate-only}
+use Rattle.frame.specs.Told.{tellFrame}
+use Rattle.frame.proofs.OneAnswer.{frame-at-only}
+use Rattle.header.specs.Header.{headerIn, headerChecks, headerOf}
+use Rattle.header.specs.Told.{tellHeader}
+use Rattle.header.proofs.OneAnswer.{read-header-only}
+use Rattle.set_spec.specs.Walk.{setOf}
+use Rattle.set.specs.Told.{tellSet}
+use Rattle.set.proofs.OneAnswer.{read-set-only}
+use Rattle.salvage_spec.specs.Walk.{keptOf, skippedOf}
+use Rattle.salvage_spec.specs.Salvage.{Salvage, report, salvageOf}
+use Rattle.salvage.specs.Told.{Salvages}
+use Rattle.salvage.proofs.OneAnswer.{salvage-only}
+use Rattle.radial_spec.specs.Refusal.{radialChecks, radialOf}
+use Rattle.radial_spec.specs.Lookups.{momentOf, blockOf}
+use Rattle.radial.specs.Told.{shown, tellMoment, headShown, tellBlock, blockShown}
+use Rattle.radial.proofs.OneAnswer.{moment-only, block-only}
+use Rattle.gate_value.specs.Value.{valueChecks, valueOf, gateOf}
+use Rattle.gate_value.specs.Told.{tellGate}
+use Rattle.gate_value.proofs.OneAnswer.{value-only, gate-value-only}
 use Rattle.wire.specs.Numbers.{num}
 use Rattle.wire.specs.Tables.{render}
 use Rattle.wire.specs.Checks.{Check, check}
@@ -35,21 +34,21 @@ use Rattle.wire.specs.Writing.{tellWrite, filled, written}
 use Rattle.wire.specs.declared.WriteAnswer.{WriteAnswer}
 use Rattle.writer.specs.declared.Given.{Given}
 use Rattle.writer.specs.Writing.{framesOf, writeChecks, writeOf}
-use Rattle.writer.proofs.OneAnswer.{write-only}
+use Rattle.writer.proofs.OneAnswer.{write-message-only}
 use Rattle.request.specs.Request.{requestTable, requestChecks, requestOf, requestWritten}
-use Rattle.request.specs.Promises.{tellRequest}
-use Rattle.request.proofs.OneAnswer.{request-only, write-only as request-write-only}
-use Rattle.clutter.specs.Censor.{bodyOf, count, fields, bodyChecks, listOf, listChecks, censorOf, censorWritten, regionsChecks}
-use Rattle.clutter.specs.Promises.{shown as zonesShown}
-use Rattle.clutter.proofs.OneAnswer.{write-only as censor-write-only}
-use Rattle.map.specs.Map.{codeAt}
-use Rattle.map.specs.Reading.{segmentsIn, mapChecks, mapIn, summary, askedChecks, summaryOf, codeOf}
-use Rattle.filter.specs.Answers.{tellMap, tellCode}
-use Rattle.filter.proofs.OneAnswer.{one-map-answer, one-code-answer}
-use Rattle.differences.specs.Differences.{differences}
-use Rattle.differences.specs.Comparing.{comparison, halfwords, comparisonOf, roomChecks}
-use Rattle.compare.specs.Answers.{tellCompare}
-use Rattle.compare.proofs.OneAnswer.{one-comparison}
+use Rattle.request.specs.Told.{tellRequest}
+use Rattle.request.proofs.OneAnswer.{read-request-only, write-request-only}
+use Rattle.censor.specs.Censor.{bodyOf, count, fields, bodyChecks, listOf, listChecks, censorOf, censorWritten, regionsChecks}
+use Rattle.censor.specs.Told.{shown as zonesShown}
+use Rattle.censor.proofs.OneAnswer.{write-censor-only}
+use Rattle.map_spec.specs.Map.{codeAt}
+use Rattle.map_spec.specs.Reading.{segmentsIn, mapChecks, mapIn, summary, askedChecks, summaryOf, codeOf}
+use Rattle.map.specs.Told.{tellMap, tellCode}
+use Rattle.map.proofs.OneAnswer.{check-map-only, code-at-only}
+use Rattle.compare_spec.specs.Differences.{differences}
+use Rattle.compare_spec.specs.Comparing.{comparison, halfwords, comparisonOf, roomChecks}
+use Rattle.compare.specs.Told.{tellCompare}
+use Rattle.compare.proofs.OneAnswer.{compare-only}
 use Rattle.demands.specs.Notions.{ByChecks, KeptLent, KeptBoth}
 use Rattle.demands.specs.Orders.{streamChecks, setChecks, momentChecks, gateChecks, writerChecks, comparisonChecks, salvageChecks}
 use Rattle.demands.specs.Demand1.{Demand1}
@@ -78,7 +77,7 @@ compare-kept old new out =
     let n = mapIn new in
     let list = halfwords (differences m n) in
     let maps : inside (mapChecks old ++ mapChecks new) ≡ true = inside-join (mapChecks old) (mapChecks new) (map-inside old) (map-inside new) in
-    kept-lent tellCompare showCompare compare-back all (comparisonOf old new out) out (one-comparison old new out)
+    kept-lent tellCompare showCompare compare-back all (comparisonOf old new out) out (compare-only old new out)
     (by-outcome all out (comparison m n) (filled list out) (inside-join (mapChecks old ++ mapChecks new) (roomChecks list out) maps refl))
     (outcome-untouched all out (comparison m n) (filled list out))
 
@@ -95,7 +94,7 @@ written-kept ks whole out i only =
 
 write-kept : (g : Given) (body out : List ℕ) → KeptLent tellWrite (writerChecks (writeChecks g body) (framesOf g body) (length out)) (writeOf g body out) out
 unfolding writeOf
-write-kept g body out = written-kept (writeChecks g body) (framesOf g body) out refl (write-only g body out)
+write-kept g body out = written-kept (writeChecks g body) (framesOf g body) out refl (write-message-only g body out)
 
 by-request : (b : List ℕ) → ByChecks (requestChecks (eqb (length b) 2) (num 2 b 0)) (requestOf b)
 unfolding requestOf
@@ -105,7 +104,7 @@ request-kept : (list out : List ℕ)
     → KeptLent tellWrite (writerChecks (requestChecks (eqb (length list) 1) (getD list 0 0)) (render (requestTable (getD list 0 0))) (length out)) (requestWritten list out) out
 unfolding requestWritten
 request-kept list out =
-    written-kept (requestChecks (eqb (length list) 1) (getD list 0 0)) (render (requestTable (getD list 0 0))) out refl (request-write-only list out)
+    written-kept (requestChecks (eqb (length list) 1) (getD list 0 0)) (render (requestTable (getD list 0 0))) out refl (write-request-only list out)
 
 by-censor : (b : List ℕ) → ByChecks (bodyChecks b) (censorOf b)
 unfolding censorOf
@@ -113,7 +112,7 @@ by-censor b = by-rule (bodyChecks b) (listOf b) (regions-inside (count (listOf b
 
 censor-kept : (list out : List ℕ) → KeptLent tellWrite (writerChecks (listChecks list) (bodyOf list) (length out)) (censorWritten list out) out
 unfolding censorWritten
-censor-kept list out = written-kept (listChecks list) (bodyOf list) out (regions-inside (count list) (fields list)) (censor-write-only list out)
+censor-kept list out = written-kept (listChecks list) (bodyOf list) out (regions-inside (count list) (fields list)) (write-censor-only list out)
 
 -- ---- two outputs
 salvage-kept : (b out runs : List ℕ) → KeptBoth (Salvages (salvageOf b out runs)) (salvageChecks b out runs) (salvageOf b out runs) out runs
@@ -129,7 +128,7 @@ salvage-kept b out runs =
       one = record {
         the = (shown, right .output, right .listed);
         meets = meets;
-        only = λ p e. let q = one-salvage b out runs (p .0) shown (p .1) (right .output) (p .2) (right .listed) e meets in λ i. (q .0 i, q .1 i, q .2 i);
+        only = λ p e. let q = salvage-only b out runs (p .0) shown (p .1) (right .output) (p .2) (right .listed) e meets in λ i. (q .0 i, q .1 i, q .2 i);
       };
       byChecks = by-same all (right .answer) (rule all (report frames skipped)) (salvaged-answer frames skipped out runs) (by-rule all (report frames skipped) refl);
       untouched = λ n e.
@@ -140,27 +139,27 @@ salvage-kept b out runs =
 pub demand1 : Demand1
 demand1 = record {
   frame = λ stream place.
-      kept tellFrame showFrame frame-back (streamChecks stream place) (frameAt stream place) (frame-only stream place) (by-stream stream place);
-  header = λ message. kept tellHeader showHeader header-back (headerChecks message) (headerOf message) (header-only message) (by-header message);
+      kept tellFrame showFrame frame-back (streamChecks stream place) (frameAt stream place) (frame-at-only stream place) (by-stream stream place);
+  header = λ message. kept tellHeader showHeader header-back (headerChecks message) (headerOf message) (read-header-only message) (by-header message);
   set = λ frames out.
-      kept-lent tellSet showSet set-back (setChecks frames (length out)) (setOf frames out) out (set-only frames out) (by-set frames out) (set-untouched frames out);
+      kept-lent tellSet showSet set-back (setChecks frames (length out)) (setOf frames out) out (read-set-only frames out) (by-set frames out) (set-untouched frames out);
   write = write-kept;
   radial = λ body. (record { the = shown (radialOf body); meets = refl; only = λ r e. e }, by-radial body);
   moment = λ body name.
-      kept tellMoment showMoment moment-back (momentChecks body name) (headShown (momentOf body name)) (only-moment body name) (by-moment body name);
-  block = λ body k. kept tellBlock showBlock block-back (radialChecks body) (blockShown (blockOf body k)) (only-block body k) (by-block body k);
-  gate = λ body name gate. kept tellGate showGate gate-back (gateChecks body name gate) (gateOf body name gate) (gate-only body name gate) (by-gate body name gate);
+      kept tellMoment showMoment moment-back (momentChecks body name) (headShown (momentOf body name)) (moment-only body name) (by-moment body name);
+  block = λ body k. kept tellBlock showBlock block-back (radialChecks body) (blockShown (blockOf body k)) (block-only body k) (by-block body k);
+  gate = λ body name gate. kept tellGate showGate gate-back (gateChecks body name gate) (gateOf body name gate) (gate-value-only body name gate) (by-gate body name gate);
   value = λ code scale offset.
       kept tellGate showGate gate-back (valueChecks scale offset) (valueOf code scale offset) (value-only code scale offset) (by-value code scale offset);
   request = λ body.
-      kept tellRequest showRequest request-back (requestChecks (eqb (length body) 2) (num 2 body 0)) (requestOf body) (request-only body) (by-request body);
+      kept tellRequest showRequest request-back (requestChecks (eqb (length body) 2) (num 2 body 0)) (requestOf body) (read-request-only body) (by-request body);
   writeRequest = request-kept;
   censor = λ body. (record { the = zonesShown (censorOf body); meets = refl; only = λ r e. e }, by-censor body);
   writeCensor = censor-kept;
-  map = λ body. kept tellMap showMap map-back (mapChecks body) (summaryOf body) (one-map-answer body) (by-rule (mapChecks body) (summary (mapIn body)) (map-inside body));
+  map = λ body. kept tellMap showMap map-back (mapChecks body) (summaryOf body) (check-map-only body) (by-rule (mapChecks body) (summary (mapIn body)) (map-inside body));
   code = λ body elevation azimuth kilometre.
       kept tellCode showCode code-back (mapChecks body ++ askedChecks (segmentsIn body) elevation azimuth kilometre) (codeOf body elevation azimuth kilometre)
-      (one-code-answer body elevation azimuth kilometre) (by-query body elevation azimuth kilometre);
+      (code-at-only body elevation azimuth kilometre) (by-query body elevation azimuth kilometre);
   compare = compare-kept;
   salvage = salvage-kept;
 }

@@ -6,15 +6,14 @@ use mathlib.Core.List.{List, [], _∷_, _++_, map, append-assoc}
 use lib.ListN.{length, getD, take, length-append}
 use lib.Seq.{getD-append-seam}
 use Rattle.wire.specs.Answers.{Answer, refused, given}
-use Rattle.description.specs.Description.{constants, Moment, Description, blockCount}
-use Rattle.description.specs.Refusal.{radialOf}
-use Rattle.description.specs.Lookups.{onward, Asked, noSuch, lies, blocks, constantLying, momentLying, blockOf}
-use Rattle.description.specs.Description.{RVOL, RELV, RRAD}
-use Rattle.radial.specs.Shown.{headOf, shown}
-use Rattle.radial.specs.Handed.{momentFrom, blockFrom, handed}
+use Rattle.radial_spec.specs.Description.{constants, Moment, Description, blockCount, RVOL, RELV, RRAD}
+use Rattle.radial_spec.specs.Refusal.{radialOf}
+use Rattle.radial_spec.specs.Lookups.{onward, Asked, noSuch, lies, blocks, constantLying, momentLying, blockOf}
+use Rattle.radial.specs.Told.{headOf, shown}
+use Rattle.radial.specs.Theorems.{momentFrom, blockFrom, handed}
 use Rattle.radial.proofs.HandedLaws.{heads-taken, handed-is}
-use Rattle.c_radials.specs.declared.UlmBlock.{UlmBlock}
-use Rattle.c_radials.specs.Radials.{radialFace, blockFace}
+use Rattle.c_radial.specs.declared.UlmBlock.{UlmBlock}
+use Rattle.c_radial.specs.Face.{radialFace, blockFace}
 use Rattle.demands.specs.FaceOfRadial.{momentFromC, momentsFromC, fromC, HandedToC}
 
 -- the blocks as C asks for them, after those in `before`

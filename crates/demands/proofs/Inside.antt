@@ -8,14 +8,14 @@ use lib.ListN.{length, drop}
 use Rattle.wire.specs.Checks.{pick, either, Check, check}
 use Rattle.wire.specs.Answers.{Answer, refused, given}
 use Rattle.frame.specs.Session.{after, frameChecks}
-use Rattle.segments.specs.Segment.{Segment, segmentIn}
-use Rattle.segments.specs.Walk.{turnChecks, endChecks}
-use Rattle.description.specs.Description.{Moment, gates, constants, firstPlace}
-use Rattle.description.specs.Refusal.{pointer, part, nameIn, momentSays, momentsChecks, sizeIn, countIn, endAt, radialChecks}
-use Rattle.clutter.specs.Censor.{regionsChecks, region, fieldChecks as censorFields}
-use Rattle.map.specs.Map.{azimuths, mostZones}
-use Rattle.map.specs.Reading.{Part, value, after as afterField, fieldChecks, zoneChecks, zonesChecks, runSize, runChecks, azimuthPart, elevationPart, headChecks, leftoverChecks, mapChecks}
-use Rattle.map.specs.Reading.{segmentsIn}
+use Rattle.set_spec.specs.Segment.{Segment, segmentIn}
+use Rattle.set_spec.specs.Walk.{turnChecks, endChecks}
+use Rattle.radial_spec.specs.Description.{Moment, gates, constants, firstPlace}
+use Rattle.radial_spec.specs.Refusal.{pointer, part, nameIn, momentSays, momentsChecks, sizeIn, countIn, endAt, radialChecks}
+use Rattle.censor.specs.Censor.{regionsChecks, region, fieldChecks as censorFields}
+use Rattle.map_spec.specs.Map.{azimuths, mostZones}
+use Rattle.map_spec.specs.Reading.{Part, value, after as afterField, fieldChecks, zoneChecks, zonesChecks, runSize, runChecks, azimuthPart, elevationPart, headChecks, leftoverChecks, mapChecks}
+use Rattle.map_spec.specs.Reading.{segmentsIn}
 use Rattle.demands.specs.Orders.{streamChecks, turnsChecks, setChecks}
 use Rattle.demands.proofs.ByChecksLaws.{inside, inside-join}
 

@@ -15,12 +15,12 @@ use Rattle.wire.proofs.CheckLaws.{never, all-hold}
 use Rattle.wire.proofs.AnswerLaws.{rule-given}
 use Rattle.frame.specs.Session.{Stream, end, frame, frameChecks, frameIn, frameAt}
 use Rattle.frame.specs.declared.Frame.{Frame}
-use Rattle.message.specs.Header.{headerIn, headerChecks, headerOf}
-use Rattle.message.specs.declared.Header.{Header}
-use Rattle.description.specs.Description.{Moment, gateBytes}
-use Rattle.description.specs.Lookups.{onward, momentOf, Part, gatesIn, gatesOf, bytesIn}
-use Rattle.description.proofs.Naming.{found-lies}
-use Rattle.lookup.specs.Told.{partOf, LiesAt}
+use Rattle.header.specs.Header.{headerIn, headerChecks, headerOf}
+use Rattle.header.specs.declared.Header.{Header}
+use Rattle.radial_spec.specs.Description.{Moment, gateBytes}
+use Rattle.radial_spec.specs.Lookups.{onward, momentOf, Part, gatesIn, gatesOf, bytesIn}
+use Rattle.radial_spec.proofs.Naming.{found-lies}
+use Rattle.radial_gates.specs.Told.{partOf, LiesAt}
 use Rattle.demands.specs.Wall.{Walked, onTheWall, Wall}
 
 -- a part of a part

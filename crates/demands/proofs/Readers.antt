@@ -10,15 +10,14 @@ use Rattle.wire.specs.Checks.{pick, Check, check, decide}
 use Rattle.wire.specs.Answers.{Answer, refused, given, rule, Outcome, refusal, outcome}
 use Rattle.wire.proofs.CheckLaws.{never, decide-map}
 use Rattle.frame.specs.Session.{Stream, end, frame, frameChecks, frameIn, frameAt, after}
-use Rattle.segments.specs.Segment.{Segment, segmentIn}
-use Rattle.segments.specs.Walk.{SetSays, walk, finish, setOf, turnChecks, endChecks, bodyOf}
-use Rattle.description.specs.Description.{Moment, Description, gates}
-use Rattle.description.specs.Refusal.{description, radialChecks, radialOf}
-use Rattle.description.specs.Lookups.{onward, momentNamed, momentOf, Asked, noSuch, lies, blocks, blockOf}
+use Rattle.set_spec.specs.Segment.{Segment, segmentIn}
+use Rattle.set_spec.specs.Walk.{SetSays, walk, finish, setOf, turnChecks, endChecks, bodyOf}
+use Rattle.radial_spec.specs.Description.{Moment, Description, gates}
+use Rattle.radial_spec.specs.Refusal.{description, radialChecks, radialOf}
+use Rattle.radial_spec.specs.Lookups.{onward, momentNamed, momentOf, Asked, noSuch, lies, blocks, blockOf}
 use Rattle.radial.specs.declared.MomentHead.{MomentHead}
-use Rattle.radial.specs.Shown.{headOf}
-use Rattle.lookup.specs.Told.{headShown, Told, toldOf, blockShown}
-use Rattle.gate.specs.Value.{Worth, valueChecks, worthOf, valueOf, gateIn, gateOf}
+use Rattle.radial.specs.Told.{headOf, headShown, Told, toldOf, blockShown}
+use Rattle.gate_value.specs.Value.{Worth, valueChecks, worthOf, valueOf, gateIn, gateOf}
 use Rattle.demands.specs.Notions.{ByChecks}
 use Rattle.demands.specs.Orders.{streamChecks, turnsChecks, setChecks, missing, momentChecks, codeChecks, gateChecks}
 use Rattle.demands.proofs.ByChecksLaws.{inside, by-first, by-rule, by-same, by-then, by-outcome, outcome-untouched}

@@ -7,8 +7,8 @@ use Rattle.wire.specs.Answers.{Answer, refused, given, rule}
 use Rattle.wire.specs.Writing.{filled}
 use Rattle.wire.proofs.CheckLaws.{decide-none, decide-some, decide-map}
 use Rattle.wire.proofs.AnswerLaws.{rule-given, rule-refused}
-use Rattle.recording.specs.Walk.{Run}
-use Rattle.recording.specs.Salvage.{Report, Salvage, numbers, roomChecks, untouched, report, salvaged}
+use Rattle.salvage_spec.specs.Walk.{Run}
+use Rattle.salvage_spec.specs.Salvage.{Report, Salvage, numbers, roomChecks, untouched, report, salvaged}
 
 module _ (frames : List (List ℕ)) (skipped : List Run) (out runs : List ℕ) where
   abbrev checks : List Check

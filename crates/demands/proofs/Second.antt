@@ -5,14 +5,14 @@ use mathlib.Core.List.{List}
 use lib.ListN.{length, take}
 use Rattle.wire.specs.Answers.{Answer, Outcome, Promise}
 use Rattle.wire.specs.Sizes.{bytes}
-use Rattle.segments.specs.Walk.{SetSays, setOf}
-use Rattle.segments.specs.Theorems.{accepted}
-use Rattle.sets.specs.declared.SetAnswer.the-variants.{Set}
-use Rattle.sets.specs.Promises.{tellSet}
-use Rattle.sets.proofs.OneAnswer.{set-apart}
+use Rattle.set_spec.specs.Walk.{SetSays, setOf}
+use Rattle.set_spec.specs.Theorems.{accepted}
+use Rattle.set.specs.declared.SetAnswer.the-variants.{Set}
+use Rattle.set.specs.Told.{tellSet}
+use Rattle.set.proofs.OneAnswer.{set-apart}
 use Rattle.writer.specs.Writing.{writeOf}
-use Rattle.replay.specs.RoundTrip.{headerBack}
-use Rattle.replay.proofs.Trip.{round-trip}
+use Rattle.round_trip.specs.Theorems.{headerBack}
+use Rattle.round_trip.proofs.Theorems.{round-trip}
 use Rattle.demands.specs.Demand2.{Demand2}
 
 pub demand2 : Demand2

@@ -6,47 +6,47 @@ use Rattle.wire.specs.Answers.{Answer, refused, given}
 use Rattle.frame.specs.Session.{Stream, end, frame}
 use Rattle.frame.specs.declared.FrameAnswer.{FrameAnswer}
 use Rattle.frame.specs.declared.FrameAnswer.the-variants.{End, Read, Refused}
-use Rattle.frame.specs.Promises.{tellFrame}
-use Rattle.message.specs.declared.Header.{Header}
-use Rattle.message.specs.declared.HeaderAnswer.{HeaderAnswer}
-use Rattle.message.specs.declared.HeaderAnswer.the-variants.{Read as ReadHeader, Refused as NoHeader}
-use Rattle.message.specs.Promises.{tellHeader}
-use Rattle.segments.specs.Walk.{SetSays}
-use Rattle.sets.specs.declared.SetAnswer.{SetAnswer}
-use Rattle.sets.specs.declared.SetAnswer.the-variants.{Set, Refused as NoSet}
-use Rattle.sets.specs.Promises.{tellSet}
-use Rattle.recording.specs.Salvage.{Report}
+use Rattle.frame.specs.Told.{tellFrame}
+use Rattle.header.specs.declared.Header.{Header}
+use Rattle.header.specs.declared.HeaderAnswer.{HeaderAnswer}
+use Rattle.header.specs.declared.HeaderAnswer.the-variants.{Read as ReadHeader, Refused as NoHeader}
+use Rattle.header.specs.Told.{tellHeader}
+use Rattle.set_spec.specs.Walk.{SetSays}
+use Rattle.set.specs.declared.SetAnswer.{SetAnswer}
+use Rattle.set.specs.declared.SetAnswer.the-variants.{Set, Refused as NoSet}
+use Rattle.set.specs.Told.{tellSet}
+use Rattle.salvage_spec.specs.Salvage.{Report}
 use Rattle.salvage.specs.declared.SalvageAnswer.{SalvageAnswer}
 use Rattle.salvage.specs.declared.SalvageAnswer.the-variants.{Salvaged, Refused as NoSalvage}
-use Rattle.salvage.specs.Answers.{tellSalvage}
+use Rattle.salvage.specs.Told.{tellSalvage}
 use Rattle.radial.specs.declared.MomentHead.{MomentHead}
-use Rattle.lookup.specs.declared.MomentAnswer.{MomentAnswer}
-use Rattle.lookup.specs.declared.MomentAnswer.the-variants.{Moment as Found, Refused as NotFound}
-use Rattle.lookup.specs.declared.BlockAnswer.{BlockAnswer}
-use Rattle.lookup.specs.declared.BlockAnswer.the-variants.{Constant, Moment as MomentBlock, NoSuch, Refused as NoBlock}
-use Rattle.lookup.specs.declared.Lying.{Lying}
-use Rattle.lookup.specs.Told.{Told, tellMoment, tellBlock}
-use Rattle.gate.specs.Value.{Worth, belowThreshold, rangeFolded, worth}
-use Rattle.gate.specs.declared.GateAnswer.{GateAnswer}
-use Rattle.gate.specs.declared.GateAnswer.the-variants.{Value, BelowThreshold, RangeFolded, Refused as NoValue}
-use Rattle.gate.specs.Promises.{tellGate}
+use Rattle.radial.specs.declared.MomentAnswer.{MomentAnswer}
+use Rattle.radial.specs.declared.MomentAnswer.the-variants.{Moment as Found, Refused as NotFound}
+use Rattle.radial.specs.declared.BlockAnswer.{BlockAnswer}
+use Rattle.radial.specs.declared.BlockAnswer.the-variants.{Constant, Moment as MomentBlock, NoSuch, Refused as NoBlock}
+use Rattle.radial.specs.declared.Lying.{Lying}
+use Rattle.radial.specs.Told.{Told, tellMoment, tellBlock}
+use Rattle.gate_value.specs.Value.{Worth, belowThreshold, rangeFolded, worth}
+use Rattle.gate_value.specs.declared.GateAnswer.{GateAnswer}
+use Rattle.gate_value.specs.declared.GateAnswer.the-variants.{Value, BelowThreshold, RangeFolded, Refused as NoValue}
+use Rattle.gate_value.specs.Told.{tellGate}
 use Rattle.wire.specs.declared.Bytes.{Bytes}
 use Rattle.wire.specs.declared.WriteAnswer.{WriteAnswer}
 use Rattle.wire.specs.declared.WriteAnswer.the-variants.{Written, Refused as NotWritten}
 use Rattle.wire.specs.Writing.{tellWrite}
 use Rattle.request.specs.declared.RequestAnswer.{RequestAnswer}
 use Rattle.request.specs.declared.RequestAnswer.the-variants.{Code as RequestCode, Refused as NoRequest}
-use Rattle.request.specs.Promises.{tellRequest}
-use Rattle.map.specs.Reading.{Summary}
-use Rattle.filter.specs.declared.MapAnswer.{MapAnswer}
-use Rattle.filter.specs.declared.MapAnswer.the-variants.{Map, Refused as NoMap}
-use Rattle.filter.specs.declared.CodeAnswer.{CodeAnswer}
-use Rattle.filter.specs.declared.CodeAnswer.the-variants.{Code, Refused as NoCode}
-use Rattle.filter.specs.Answers.{tellMap, tellCode}
-use Rattle.differences.specs.Comparing.{Comparison}
+use Rattle.request.specs.Told.{tellRequest}
+use Rattle.map_spec.specs.Reading.{Summary}
+use Rattle.map.specs.declared.MapAnswer.{MapAnswer}
+use Rattle.map.specs.declared.MapAnswer.the-variants.{Map, Refused as NoMap}
+use Rattle.map.specs.declared.CodeAnswer.{CodeAnswer}
+use Rattle.map.specs.declared.CodeAnswer.the-variants.{Code, Refused as NoCode}
+use Rattle.map.specs.Told.{tellMap, tellCode}
+use Rattle.compare_spec.specs.Comparing.{Comparison}
 use Rattle.compare.specs.declared.CompareAnswer.{CompareAnswer}
 use Rattle.compare.specs.declared.CompareAnswer.the-variants.{Compared, Refused as NoComparison}
-use Rattle.compare.specs.Answers.{tellCompare}
+use Rattle.compare.specs.Told.{tellCompare}
 
 abbrev pub showFrame : Answer Stream → FrameAnswer
 showFrame (refused n) = Refused n

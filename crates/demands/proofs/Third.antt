@@ -5,19 +5,19 @@ use mathlib.Core.List.{List, []}
 use lib.ListN.{take}
 use denote.Ref.{RefT, now}
 use Rattle.wire.specs.Answers.{Answer, refused, given}
-use Rattle.description.specs.Description.{Moment, Description}
-use Rattle.description.specs.Refusal.{radialOf}
-use Rattle.description.specs.Lookups.{momentOf, Asked, blockOf, Part, gatesOf, bytesIn}
-use Rattle.description.specs.Demand3.{SameAnswers}
-use Rattle.description.proofs.Accepted.{exactly, unique}
-use Rattle.description.proofs.Naming.{named-exactly, unnamed}
-use Rattle.radial.specs.Shown.{shown}
+use Rattle.radial_spec.specs.Description.{Moment, Description}
+use Rattle.radial_spec.specs.Refusal.{radialOf}
+use Rattle.radial_spec.specs.Lookups.{momentOf, Asked, blockOf, Part, gatesOf, bytesIn}
+use Rattle.radial_spec.specs.Theorems.{SameAnswers}
+use Rattle.radial_spec.proofs.Accepted.{exactly, unique}
+use Rattle.radial_spec.proofs.Naming.{named-exactly, unnamed}
+use Rattle.radial.specs.Told.{shown, tellMoment, headShown, tellBlock, blockShown}
 use Rattle.radial.proofs.HandedLaws.{handed-exactly}
-use Rattle.lookup.specs.Told.{tellMoment, headShown, tellBlock, blockShown, partOf, LiesAt}
-use Rattle.lookup.proofs.OneAnswer.{only-moment, only-block}
-use Rattle.gate.specs.Promises.{tellGate}
-use Rattle.gate.proofs.OneAnswer.{gate-only}
-use Rattle.gate.proofs.GateLaws.{gate-unnamed}
+use Rattle.radial_gates.specs.Told.{partOf, LiesAt}
+use Rattle.radial.proofs.OneAnswer.{moment-only, block-only}
+use Rattle.gate_value.specs.Told.{tellGate}
+use Rattle.gate_value.proofs.OneAnswer.{gate-value-only}
+use Rattle.gate_value.proofs.GateLaws.{gate-unnamed}
 use Rattle.demands.specs.Demand3.{SameFromEach, Unaltered, Demand3}
 
 -- the bytes of the part are the same, where it is given, and none where it is refused
@@ -30,8 +30,8 @@ unaltered b b′ d o l e f =
     let s = unnamed b b′ d o l e f in
     record {
       reader = λ r r′ p q. p ∙ ap shown (sym (s .radial)) ∙ sym q;
-      moment = λ name r r′ p q. only-moment b name r r′ p (q ∙ ap headShown (s .moment name));
-      block = λ k r r′ p q. only-block b k r r′ p (q ∙ ap blockShown (s .block k));
+      moment = λ name r r′ p q. moment-only b name r r′ p (q ∙ ap headShown (s .moment name));
+      block = λ k r r′ p q. block-only b k r r′ p (q ∙ ap blockShown (s .block k));
       gates = λ name body body′ r r′ p q u v.
           let same : partOf (gatesOf b′ name) ≡ partOf (gatesOf b name) = ap partOf (s .gates name) in
           let one : now r ≡ bytesIn b (partOf (gatesOf b name)) = u .bytes ∙ ap (λ (x : List ℕ). bytesIn x (partOf (gatesOf x name))) p in
@@ -39,7 +39,7 @@ unaltered b b′ d o l e f =
           v .bytes ∙ ap (λ (x : List ℕ). bytesIn x (partOf (gatesOf x name))) q ∙ ap (λ (x : Part). bytesIn b′ x) same
           in
           (sym same, one ∙ same-bytes b b′ (gatesOf b name) (s .codes name) ∙ sym two);
-      gate = λ name gate r r′ p q. gate-only b name gate r r′ p (q ∙ gate-unnamed b b′ d o l e f name gate);
+      gate = λ name gate r r′ p q. gate-value-only b name gate r r′ p (q ∙ gate-unnamed b b′ d o l e f name gate);
     }
 
 pub demand3 : Demand3

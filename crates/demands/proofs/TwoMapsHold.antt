@@ -10,20 +10,20 @@ use Rattle.wire.specs.Answers.{Answer, refused, given, Outcome}
 use Rattle.wire.specs.Writing.{filled}
 use Rattle.wire.proofs.CheckLaws.{all-hold-append}
 use Rattle.wire.proofs.AnswerLaws.{kept}
-use Rattle.map.specs.Map.{Zone, FilterMap}
-use Rattle.map.specs.Reading.{mapChecks, mapIn, mapOf}
-use Rattle.map.proofs.Theorems.{accepted-exactly}
-use Rattle.differences.specs.Differences.{Difference, differences, swapped as swappedRun}
-use Rattle.differences.specs.Comparing.{Comparison, halfwords, mostHalfwords, roomChecks, comparisonOf}
-use Rattle.differences.proofs.Most.{halfwords-length}
-use Rattle.differences.proofs.InTurn.{map-given, answered, both-good}
-use Rattle.differences.proofs.Theorems.{compared-exactly, swapped, room-for-all, refused-in-order, itself-answered}
+use Rattle.map_spec.specs.Map.{Zone, FilterMap}
+use Rattle.map_spec.specs.Reading.{mapChecks, mapIn, mapOf}
+use Rattle.map_spec.proofs.Theorems.{accepted-exactly}
+use Rattle.compare_spec.specs.Differences.{Difference, differences, swapped as swappedRun}
+use Rattle.compare_spec.specs.Comparing.{Comparison, halfwords, mostHalfwords, roomChecks, comparisonOf}
+use Rattle.compare_spec.proofs.Most.{halfwords-length}
+use Rattle.compare_spec.proofs.InTurn.{map-given, answered, both-good}
+use Rattle.compare_spec.proofs.Theorems.{compared-exactly, swapped, room-for-all, refused-in-order, itself-answered}
 use Rattle.compare.specs.declared.CompareAnswer.{CompareAnswer}
 use Rattle.compare.specs.declared.CompareAnswer.the-variants.{Compared as Told, Refused}
-use Rattle.compare.specs.Answers.{tellCompare}
-use Rattle.compare.proofs.OneAnswer.{one-comparison}
-use Rattle.c_bodies.specs.declared.UlmComparison.{UlmComparison}
-use Rattle.c_bodies.specs.Bodies.{comparisonFace}
+use Rattle.compare.specs.Told.{tellCompare}
+use Rattle.compare.proofs.OneAnswer.{compare-only}
+use Rattle.c_compare.specs.declared.UlmComparison.{UlmComparison}
+use Rattle.c_compare.specs.Face.{comparisonFace}
 use Rattle.demands.specs.TwoMaps.{Comes, Refuses, Lists, Good, Fits, ButDate, TwoMaps}
 use Rattle.demands.proofs.First.{demand1}
 
@@ -31,7 +31,7 @@ use Rattle.demands.proofs.First.{demand1}
 comes : (old new out : List ℕ) (answer : CompareAnswer) (left : List ℕ) → comparisonOf old new out ≡ record { answer = tellCompare answer; output = left }
     → Comes old new out answer (comparisonFace (tellCompare answer)) left
 comes old new out answer left e = record {
-  entry = λ r after p. one-comparison old new out r answer after left p (kept tellCompare (comparisonOf old new out) answer left left e refl);
+  entry = λ r after p. compare-only old new out r answer after left p (kept tellCompare (comparisonOf old new out) answer left left e refl);
   face = λ r after p. (
     p .answers ∙ ap (λ (o : Outcome Comparison). comparisonFace (o .answer)) e,
     p .leaves ∙ ap (λ (o : Outcome Comparison). o .output) e,

@@ -8,18 +8,18 @@ use lib.ListN.{length, drop, replicate}
 use Rattle.wire.specs.Answers.{Answer, refused, given, Outcome}
 use Rattle.wire.specs.declared.Bytes.{Bytes}
 use Rattle.frame.specs.Session.{Stream, end, bodyIn, frameAt}
-use Rattle.message.specs.declared.Header.{Header}
-use Rattle.message.specs.Header.{headerOf}
-use Rattle.segments.specs.Walk.{SetSays, setOf}
-use Rattle.segments.specs.Cases.{frameWith, headerWith, starredCases as setCases, Case as SetCase}
+use Rattle.header.specs.declared.Header.{Header}
+use Rattle.header.specs.Header.{headerOf}
+use Rattle.set_spec.specs.Walk.{SetSays, setOf}
+use Rattle.set_spec.specs.Cases.{frameWith, headerWith, starredCases as setCases, Case as SetCase}
 use Rattle.writer.specs.Writing.{framesOf, writeOf}
 use Rattle.writer.specs.Cases.{request, sizesIn, writes, sizes, starredCases as writeCases, Case as WriteCase}
-use Rattle.description.specs.Refusal.{radialOf}
-use Rattle.description.specs.Cases.{numberOf, starredCases as radialCases, Case as RadialCase}
-use Rattle.gate.specs.Value.{Worth, valueOf}
-use Rattle.gate.specs.Cases.{starredCases as valueCases, Case as ValueCase}
-use Rattle.map.specs.Reading.{Summary, summaryOf, codeOf}
-use Rattle.map.specs.Cases.{asked, checked, starredCases as mapCases, Case as MapCase}
+use Rattle.radial_spec.specs.Refusal.{radialOf}
+use Rattle.radial_spec.specs.Cases.{numberOf, starredCases as radialCases, Case as RadialCase}
+use Rattle.gate_value.specs.Value.{Worth, valueOf}
+use Rattle.gate_value.specs.Cases.{starredCases as valueCases, Case as ValueCase}
+use Rattle.map_spec.specs.Reading.{Summary, summaryOf, codeOf}
+use Rattle.map_spec.specs.Cases.{asked, checked, starredCases as mapCases, Case as MapCase}
 
 pub data Case : Type 0 where
   stream : (buffer : List ℕ) (place : ℕ) (answer : Answer Stream) → Case

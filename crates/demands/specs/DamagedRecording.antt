@@ -6,15 +6,15 @@ use mathlib.Core.Path.{_≡_}
 use mathlib.Core.List.{List, flatten}
 use lib.ListN.{length, take}
 use Rattle.wire.specs.Writing.{filled}
-use Rattle.recording.specs.Walk.{Run}
-use Rattle.recording.specs.Salvage.{numbers, salvageOf}
-use Rattle.recording.specs.Account.{Piece, Account, keptIn, runsIn}
-use Rattle.recording.specs.Statements.{AllPass, longAll, leastFrame, Apart}
+use Rattle.salvage_spec.specs.Walk.{Run}
+use Rattle.salvage_spec.specs.Salvage.{numbers, salvageOf}
+use Rattle.salvage_spec.specs.Account.{Piece, Account, keptIn, runsIn}
+use Rattle.salvage_spec.specs.Theorems.{AllPass, longAll, leastFrame, Apart}
 use Rattle.salvage.specs.declared.SalvageAnswer.{SalvageAnswer}
 use Rattle.salvage.specs.declared.SalvageAnswer.the-variants.{Salvaged, Refused}
-use Rattle.salvage.specs.Answers.{Salvages}
-use Rattle.c_frames.specs.declared.UlmSalvage.{UlmSalvage}
-use Rattle.c_frames.specs.Frames.{LeavesBoth}
+use Rattle.salvage.specs.Told.{Salvages}
+use Rattle.c_salvage.specs.declared.UlmSalvage.{UlmSalvage}
+use Rattle.c_salvage.specs.Face.{LeavesBoth}
 use Rattle.demands.specs.Notions.{One}
 use Rattle.demands.specs.Face.{blankSalvage}
 

@@ -12,31 +12,30 @@ use Rattle.wire.specs.Numbers.{num}
 use Rattle.wire.specs.Tables.{render}
 use Rattle.wire.specs.Writing.{tellWrite}
 use Rattle.frame.specs.Session.{frameAt}
-use Rattle.frame.specs.Promises.{tellFrame}
-use Rattle.message.specs.Header.{headerChecks, headerOf}
-use Rattle.message.specs.Promises.{tellHeader}
-use Rattle.segments.specs.Walk.{setOf}
-use Rattle.sets.specs.Promises.{tellSet}
-use Rattle.recording.specs.Salvage.{salvageOf}
-use Rattle.salvage.specs.Answers.{Salvages}
+use Rattle.frame.specs.Told.{tellFrame}
+use Rattle.header.specs.Header.{headerChecks, headerOf}
+use Rattle.header.specs.Told.{tellHeader}
+use Rattle.set_spec.specs.Walk.{setOf}
+use Rattle.set.specs.Told.{tellSet}
+use Rattle.salvage_spec.specs.Salvage.{salvageOf}
+use Rattle.salvage.specs.Told.{Salvages}
 use Rattle.writer.specs.declared.Given.{Given}
 use Rattle.writer.specs.Writing.{framesOf, writeChecks, writeOf}
-use Rattle.description.specs.Refusal.{radialChecks, radialOf}
-use Rattle.description.specs.Lookups.{momentOf, blockOf}
+use Rattle.radial_spec.specs.Refusal.{radialChecks, radialOf}
+use Rattle.radial_spec.specs.Lookups.{momentOf, blockOf}
 use Rattle.radial.specs.declared.Radial.{Radial}
-use Rattle.radial.specs.Shown.{shown}
-use Rattle.lookup.specs.Told.{tellMoment, headShown, tellBlock, blockShown}
-use Rattle.gate.specs.Value.{valueChecks, valueOf, gateOf}
-use Rattle.gate.specs.Promises.{tellGate}
+use Rattle.radial.specs.Told.{shown, tellMoment, headShown, tellBlock, blockShown}
+use Rattle.gate_value.specs.Value.{valueChecks, valueOf, gateOf}
+use Rattle.gate_value.specs.Told.{tellGate}
 use Rattle.request.specs.Request.{requestTable, requestChecks, requestOf, requestWritten}
-use Rattle.request.specs.Promises.{tellRequest}
-use Rattle.clutter.specs.declared.Censor.{Censor}
-use Rattle.clutter.specs.Censor.{bodyOf, listChecks, bodyChecks, censorOf, censorWritten}
-use Rattle.clutter.specs.Promises.{shown as zonesShown}
-use Rattle.map.specs.Reading.{segmentsIn, mapChecks, askedChecks, summaryOf, codeOf}
-use Rattle.filter.specs.Answers.{tellMap, tellCode}
-use Rattle.differences.specs.Comparing.{comparisonOf}
-use Rattle.compare.specs.Answers.{tellCompare}
+use Rattle.request.specs.Told.{tellRequest}
+use Rattle.censor.specs.declared.Censor.{Censor}
+use Rattle.censor.specs.Censor.{bodyOf, listChecks, bodyChecks, censorOf, censorWritten}
+use Rattle.censor.specs.Told.{shown as zonesShown}
+use Rattle.map_spec.specs.Reading.{segmentsIn, mapChecks, askedChecks, summaryOf, codeOf}
+use Rattle.map.specs.Told.{tellMap, tellCode}
+use Rattle.compare_spec.specs.Comparing.{comparisonOf}
+use Rattle.compare.specs.Told.{tellCompare}
 use Rattle.demands.specs.Notions.{One, ByChecks, Kept, KeptLent, KeptBoth}
 use Rattle.demands.specs.Orders.{streamChecks, setChecks, momentChecks, gateChecks, writerChecks, comparisonChecks, salvageChecks}
 

@@ -8,13 +8,13 @@ use Rattle.wire.specs.Sizes.{bytes}
 use Rattle.wire.specs.Writing.{tellWrite, filled}
 use Rattle.wire.specs.declared.Bytes.{Bytes}
 use Rattle.wire.specs.declared.WriteAnswer.the-variants.{Written}
-use Rattle.segments.specs.Walk.{setOf}
-use Rattle.sets.specs.declared.SetAnswer.{SetAnswer}
-use Rattle.sets.specs.declared.SetAnswer.the-variants.{Set}
-use Rattle.sets.specs.Promises.{tellSet}
+use Rattle.set_spec.specs.Walk.{setOf}
+use Rattle.set.specs.declared.SetAnswer.{SetAnswer}
+use Rattle.set.specs.declared.SetAnswer.the-variants.{Set}
+use Rattle.set.specs.Told.{tellSet}
 use Rattle.writer.specs.declared.Given.{Given}
 use Rattle.writer.specs.Writing.{writeOf}
-use Rattle.replay.specs.RoundTrip.{Fits, headerBack}
+use Rattle.round_trip.specs.Theorems.{Fits, headerBack}
 
 -- what `write_message` accepted and wrote, given to `read_set` with room for the body, is answered with the header of what was given, N and
 -- number 1, and the length of the body; and the room holds the body and, after it, what it held. For every body and type.

@@ -8,19 +8,19 @@ use lib.ListN.{length, getD}
 use denote.Ref.{RefT, now}
 use Rattle.wire.specs.Numbers.{Octets}
 use Rattle.wire.specs.Answers.{given}
-use Rattle.description.specs.Description.{Description, Named}
-use Rattle.description.specs.Refusal.{radialOf}
-use Rattle.description.specs.Lookups.{momentOf, blockOf, gatesOf}
-use Rattle.description.specs.Demand3.{Exactly, Unique, NamedExactly}
+use Rattle.radial_spec.specs.Description.{Description, Named}
+use Rattle.radial_spec.specs.Refusal.{radialOf}
+use Rattle.radial_spec.specs.Lookups.{momentOf, blockOf, gatesOf}
+use Rattle.radial_spec.specs.Theorems.{Exactly, Unique, NamedExactly}
 use Rattle.radial.specs.declared.Radial.{Radial}
-use Rattle.radial.specs.Shown.{shown}
-use Rattle.radial.specs.Handed.{HandedExactly}
-use Rattle.lookup.specs.declared.MomentAnswer.{MomentAnswer}
-use Rattle.lookup.specs.declared.BlockAnswer.{BlockAnswer}
-use Rattle.lookup.specs.Told.{tellMoment, headShown, tellBlock, blockShown, partOf, LiesAt}
-use Rattle.gate.specs.declared.GateAnswer.{GateAnswer}
-use Rattle.gate.specs.Value.{gateOf}
-use Rattle.gate.specs.Promises.{tellGate}
+use Rattle.radial.specs.Told.{shown, tellMoment, headShown, tellBlock, blockShown}
+use Rattle.radial.specs.Theorems.{HandedExactly}
+use Rattle.radial.specs.declared.MomentAnswer.{MomentAnswer}
+use Rattle.radial.specs.declared.BlockAnswer.{BlockAnswer}
+use Rattle.radial_gates.specs.Told.{partOf, LiesAt}
+use Rattle.gate_value.specs.declared.GateAnswer.{GateAnswer}
+use Rattle.gate_value.specs.Value.{gateOf}
+use Rattle.gate_value.specs.Told.{tellGate}
 
 -- whatever meets an entry's promise for the one body and for the other is the same: reader, `moment`, `block`, `gates` and `gate_value`
 pub record SameFromEach (b b′ : List ℕ) : Type 0 where

@@ -7,36 +7,42 @@ use mathlib.Core.List.{List}
 use lib.ListN.{replicate}
 use Rattle.wire.specs.Answers.{Answer, refused, given, Outcome}
 use Rattle.frame.specs.Session.{frameAt}
-use Rattle.message.specs.Header.{headerOf}
-use Rattle.segments.specs.Walk.{setOf}
-use Rattle.recording.specs.Salvage.{salvageOf}
+use Rattle.header.specs.Header.{headerOf}
+use Rattle.set_spec.specs.Walk.{setOf}
+use Rattle.salvage_spec.specs.Salvage.{salvageOf}
 use Rattle.writer.specs.declared.Given.{Given}
 use Rattle.writer.specs.Writing.{writeOf}
-use Rattle.description.specs.Refusal.{radialOf}
-use Rattle.description.specs.Lookups.{momentOf, blockOf}
-use Rattle.gate.specs.Value.{float, valueOf, gateOf}
+use Rattle.radial_spec.specs.Refusal.{radialOf}
+use Rattle.radial_spec.specs.Lookups.{momentOf, blockOf}
+use Rattle.gate_value.specs.Value.{float, valueOf, gateOf}
 use Rattle.request.specs.Request.{requestOf, requestWritten}
-use Rattle.clutter.specs.Censor.{censorOf, censorWritten}
-use Rattle.map.specs.Reading.{summaryOf, codeOf}
-use Rattle.differences.specs.Comparing.{comparisonOf}
+use Rattle.censor.specs.Censor.{censorOf, censorWritten}
+use Rattle.map_spec.specs.Reading.{summaryOf, codeOf}
+use Rattle.compare_spec.specs.Comparing.{comparisonOf}
 use Rattle.c_lent.specs.declared.UlmWritten.{UlmWritten}
-use Rattle.c_lent.specs.Lent.{Leaves, writtenFace}
-use Rattle.c_frames.specs.declared.UlmFrame.{UlmFrame}
-use Rattle.c_frames.specs.declared.UlmHeader.{UlmHeader}
-use Rattle.c_frames.specs.declared.UlmSet.{UlmSet}
-use Rattle.c_frames.specs.declared.UlmSalvage.{UlmSalvage}
-use Rattle.c_frames.specs.Frames.{frameFace, headerFace, setFace, salvageFace, LeavesBoth}
-use Rattle.c_radials.specs.declared.UlmRadial.{UlmRadial}
-use Rattle.c_radials.specs.declared.UlmBlock.{UlmBlock}
-use Rattle.c_radials.specs.declared.UlmGates.{UlmGates}
-use Rattle.c_radials.specs.declared.UlmGate.{UlmGate}
-use Rattle.c_radials.specs.Radials.{radialFace, blockFace, gatesFace, worthFace}
-use Rattle.c_bodies.specs.declared.UlmRequest.{UlmRequest}
-use Rattle.c_bodies.specs.declared.UlmCensor.{UlmCensor}
-use Rattle.c_bodies.specs.declared.UlmMap.{UlmMap}
-use Rattle.c_bodies.specs.declared.UlmMapCode.{UlmMapCode}
-use Rattle.c_bodies.specs.declared.UlmComparison.{UlmComparison}
-use Rattle.c_bodies.specs.Bodies.{requestFace, censorFace, mapFace, mapCodeFace, comparisonFace}
+use Rattle.c_lent.specs.Face.{Leaves, writtenFace}
+use Rattle.c_frame.specs.declared.UlmFrame.{UlmFrame}
+use Rattle.c_frame.specs.declared.UlmHeader.{UlmHeader}
+use Rattle.c_set.specs.declared.UlmSet.{UlmSet}
+use Rattle.c_salvage.specs.declared.UlmSalvage.{UlmSalvage}
+use Rattle.c_frame.specs.Face.{frameFace, headerFace}
+use Rattle.c_set.specs.Face.{setFace}
+use Rattle.c_salvage.specs.Face.{salvageFace, LeavesBoth}
+use Rattle.c_radial.specs.declared.UlmRadial.{UlmRadial}
+use Rattle.c_radial.specs.declared.UlmBlock.{UlmBlock}
+use Rattle.c_gates.specs.declared.UlmGates.{UlmGates}
+use Rattle.c_gates.specs.declared.UlmGate.{UlmGate}
+use Rattle.c_radial.specs.Face.{radialFace, blockFace}
+use Rattle.c_gates.specs.Face.{gatesFace, worthFace}
+use Rattle.c_request.specs.declared.UlmRequest.{UlmRequest}
+use Rattle.c_censor.specs.declared.UlmCensor.{UlmCensor}
+use Rattle.c_map.specs.declared.UlmMap.{UlmMap}
+use Rattle.c_map.specs.declared.UlmMapCode.{UlmMapCode}
+use Rattle.c_compare.specs.declared.UlmComparison.{UlmComparison}
+use Rattle.c_request.specs.Face.{requestFace}
+use Rattle.c_censor.specs.Face.{censorFace}
+use Rattle.c_map.specs.Face.{mapFace, mapCodeFace}
+use Rattle.c_compare.specs.Face.{comparisonFace}
 use Rattle.demands.specs.Notions.{One, OfTheTable, KeptBoth}
 use Rattle.demands.specs.Orders.{salvageChecks}
 

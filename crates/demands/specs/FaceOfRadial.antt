@@ -6,12 +6,12 @@ use mathlib.Core.List.{List, [], _∷_}
 use lib.ListN.{drop}
 use Rattle.wire.specs.Numbers.{nums}
 use Rattle.wire.specs.Answers.{given}
-use Rattle.description.specs.Description.{constants, constantHead, momentHead, Block, Moment, Description}
-use Rattle.description.specs.Refusal.{radialOf}
-use Rattle.description.specs.Lookups.{blockOf}
-use Rattle.c_radials.specs.declared.UlmRadial.{UlmRadial}
-use Rattle.c_radials.specs.declared.UlmBlock.{UlmBlock}
-use Rattle.c_radials.specs.Radials.{radialFace, blockFace}
+use Rattle.radial_spec.specs.Description.{constants, constantHead, momentHead, Block, Moment, Description}
+use Rattle.radial_spec.specs.Refusal.{radialOf}
+use Rattle.radial_spec.specs.Lookups.{blockOf}
+use Rattle.c_radial.specs.declared.UlmRadial.{UlmRadial}
+use Rattle.c_radial.specs.declared.UlmBlock.{UlmBlock}
+use Rattle.c_radial.specs.Face.{radialFace, blockFace}
 
 -- a constant block: its bytes after name and length are the body's
 abbrev pub blockFromC : List ℕ → UlmBlock → Block

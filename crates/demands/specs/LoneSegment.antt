@@ -6,19 +6,20 @@ use lib.ListN.{length}
 use Rattle.wire.specs.Numbers.{num}
 use Rattle.wire.specs.Answers.{given, Promise}
 use Rattle.frame.specs.Session.{headSize}
-use Rattle.message.specs.declared.Header.{Header}
-use Rattle.message.specs.declared.HeaderAnswer.{HeaderAnswer}
-use Rattle.message.specs.Header.{headerOf}
-use Rattle.message.specs.Promises.{tellHeader}
-use Rattle.message.specs.Lone.{Lone, numberPlace, ButTwoBytes}
-use Rattle.segments.specs.Walk.{setOf}
-use Rattle.segments.specs.Theorems.{WholeFrames, LoneFrame}
-use Rattle.sets.specs.declared.SetAnswer.{SetAnswer}
-use Rattle.sets.specs.Promises.{tellSet}
-use Rattle.c_lent.specs.Lent.{Leaves}
-use Rattle.c_frames.specs.declared.UlmHeader.{UlmHeader}
-use Rattle.c_frames.specs.declared.UlmSet.{UlmSet}
-use Rattle.c_frames.specs.Frames.{headerFace, setFace}
+use Rattle.header.specs.declared.Header.{Header}
+use Rattle.header.specs.declared.HeaderAnswer.{HeaderAnswer}
+use Rattle.header.specs.Header.{headerOf}
+use Rattle.header.specs.Told.{tellHeader}
+use Rattle.header.specs.Theorems.{Lone, numberPlace, ButTwoBytes}
+use Rattle.set_spec.specs.Walk.{setOf}
+use Rattle.set_spec.specs.Theorems.{WholeFrames, LoneFrame}
+use Rattle.set.specs.declared.SetAnswer.{SetAnswer}
+use Rattle.set.specs.Told.{tellSet}
+use Rattle.c_lent.specs.Face.{Leaves}
+use Rattle.c_frame.specs.declared.UlmHeader.{UlmHeader}
+use Rattle.c_set.specs.declared.UlmSet.{UlmSet}
+use Rattle.c_frame.specs.Face.{headerFace}
+use Rattle.c_set.specs.Face.{setFace}
 
 -- whatever meets the promise of `read_header`, or of `ulm_header`, for the one message and for the other is the same
 pub record SameHeader (b b′ : List ℕ) : Type 0 where

@@ -4,7 +4,7 @@ use mathlib.Core.Path.{_≡_}
 use mathlib.Core.List.{List}
 use Rattle.wire.specs.Checks.{Check, AllHold, Blamed}
 use Rattle.wire.specs.Answers.{Answer, refused, given, Outcome, Promise}
-use Rattle.recording.specs.Salvage.{Salvage}
+use Rattle.salvage_spec.specs.Salvage.{Salvage}
 
 -- exactly one value has the property
 pub record One {R : Type 0} (P : R → Type 0) : Type 0 where

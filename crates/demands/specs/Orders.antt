@@ -7,17 +7,17 @@ use lib.ListN.{length, drop}
 use Rattle.wire.specs.Checks.{pick, Check, check}
 use Rattle.wire.specs.Answers.{Answer, refused, given}
 use Rattle.frame.specs.Session.{after, frameChecks}
-use Rattle.segments.specs.Segment.{Segment, segmentIn}
-use Rattle.segments.specs.Walk.{turnChecks, endChecks}
-use Rattle.recording.specs.Walk.{keptOf, skippedOf}
-use Rattle.recording.specs.Salvage.{numbers, roomChecks}
-use Rattle.description.specs.Description.{Moment, gates}
-use Rattle.description.specs.Refusal.{description, radialChecks}
-use Rattle.description.specs.Lookups.{momentNamed}
-use Rattle.gate.specs.Value.{valueChecks}
-use Rattle.map.specs.Reading.{mapChecks, mapIn}
-use Rattle.differences.specs.Differences.{differences}
-use Rattle.differences.specs.Comparing.{halfwords}
+use Rattle.set_spec.specs.Segment.{Segment, segmentIn}
+use Rattle.set_spec.specs.Walk.{turnChecks, endChecks}
+use Rattle.salvage_spec.specs.Walk.{keptOf, skippedOf}
+use Rattle.salvage_spec.specs.Salvage.{numbers, roomChecks}
+use Rattle.radial_spec.specs.Description.{Moment, gates}
+use Rattle.radial_spec.specs.Refusal.{description, radialChecks}
+use Rattle.radial_spec.specs.Lookups.{momentNamed}
+use Rattle.gate_value.specs.Value.{valueChecks}
+use Rattle.map_spec.specs.Reading.{mapChecks, mapIn}
+use Rattle.compare_spec.specs.Differences.{differences}
+use Rattle.compare_spec.specs.Comparing.{halfwords}
 
 -- a stream at a place: nothing is checked at its end
 abbrev pub streamChecks : List ℕ → ℕ → List Check

@@ -7,17 +7,17 @@ use lib.ListN.{length}
 use Rattle.wire.specs.Numbers.{Octets}
 use Rattle.wire.specs.Answers.{refused, given, Promise}
 use Rattle.wire.specs.Writing.{filled}
-use Rattle.map.specs.Map.{FilterMap}
-use Rattle.map.specs.Reading.{mapOf}
-use Rattle.differences.specs.Differences.{Difference, swapped}
-use Rattle.differences.specs.Compared.{Compared}
-use Rattle.differences.specs.Comparing.{halfwords, mostHalfwords, comparisonOf}
+use Rattle.map_spec.specs.Map.{FilterMap}
+use Rattle.map_spec.specs.Reading.{mapOf}
+use Rattle.compare_spec.specs.Differences.{Difference, swapped}
+use Rattle.compare_spec.specs.Compared.{Compared}
+use Rattle.compare_spec.specs.Comparing.{halfwords, mostHalfwords, comparisonOf}
 use Rattle.compare.specs.declared.CompareAnswer.{CompareAnswer}
 use Rattle.compare.specs.declared.CompareAnswer.the-variants.{Compared as Told, Refused}
-use Rattle.compare.specs.Answers.{tellCompare}
-use Rattle.c_lent.specs.Lent.{Leaves}
-use Rattle.c_bodies.specs.declared.UlmComparison.{UlmComparison}
-use Rattle.c_bodies.specs.Bodies.{comparisonFace}
+use Rattle.compare.specs.Told.{tellCompare}
+use Rattle.c_lent.specs.Face.{Leaves}
+use Rattle.c_compare.specs.declared.UlmComparison.{UlmComparison}
+use Rattle.c_compare.specs.Face.{comparisonFace}
 use Rattle.demands.specs.Notions.{One}
 use Rattle.demands.specs.Face.{blankComparison}
 

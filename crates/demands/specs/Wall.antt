@@ -10,14 +10,14 @@ use Rattle.wire.specs.Answers.{given}
 use Rattle.frame.specs.Session.{dataKind, frameAt}
 use Rattle.frame.specs.declared.Frame.{Frame}
 use Rattle.frame.specs.declared.FrameAnswer.the-variants.{Read}
-use Rattle.frame.specs.Promises.{tellFrame}
-use Rattle.message.specs.Header.{radialType, headerSize, headerOf}
-use Rattle.message.specs.declared.Header.{Header}
-use Rattle.message.specs.declared.HeaderAnswer.the-variants.{Read as ReadHeader}
-use Rattle.message.specs.Promises.{tellHeader}
-use Rattle.description.specs.Description.{Moment, gateBytes}
-use Rattle.description.specs.Lookups.{momentOf, Part, gatesOf}
-use Rattle.lookup.specs.Told.{partOf, LiesAt}
+use Rattle.frame.specs.Told.{tellFrame}
+use Rattle.header.specs.Header.{radialType, headerSize, headerOf}
+use Rattle.header.specs.declared.Header.{Header}
+use Rattle.header.specs.declared.HeaderAnswer.the-variants.{Read as ReadHeader}
+use Rattle.header.specs.Told.{tellHeader}
+use Rattle.radial_spec.specs.Description.{Moment, gateBytes}
+use Rattle.radial_spec.specs.Lookups.{momentOf, Part, gatesOf}
+use Rattle.radial_gates.specs.Told.{partOf, LiesAt}
 
 -- what a loader does with a lent buffer: it reads the frame at a place, takes its body, reads the header there, takes what follows the header, and
 -- asks for a moment's gates. Each is what the entry's promise says.

@@ -8,7 +8,7 @@ use Rattle.wire.proofs.AnswerLaws.{only-answer}
 use Rattle.frame.specs.declared.FrameAnswer.{FrameAnswer}
 use Rattle.frame.specs.declared.FrameAnswer.the-variants.{End, Read, Refused}
 use Rattle.frame.specs.Session.{Stream, end, frame, frameAt}
-use Rattle.frame.specs.Promises.{tellFrame}
+use Rattle.frame.specs.Told.{tellFrame}
 
 pub frame-apart : (a b : FrameAnswer) → tellFrame a ≡ tellFrame b → a ≡ b
 frame-apart End End e = refl
@@ -21,5 +21,5 @@ frame-apart (Refused n) End e = never (cc e)
 frame-apart (Refused n) (Read g) e = never (cc e)
 frame-apart (Refused n) (Refused m) e = cc e
 
-pub frame-only : (stream : List ℕ) (place : ℕ) (a b : FrameAnswer) → tellFrame a ≡ frameAt stream place → tellFrame b ≡ frameAt stream place → a ≡ b
-frame-only stream place = only-answer tellFrame frame-apart (frameAt stream place)
+pub frame-at-only : (stream : List ℕ) (place : ℕ) (a b : FrameAnswer) → tellFrame a ≡ frameAt stream place → tellFrame b ≡ frameAt stream place → a ≡ b
+frame-at-only stream place = only-answer tellFrame frame-apart (frameAt stream place)

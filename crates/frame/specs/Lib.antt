@@ -1,3 +1,3 @@
 -- The session frame of document 01.
 pub mod Session
-pub mod Promises
+pub mod Told

@@ -1,11 +1,5 @@
--- The proofs of specs/Statements.antt and of specs/Cases.antt.
-pub mod FieldLaws
-pub mod CheckFacts
-pub mod ZoneLaws
-pub mod Runs
-pub mod Accepted
-pub mod Rendered
-pub mod Coverage
-pub mod Theorems
-pub mod Places
-pub mod Cases
+-- What the functions' proofs cite.
+pub mod StepLaws
+pub mod BodyLaws
+pub mod QueryLaws
+pub mod OneAnswer

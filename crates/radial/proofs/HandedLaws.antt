@@ -11,149 +11,24 @@ use lib.Seq.{take-at}
 use borrow.Author.Tests.{ne-eqb}
 use Rattle.wire.specs.Numbers.{num, nums}
 use Rattle.wire.specs.Checks.{Check, first, pick}
-use Rattle.wire.specs.Answers.{Answer, refused, given}
+use Rattle.wire.specs.Answers.{Answer, refused, given, numberOf}
 use Rattle.wire.proofs.CheckLaws.{never}
 use Rattle.wire.proofs.AnswerLaws.{rule-given, rule-refused}
 use Rattle.wire.proofs.NumberLaws.{nums-length}
-use Rattle.description.specs.Description.{constants, constantHead, Description, blockCount}
-use Rattle.description.specs.Refusal.{sizeIn, countIn, pointer, part, blockSays, blockAt, momentAt, momentsAt, momentSays, nameIn, description, momentsChecks, radialChecks, endAt, radialOf}
-use Rattle.description.proofs.Accepted.{exactly}
+use Rattle.radial_spec.specs.Description.{constants, constantHead, Description, blockCount, mostMoments}
+use Rattle.radial_spec.specs.Refusal.{sizeIn, countIn, pointer, part, blockSays, blockAt, momentAt, momentsAt, momentSays, nameIn, description, momentsChecks, radialChecks, endAt, radialOf}
+use Rattle.radial_spec.proofs.Accepted.{exactly}
+use Rattle.radial_spec.proofs.Held.{refused-from, accepted-is}
 use Rattle.radial.specs.declared.MomentHead.{MomentHead}
 use Rattle.radial.specs.declared.Radial.{Radial}
-use Rattle.radial.specs.Shown.{headOf, spanOf, noHead, room, shown}
-use Rattle.radial.specs.Handed.{blockFrom, momentFrom, handed, Handed, HandedExactly}
+use Rattle.radial.specs.Told.{headOf, spanOf, noHead, shown}
+use Rattle.radial.specs.Theorems.{blockFrom, momentFrom, handed, Handed, HandedExactly}
 use Rattle.radial.proofs.HeadLaws.{map-length}
-use Rattle.radial.proofs.WholeLaws.{number}
 
--- ---- no refusal of a radial has a number below 14
-abbrev From : ℕ → List Check → Type 0
-From m [] = Unit {0}
-From m (k ∷ ks) = (m ≤ k .number) × From m ks
-
-first-from : (m n : ℕ) (ks : List Check) → From m ks → first ks ≡ some n → m ≤ n
-first-from m n [] h e = never (cc e)
-first-from m n (k ∷ ks) h e = go (k .broken) e (λ q. first-from m n ks (h .1) q)
-  where
-    go : (t : Bool) → pick t (some (k .number)) (first ks) ≡ some n → (first ks ≡ some n → m ≤ n) → m ≤ n
-    go true q later = let p : k .number ≡ n = cc q in rw (← p) (h .0)
-    go false q later = later q
-
-moments-from : (z : ℕ) (b : List ℕ) (from q : ℕ) (seen : List ℕ) (n : ℕ) → From 14 (momentsChecks z b from q seen n)
-moments-from z b from q seen zero = tt
-moments-from z b from q seen (suc n) = (
-  lit≤ tt,
-  (
-    lit≤ tt,
-    (
-      lit≤ tt,
-      (
-        lit≤ tt,
-        (
-          lit≤ tt,
-          (
-            lit≤ tt,
-            (
-              lit≤ tt,
-              moments-from z b (pointer b q + momentSays (part b q)) (q + 4) (seen ++ (nameIn (part b q) ∷ [])) n,
-            ),
-          ),
-        ),
-      ),
-    ),
-  ),
-)
-
-checks-from : (b : List ℕ) → From 14 (radialChecks b)
-checks-from b = (
-  lit≤ tt,
-  (
-    lit≤ tt,
-    (
-      lit≤ tt,
-      (
-        lit≤ tt,
-        (
-          lit≤ tt,
-          (
-            lit≤ tt,
-            (
-              lit≤ tt,
-              (
-                lit≤ tt,
-                (
-                  lit≤ tt,
-                  (
-                    lit≤ tt,
-                    (
-                      lit≤ tt,
-                      (
-                        lit≤ tt,
-                        (
-                          lit≤ tt,
-                          (
-                            lit≤ tt,
-                            (
-                              lit≤ tt,
-                              (
-                                lit≤ tt,
-                                (
-                                  lit≤ tt,
-                                  (
-                                    lit≤ tt,
-                                    (
-                                      lit≤ tt,
-                                      (
-                                        lit≤ tt,
-                                        (
-                                          lit≤ tt,
-                                          moments-from (sizeIn b) b (endAt b 40) 44 [] (countIn b - constants),
-                                        ),
-                                      ),
-                                    ),
-                                  ),
-                                ),
-                              ),
-                            ),
-                          ),
-                        ),
-                      ),
-                    ),
-                  ),
-                ),
-              ),
-            ),
-          ),
-        ),
-      ),
-    ),
-  ),
-)
-
-pub refused-from : (b : List ℕ) (n : ℕ) → radialOf b ≡ refused n → 14 ≤ n
-unfolding radialOf
-refused-from b n e = first-from 14 n (radialChecks b) (checks-from b) (rule-refused (radialChecks b) (description b) n e)
-
--- ---- so the number tells
--- what is accepted is what is read
-pub accepted-is : (b : List ℕ) (d : Description) → radialOf b ≡ given d → d ≡ description b
-unfolding radialOf
-accepted-is b d e = sym (rule-given (radialChecks b) (description b) d e .1)
-
-pub number-given : (b : List ℕ) (r : ℕ) → r ≡ number (radialOf b) → r ≡ 0 → radialOf b ≡ given (description b)
-number-given b r e z = go (radialOf b) refl
-  where
-    go : (a : Answer Description) → radialOf b ≡ a → radialOf b ≡ given (description b)
-    go (refused n) q =
-        let p : r ≡ n = e ∙ ap number q in
-        absurd (let h = refused-from b n q in omega arith)
-    go (given d) q = q ∙ ap given (accepted-is b d q)
-
-pub number-refused : (b : List ℕ) (r : ℕ) → r ≡ number (radialOf b) → (r ≡ 0 → ⊥) → radialOf b ≡ refused r
-number-refused b r e z = go (radialOf b) refl
-  where
-    go : (a : Answer Description) → radialOf b ≡ a → radialOf b ≡ refused r
-    go (refused n) q = q ∙ ap refused (sym (e ∙ ap number q))
-    go (given d) q = absurd (z (e ∙ ap number q))
+-- the struct's number is the answer's
+pub shown-number : (a : Answer Description) → shown a .refusal ≡ numberOf a
+shown-number (refused n) = refl
+shown-number (given d) = refl
 
 -- ---- what is handed
 block-from : (b : List ℕ) (p : ℕ) → blockFrom b (spanOf (blockAt p (drop p b))) ≡ blockAt p (drop p b)
@@ -189,7 +64,7 @@ pub heads-taken : (d : Description) → take (blockCount d - constants) (shown (
 heads-taken d =
     let e : blockCount d - constants ≡ length (d .moments) = omega arith in
     ap (λ (n : ℕ). take n (shown (given d) .moments)) e
-    ∙ take-at (map headOf (d .moments)) (replicate (room - length (d .moments)) noHead) (length (d .moments)) (map-length (d .moments))
+    ∙ take-at (map headOf (d .moments)) (replicate (mostMoments - length (d .moments)) noHead) (length (d .moments)) (map-length (d .moments))
 
 all-from : (b : List ℕ) → handed (shown (given (description b))) b ≡ given (description b)
 all-from b =

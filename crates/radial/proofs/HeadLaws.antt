@@ -1,4 +1,4 @@
--- What an accepted radial's pointers point at is in the body, and read there it is what the description says. Assumes nothing.
+-- What is read of an accepted radial is what the description says. Assumes nothing.
 use Prim.Native.Nat.{ℕ, zero, suc, _+_, _-_, _*_, _≤_, _<_}
 use native.Mathlib.Nat.{add-zero}
 use native.Mathlib.Omega.{arith}
@@ -14,73 +14,17 @@ use Rattle.wire.specs.Answers.{given}
 use Rattle.wire.proofs.CheckLaws.{all-hold}
 use Rattle.wire.proofs.AnswerLaws.{rule-given}
 use Rattle.wire.proofs.NumberLaws.{nums-length}
-use Rattle.description.specs.Description.{constants, Moment, Description}
-use Rattle.description.specs.Refusal.{sizeIn, countIn, pointer, part, nameIn, blockSays, momentSays, blockAt, momentAt, momentsAt, description, constantsChecks, momentsChecks, endAt, radialChecks, radialOf}
-use Rattle.description.proofs.Accepted.{moments-length}
+use Rattle.radial_spec.specs.Description.{constants, Moment, Description, mostMoments}
+use Rattle.radial_spec.specs.Refusal.{sizeIn, countIn, pointer, part, nameIn, blockSays, momentSays, blockAt, momentAt, momentsAt, description, constantsChecks, momentsChecks, endAt, radialChecks, radialOf}
+use Rattle.radial_spec.proofs.Accepted.{moments-length}
 use Rattle.radial.specs.declared.Header.{Header}
 use Rattle.radial.specs.declared.Heading.{Heading}
 use Rattle.radial.specs.declared.Span.{Span}
 use Rattle.radial.specs.declared.MomentHead.{MomentHead}
 use Rattle.radial.specs.declared.Radial.{Radial}
-use Rattle.radial.specs.Shown.{room, spanOf, headerOf, headOf, noHead, headsOf, shown}
-use Rattle.radial.specs.Places.{headAt, headingOf}
-use Rattle.radial.specs.Steps.{spanAt}
-use Rattle.radial.proofs.WholeLaws.{Started, start-holds}
-
--- ---- what the checks of an accepted radial leave known
--- the constant block that the pointer at q points at
-pub record BlockHeld (b : List ℕ) (q : ℕ) : Type 0 where
-  pub inside : pointer b q + 6 ≤ length b
-  pub says : 6 ≤ blockSays (part b q)
-
-pub record Held (b : List ℕ) : Type 0 where
-  pub start : Started b (sizeIn b) (countIn b)
-  pub volume : BlockHeld b 32
-  pub elevation : BlockHeld b 36
-  pub radial : BlockHeld b 40
-  pub moment : (i : ℕ) → i < countIn b - constants → (68 ≤ pointer b (44 + 4 * i)) × (pointer b (44 + 4 * i) + 28 ≤ length b)
-
-moment-held : (z : ℕ) (b : List ℕ) (from q : ℕ) (seen : List ℕ) (n i : ℕ) → AllHold (momentsChecks z b from q seen n) → i < n
-    → (from ≤ pointer b (q + 4 * i)) × (pointer b (q + 4 * i) + 28 ≤ z)
-moment-held z b from q seen zero i h l = absurd (omega arith)
-moment-held z b from q seen (suc n) zero h l =
-    rw (add-zero q) (ltb-false (pointer b q) from (h .0), ltb-false z (pointer b q + 28) (h .1 .0))
-moment-held z b from q seen (suc n) (suc i) h l =
-    let p = pointer b q in
-    let e : q + 4 + 4 * i ≡ q + 4 * suc i = omega arith in
-    let later = moment-held z b (p + momentSays (part b q)) (q + 4) (seen ++ (nameIn (part b q) ∷ [])) n i (h .1 .1 .1 .1 .1 .1 .1) (omega arith) in
-    let first = ltb-false p from (h .0) in
-    rw (← e) (omega (arith, later .0, first), later .1)
-
-pub held : (b : List ℕ) (d : Description) → radialOf b ≡ given d → Held b
-unfolding radialOf
-held b d e =
-    let h = all-hold (radialChecks b) (rule-given (radialChecks b) (description b) d e .0) in
-    let k = h .1 .1 .1 .1 .1 .1 in
-    let l = k .1 .1 .1 .1 .1 in
-    let m = l .1 .1 .1 .1 .1 in
-    let z = sizeIn b in
-    let s = start-holds b (constantsChecks b 68 (momentsChecks z b (endAt b 40) 44 [] (countIn b - constants))) h in
-    let v₁ = ltb-false z (pointer b 32 + 6) (k .1 .0) in
-    let v₂ = ltb-false z (pointer b 36 + 6) (l .1 .0) in
-    let v₃ = ltb-false z (pointer b 40 + 6) (m .1 .0) in
-    let w₁ = ltb-false (blockSays (part b 32)) 44 (k .1 .1 .1 .0) in
-    let w₂ = ltb-false (blockSays (part b 36)) 12 (l .1 .1 .1 .0) in
-    let w₃ = ltb-false (blockSays (part b 40)) 20 (m .1 .1 .1 .0) in
-    let f₁ = ltb-false (pointer b 32) 68 (k .0) in
-    let f₂ = ltb-false (pointer b 36) (endAt b 32) (l .0) in
-    let f₃ = ltb-false (pointer b 40) (endAt b 36) (m .0) in
-    record {
-      start = s;
-      volume = record { inside = omega (arith, v₁, s .inside); says = omega (arith, w₁) };
-      elevation = record { inside = omega (arith, v₂, s .inside); says = omega (arith, w₂) };
-      radial = record { inside = omega (arith, v₃, s .inside); says = omega (arith, w₃) };
-      moment = λ i n. let x = moment-held z b (endAt b 40) 44 [] (countIn b - constants) i (m .1 .1 .1 .1 .1) n in (omega (arith, x .0, f₁, f₂, f₃), omega (arith, x .1, s .inside));
-    }
-
--- ---- a head by its place
-pub head-is : (b : List ℕ) (p : ℕ) → p + 28 ≤ length b → headAt b p ≡ headOf (momentAt p (drop p b))
-head-is b p h = simp (le-ltb (length b) (p + 28) h)
+use Rattle.radial.specs.Told.{spanOf, headerOf, headOf, noHead, headsOf, shown, headingOf}
+use Rattle.radial.specs.Steps.{headAt, spanAt}
+use Rattle.radial_spec.proofs.Held.{BlockHeld, Held, held}
 
 -- ---- the heads in their places
 pub map-length : (ms : List Moment) → length (map headOf ms) ≡ length ms
@@ -102,10 +46,10 @@ moments-snoc b q (suc n) =
 -- the first i heads of n are in their places
 pub record Filling (b : List ℕ) (n : ℕ) (heads : List MomentHead) (i : ℕ) : Type 0 where
   pub below : i ≤ n
-  pub small : n ≤ room
-  pub filled : heads ≡ map headOf (momentsAt b 44 i) ++ replicate (room - i) noHead
+  pub small : n ≤ mostMoments
+  pub filled : heads ≡ map headOf (momentsAt b 44 i) ++ replicate (mostMoments - i) noHead
 
-pub fill-begins : (b : List ℕ) (n : ℕ) → n ≤ room → Filling b n (replicate room noHead) 0
+pub fill-begins : (b : List ℕ) (n : ℕ) → n ≤ mostMoments → Filling b n (replicate mostMoments noHead) 0
 fill-begins b n h = record { below = omega arith; small = h; filled = refl }
 
 module _ (b : List ℕ) (n : ℕ) (heads : List MomentHead) (i : ℕ) (g : Filling b n heads i) where
@@ -116,12 +60,12 @@ module _ (b : List ℕ) (n : ℕ) (heads : List MomentHead) (i : ℕ) (g : Filli
     filled =
         ap (λ (x : List MomentHead). set x i h) (g .filled)
         ∙ ap (λ (k : ℕ). set (map headOf (momentsAt b 44 i) ++ replicate k noHead) i h) one-left
-        ∙ set-at (map headOf (momentsAt b 44 i)) noHead (replicate (room - (i + 1)) noHead) h i (map-length (momentsAt b 44 i) ∙ moments-length b 44 i)
-        ∙ sym (append-assoc (map headOf (momentsAt b 44 i)) (h ∷ []) (replicate (room - (i + 1)) noHead))
-        ∙ ap (λ (x : List MomentHead). x ++ replicate (room - (i + 1)) noHead) snoc;
+        ∙ set-at (map headOf (momentsAt b 44 i)) noHead (replicate (mostMoments - (i + 1)) noHead) h i (map-length (momentsAt b 44 i) ∙ moments-length b 44 i)
+        ∙ sym (append-assoc (map headOf (momentsAt b 44 i)) (h ∷ []) (replicate (mostMoments - (i + 1)) noHead))
+        ∙ ap (λ (x : List MomentHead). x ++ replicate (mostMoments - (i + 1)) noHead) snoc;
   }
     where
-      one-left : room - i ≡ suc (room - (i + 1))
+      one-left : mostMoments - i ≡ suc (mostMoments - (i + 1))
       one-left = omega (arith, g .small)
 
       snoc : map headOf (momentsAt b 44 i) ++ (h ∷ []) ≡ map headOf (momentsAt b 44 (i + 1))
@@ -135,8 +79,8 @@ module _ (b : List ℕ) (n : ℕ) (heads : List MomentHead) (i : ℕ) (g : Filli
   fill-ends h =
       let e : i ≡ n = omega (arith, g .below) in
       g .filled
-      ∙ ap (λ (k : ℕ). map headOf (momentsAt b 44 k) ++ replicate (room - k) noHead) e
-      ∙ ap (λ (k : ℕ). map headOf (momentsAt b 44 n) ++ replicate (room - k) noHead) (sym (moments-length b 44 n))
+      ∙ ap (λ (k : ℕ). map headOf (momentsAt b 44 k) ++ replicate (mostMoments - k) noHead) e
+      ∙ ap (λ (k : ℕ). map headOf (momentsAt b 44 n) ++ replicate (mostMoments - k) noHead) (sym (moments-length b 44 n))
 
 -- ---- all that is read of an accepted radial
 -- a constant block's length is what it says, where that is no less than its head

@@ -1,10 +1,8 @@
--- The laws between the reader's code and the rule.
+-- The laws between what is read of an accepted body and the rule.
 pub mod StepLaws
-pub mod BitLaws
 pub mod PartLaws
-pub mod ChainLaws
-pub mod LoopLaws
-pub mod WholeLaws
 pub mod HeadLaws
 pub mod HandedLaws
+pub mod FindLaws
+pub mod BlockLaws
 pub mod OneAnswer

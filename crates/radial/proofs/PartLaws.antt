@@ -1,63 +1,21 @@
--- A block's checker is passed the block's first bytes, cut from the body. What it finds there is what the rule asks of the body.
--- Assumes nothing.
-use Prim.Native.Nat.{ℕ, _+_, _-_, _/_, _≤_, _<_}
+-- The header and the heads of blocks are cut from the body. What is read there is what the description says. Assumes nothing.
+use Prim.Native.Nat.{ℕ, _+_, _-_, _/_, _≤_}
 use mathlib.Core.Path.{_≡_, sym, ap, _∙_}
 use mathlib.Core.List.{List}
 use native.Mathlib.Nat.{add-zero}
 use native.Mathlib.Omega.{arith}
 use lib.Ieee.{binary32, ofBits}
-use lib.ListN.{length, take, drop, length-drop}
-use lib.Seq.{length-take-le}
-use borrow.Author.Tests.{lt-ltb, le-ltb}
+use lib.ListN.{length, take, drop}
 use Rattle.wire.specs.Numbers.{num, fetched}
-use Rattle.wire.specs.Answers.{refused}
-use Rattle.wire.proofs.NumberLaws.{fetched-whole, num-take, num-drop, nums-length}
-use Rattle.description.specs.Refusal.{pointer, part, blockSays, momentAt, description}
-use Rattle.radial.specs.Shown.{headerOf, headOf}
-use Rattle.radial.specs.Steps.{spanAt, headIn, constantIn, constantStep, momentIn, momentStep}
+use Rattle.wire.proofs.NumberLaws.{cut-is, num-take, num-drop, nums-length}
+use Rattle.radial_spec.specs.Refusal.{pointer, part, nameIn, blockSays, momentAt, description}
+use Rattle.radial_check.proofs.PartLaws.{there, there-num}
+use Rattle.radial.specs.Told.{headerOf, headOf}
+use Rattle.radial.specs.Steps.{spanAt, headIn}
 
--- the number in a cut part of the body
-pub num-cut : (w n : ℕ) (b : List ℕ) (p k : ℕ) → k + w ≤ n → num w (take n (drop p b)) k ≡ num w b (p + k)
-num-cut w n b p k h = num-take w n (drop p b) k h ∙ num-drop w b p k
-
-pub cut-is : (w n : ℕ) (b : List ℕ) (p k r : ℕ) → k + w ≤ n → p + n ≤ length b → r ≡ fetched w (take n (drop p b)) k → r ≡ num w b (p + k)
-cut-is w n b p k r h i e =
-    let long : length (take n (drop p b)) ≡ n = length-take-le n (drop p b) (rw length-drop (omega arith)) in
-    e ∙ fetched-whole w (take n (drop p b)) k (rw long h) ∙ num-cut w n b p k h
-
--- a pointer too early, or too near the end of the radial
-pub constant-early : (q z from p : ℕ) (l : List ℕ) (name least : ℕ) → p < from → refused 18 ≡ constantStep q z from p l name least
-constant-early q z from p l name least h = simp (lt-ltb p from h)
-
-pub constant-late : (q z from p : ℕ) (l : List ℕ) (name least : ℕ) → from ≤ p → z < p + 6 → refused 18 ≡ constantStep q z from p l name least
-constant-late q z from p l name least h k = simp (le-ltb p from h, lt-ltb z (p + 6) k)
-
-pub moment-early : (z from p : ℕ) (l : List ℕ) (seen : ℕ) → p < from → refused 18 ≡ momentStep z from p l seen
-moment-early z from p l seen h = simp (lt-ltb p from h)
-
-pub moment-late : (z from p : ℕ) (l : List ℕ) (seen : ℕ) → from ≤ p → z < p + 28 → refused 18 ≡ momentStep z from p l seen
-moment-late z from p l seen h k = simp (le-ltb p from h, lt-ltb z (p + 28) k)
-
--- the first n bytes of the block at p
-module _ (b : List ℕ) (p n : ℕ) where
-  abbrev there : List ℕ
-  there = take (p + n - p) (drop p b)
-
-  there-num : (w k : ℕ) → k + w ≤ n → num w there k ≡ num w (drop p b) k
-  there-num w k h = num-take w (p + n - p) (drop p b) k (omega arith)
-
-module _ (b : List ℕ) (z from p : ℕ) (after : from ≤ p) where
-  pub constant-there : (q name least : ℕ) → p + 6 ≤ z → constantIn z p (there b p 6) name least ≡ constantStep q z from p (drop p b) name least
-  constant-there q name least h =
-      simp (le-ltb p from after, le-ltb z (p + 6) h, there-num b p 6 4 0 (omega arith), there-num b p 6 2 4 (omega arith))
-
-  pub moment-there : (seen : ℕ) → p + 28 ≤ z → momentIn z p (there b p 28) seen ≡ momentStep z from p (drop p b) seen
-  moment-there seen h =
-      simp (le-ltb p from after, le-ltb z (p + 28) h, there-num b p 28 4 0 (omega arith), there-num b p 28 2 8 (omega arith), there-num b p 28 1 19 (omega arith))
-
--- a number that was fetched from the first 28 bytes of the block at p
-pub head-num : (w k : ℕ) (b : List ℕ) (p r : ℕ) → p + 28 ≤ length b → k + w ≤ 28 → r ≡ fetched w (there b p 28) k → r ≡ num w (drop p b) k
-head-num w k b p r h i e = cut-is w (p + 28 - p) b p k r (omega arith) (omega arith) e ∙ sym (num-drop w b p k)
+-- a block's name
+pub name-cut : (b : List ℕ) (p r : ℕ) → p + 4 ≤ length b → r ≡ fetched 4 (take (p + 4 - p) (drop p b)) 0 → r ≡ nameIn (drop p b)
+name-cut b p r h e = cut-is 4 (p + 4 - p) b p 0 r (omega arith) (omega arith) e ∙ sym (num-drop 4 b p 0)
 
 -- where a constant block lies
 pub span-cut : (b : List ℕ) (q p r : ℕ) → p ≡ pointer b q → pointer b q + 6 ≤ length b → r ≡ fetched 2 (take (p + 6 - (p + 4)) (drop (p + 4) b)) 0

@@ -1,5 +1,4 @@
--- What the reader hands back, that this is the description, and what its private functions promise each other.
-pub mod Shown
-pub mod Handed
-pub mod Places
+-- What the reader and the lookups hand back, that this is the description, and what the private functions promise each other.
+pub mod Told
+pub mod Theorems
 pub mod Steps

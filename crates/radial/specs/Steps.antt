@@ -1,68 +1,20 @@
--- What the private functions promise each other, in the rule's own checks. No public promise cites this file.
-use Prim.Native.Nat.{ℕ, _+_}
-use mathlib.Core.Bool.{Bool, not}
-use mathlib.Core.List.{List, [], _∷_}
-use lib.Bits.{bitAnd}
-use lib.Dec.{ltb, eqb}
+-- What the private functions promise each other. No public promise cites this file.
+use Prim.Native.Nat.{ℕ, zero, suc, _+_, _-_, _*_, _/_}
+use mathlib.Core.Option.{none, some}
+use mathlib.Core.List.{List}
+use lib.Dec.{eqb}
 use lib.Ieee.{binary32, ofBits}
+use lib.ListN.{drop}
 use Rattle.wire.specs.Numbers.{num}
-use Rattle.wire.specs.Checks.{Check, check, among, pick, decide}
-use Rattle.wire.specs.Answers.{Answer, refused, given, rule}
-use Rattle.description.specs.Description.{permitted, mostGates, wordSizes, momentHead}
-use Rattle.description.specs.Refusal.{sizeIn, countIn, pointer, part, nameIn, blockSays, momentSays, headerChecks, blockChecks, momentsChecks, endAt, constantsChecks}
+use Rattle.wire.specs.Checks.{pick}
+use Rattle.wire.specs.Answers.{Answer, refused, given}
+use Rattle.radial_spec.specs.Description.{constants, momentHead, Moment}
+use Rattle.radial_spec.specs.Refusal.{countIn, pointer, part, nameIn, blockSays, momentAt}
 use Rattle.radial.specs.declared.Span.{Span}
 use Rattle.radial.specs.declared.MomentHead.{MomentHead}
-use Rattle.radial.specs.declared.Start.{Start}
-use Rattle.radial.specs.declared.Start.the-variants.{Checked, Refused as NotStarted}
-use Rattle.radial.specs.declared.Found.{Found}
-use Rattle.radial.specs.declared.Found.the-variants.{Ends, Refused as NotFound}
-use Rattle.radial.specs.declared.Got.{Got}
-use Rattle.radial.specs.declared.Got.the-variants.{Moment, Refused as NotGot}
-
--- ---- each answer, told as the rule's
-abbrev pub tellStart : Start → Answer (ℕ × ℕ)
-tellStart (Checked size count) = given (size, count)
-tellStart (NotStarted n) = refused n
-
-abbrev pub tellFound : Found → Answer ℕ
-tellFound (Ends end) = given end
-tellFound (NotFound n) = refused n
-
-abbrev pub tellGot : Got → Answer (ℕ × ℕ)
-tellGot (Moment bit end) = given (bit, end)
-tellGot (NotGot n) = refused n
-
--- ---- names by their bits
-abbrev pub bitOf : ℕ → ℕ
-bitOf name =
-    pick (eqb name 0x44524546) 1
-    (pick (eqb name 0x4456454C) 2
-    (pick (eqb name 0x44535720) 4
-    (pick (eqb name 0x445A4452) 8
-    (pick (eqb name 0x44504849) 16
-    (pick (eqb name 0x4452484F) 32
-    0)))))
-
--- the bit of a name is one of those `seen`
-abbrev pub marked : ℕ → ℕ → Bool
-marked seen name = not (eqb (bitAnd seen (bitOf name)) 0)
-
--- ---- a block at p in a radial of z bytes, by its first bytes l
-abbrev pub constantPart : ℕ → ℕ → List ℕ → ℕ → ℕ → List Check
-constantPart z p l name least =
-    check 19 (not (eqb (nameIn l) name))
-    ∷ check 20 (ltb (blockSays l) least)
-    ∷ check 20 (ltb z (p + blockSays l))
-    ∷ []
-
-abbrev pub momentPart : ℕ → ℕ → List ℕ → ℕ → List Check
-momentPart z p l seen =
-    check 19 (not (among (nameIn l) permitted))
-    ∷ check 19 (marked seen (nameIn l))
-    ∷ check 20 (ltb mostGates (num 2 l 8))
-    ∷ check 20 (not (among (num 1 l 19) wordSizes))
-    ∷ check 20 (ltb z (p + momentSays l))
-    ∷ []
+use Rattle.radial.specs.declared.PlaceAnswer.{PlaceAnswer}
+use Rattle.radial.specs.declared.PlaceAnswer.the-variants.{At, Refused as NoPlace}
+use Rattle.radial.specs.Told.{Told, headOf}
 
 -- where a constant block lies, and a moment's head, as the bytes have them
 abbrev pub spanAt : List ℕ → ℕ → Span
@@ -86,32 +38,35 @@ headIn p l = record {
   «offset_bits» = num 4 l 24;
 }
 
--- ---- what each step of the reader answers: of a block, where it ends
-abbrev pub startOf : List ℕ → Answer (ℕ × ℕ)
-startOf b = rule (headerChecks b []) (sizeIn b, countIn b)
+-- the head of the moment that begins at p
+abbrev pub headAt : List ℕ → ℕ → MomentHead
+headAt b p = headOf (momentAt p (drop p b))
 
-abbrev pub constantIn : ℕ → ℕ → List ℕ → ℕ → ℕ → Answer ℕ
-constantIn z p l name least = rule (constantPart z p l name least) (p + blockSays l)
+-- ---- where a moment begins, by its name
+-- the first of the n pointers from byte q on that points at a name: the place that it says, or 0
+abbrev pub placeFrom : List ℕ → ℕ → ℕ → ℕ → ℕ
+placeFrom b name q zero = 0
+placeFrom b name q (suc n) = pick (eqb (nameIn (part b q)) name) (pointer b q) (placeFrom b name (q + 4) n)
 
-abbrev pub constantStep : ℕ → ℕ → ℕ → ℕ → List ℕ → ℕ → ℕ → Answer ℕ
-constantStep q z from p l name least = rule (blockChecks q z from p l name least []) (p + blockSays l)
+-- of an accepted radial's pointers to moments
+abbrev pub placeIn : List ℕ → ℕ → ℕ
+placeIn b name = placeFrom b name 44 (countIn b - constants)
 
-abbrev pub constantAt : List ℕ → ℕ → ℕ → ℕ → ℕ → ℕ → Answer ℕ
-constantAt b z from q name least = constantStep q z from (pointer b q) (part b q) name least
+abbrev pub tellPlace : PlaceAnswer → Answer ℕ
+tellPlace (At place) = given place
+tellPlace (NoPlace n) = refused n
 
-abbrev pub constantsOf : List ℕ → ℕ → Answer ℕ
-constantsOf b from = rule (constantsChecks b from []) (endAt b 40)
+abbrev pub placeShown : Answer Moment → Answer ℕ
+placeShown (refused n) = refused n
+placeShown (given m) = given (m .place)
 
-abbrev pub momentIn : ℕ → ℕ → List ℕ → ℕ → Answer (ℕ × ℕ)
-momentIn z p l seen = rule (momentPart z p l seen) (bitOf (nameIn l), p + momentSays l)
+-- by the number of the radial's refusal or 0, and the place for a name that its pointers give or 0
+abbrev pub placeAsked : ℕ → ℕ → Answer ℕ
+placeAsked number place = pick (eqb number 0) (pick (eqb place 0) (refused 21) (given place)) (refused number)
 
-abbrev pub momentStep : ℕ → ℕ → ℕ → List ℕ → ℕ → Answer (ℕ × ℕ)
-momentStep z from p l seen =
-    rule (check 18 (ltb p from) ∷ check 18 (ltb z (p + momentHead)) ∷ momentPart z p l seen) (bitOf (nameIn l), p + momentSays l)
+-- ---- a block by what was read of it
+abbrev pub constantTold : ℕ → Span → Told
+constantTold name s = record { name = name; place = s .place; size = s .length; head = none }
 
-abbrev pub momentNext : List ℕ → ℕ → ℕ → ℕ → ℕ → Answer (ℕ × ℕ)
-momentNext b z from q seen = momentStep z from (pointer b q) (part b q) seen
-
--- of all moments, the number of the first broken check, or 0
-abbrev pub momentsOf : List ℕ → ℕ → ℕ → ℕ → ℕ
-momentsOf b z from n = decide (momentsChecks z b from 44 [] n) (λ k. k) 0
+abbrev pub momentTold : MomentHead → Told
+momentTold h = record { name = h .name; place = h .place; size = momentHead + h .gates * (h .word / 8); head = some h }

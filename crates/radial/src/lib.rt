@@ -1,39 +1,23 @@
-// The reader of a radial: a body of message 31 is checked block by block, and what it says is handed back by value.
+// What an accepted body of message 31 says, handed back by value: its header, its blocks, and a moment by its name.
 ghost use mathlib.Core.Path.{_≡_};
 ghost use Prim.Native.Nat.{_+_, _-_, _^_, _<_, _≤_};
-ghost use lib.Dec.{eqb};
+ghost use mathlib.Core.Option.{some};
 ghost use lib.ListN.{length};
-ghost use Rattle.wire.specs.Numbers.{fetched};
-ghost use Rattle.wire.specs.Checks.{among};
+ghost use Rattle.wire.specs.Numbers.{num, fetched};
 ghost use Rattle.wire.specs.Answers.{refused, given};
-ghost use Rattle.description.specs.Description.{constants, wordSizes};
-ghost use Rattle.description.specs.Refusal.{nameIn, sizeIn, countIn, pointer, momentsAt, description, radialOf};
-ghost use Rattle.radial.specs.Shown.{room, headerOf, momentBytes, noHeader, noHead, headsOf, shown};
-ghost use Rattle.radial.specs.Places.{placeIn, headAt, headingOf};
-ghost use Rattle.radial.specs.Steps.{tellStart, tellFound, tellGot, bitOf, spanAt, headIn, startOf, constantIn, constantAt, constantsOf, momentIn, momentNext, momentsOf};
+ghost use Rattle.radial_spec.specs.Description.{constants, mostMoments, momentHead};
+ghost use Rattle.radial_spec.specs.Refusal.{countIn, pointer, momentsAt, description, radialOf};
+ghost use Rattle.radial_spec.specs.Lookups.{momentOf, blockOf};
+ghost use Rattle.radial.specs.Told.{headerOf, noHeader, noHead, headsOf, shown, headingOf, tellMoment, headShown, tellBlock, blockShown};
+ghost use Rattle.radial.specs.Steps.{spanAt, headIn, headAt, placeIn, tellPlace, placeShown, constantTold, momentTold};
+use radial_check::CONSTANTS;
+use radial_check::MOMENT_HEAD;
 use wire::refusal;
 
-// "The header takes bytes 0 to 67", and the first block begins there or later.
 const HEADER_SIZE: usize = 68;
-
-const FIRST_PLACE: usize = 68;
-
-// "The count is 4 to 9": the constant blocks, and at least one moment.
-const FEWEST_BLOCKS: u16 = 4;
-
-const MOST_BLOCKS: u16 = 9;
-
-pub const CONSTANTS: u16 = 3;
 
 // Room for as many moments as the count allows.
 pub const ROOM: usize = 6;
-
-const MOST_GATES: u16 = 1840;
-
-// Bytes before the rest of a constant block, and before a moment's gates.
-const CONSTANT_HEAD: usize = 6;
-
-pub const MOMENT_HEAD: usize = 28;
 
 // The header's values, as stored. Angles by their 32 bits.
 pub struct Header {
@@ -94,21 +78,32 @@ pub struct Heading {
     pub header: Header,
 }
 
-// The radial length and the block count.
-enum Start {
-    Checked(usize, usize),
+// The four bytes that a moment is asked for by.
+pub type Name = [u8; 4];
+
+// Where the moment asked for begins.
+enum PlaceAnswer {
+    At(u32),
     Refused(u8),
 }
 
-// Where a constant block ends.
-enum Found {
-    Ends(usize),
+pub enum MomentAnswer {
+    Moment(MomentHead),
     Refused(u8),
 }
 
-// The bit of a moment's name, and where the moment ends.
-enum Got {
-    Moment(u32, usize),
+// A block's name, place and length.
+pub struct Lying {
+    pub name: u32,
+    pub place: u32,
+    pub size: u32,
+}
+
+// That there is no such block is no refusal: no number covers it.
+pub enum BlockAnswer {
+    Constant(Lying),
+    Moment(Lying, MomentHead),
+    NoSuch,
     Refused(u8),
 }
 
@@ -229,66 +224,6 @@ fn head_of(part: &[u8], place: u32) -> MomentHead
     }
 }
 
-// Checks 14 to 17.
-fn begin(body: &[u8]) -> Start
-    ensures { λ r. ⌜ tellStart r ≡ startOf (now (body .entry)) ⌝ }
-{
-    if body.len() < HEADER_SIZE {
-        return Start::Refused(refusal::RADIAL_SHORT);
-    }
-    if wire::fetch8(body, 16) != 0 {
-        return Start::Refused(refusal::COMPRESSION);
-    }
-    let length = wire::fetch16(body, 18);
-    if (length as usize) < HEADER_SIZE {
-        return Start::Refused(refusal::RADIAL_LENGTH);
-    }
-    if body.len() < length as usize {
-        return Start::Refused(refusal::RADIAL_LENGTH);
-    }
-    let count = wire::fetch16(body, 30);
-    if count < FEWEST_BLOCKS {
-        return Start::Refused(refusal::BLOCK_COUNT);
-    }
-    if MOST_BLOCKS < count {
-        return Start::Refused(refusal::BLOCK_COUNT);
-    }
-    Start::Checked(length as usize, count as usize)
-}
-
-// The first four bytes of a block against a fixed four-byte string.
-fn named(part: &[u8], name: &[u8]) -> bool
-    ensures { λ r. ⌜ r ≡ eqb (fetched 4 (now (part .entry)) 0) (fetched 4 (now (name .entry)) 0) ⌝ }
-{
-    wire::fetch32(part, 0) == wire::fetch32(name, 0)
-}
-
-// A bit for each name that a moment may have, 0 for any other.
-fn bit_of(part: &[u8]) -> u32
-    requires { ⌜ 4 ≤ length (now part) ⌝ }
-    ensures { λ r. ⌜ r ≡ bitOf (nameIn (now (part .entry))) ⌝ }
-{
-    if named(part, b"DREF") {
-        return 1;
-    }
-    if named(part, b"DVEL") {
-        return 2;
-    }
-    if named(part, b"DSW ") {
-        return 4;
-    }
-    if named(part, b"DZDR") {
-        return 8;
-    }
-    if named(part, b"DPHI") {
-        return 16;
-    }
-    if named(part, b"DRHO") {
-        return 32;
-    }
-    0
-}
-
 // The place that the pointer at a byte of the header says.
 fn place_at(body: &[u8], at: usize) -> usize
     requires { ⌜ at + 4 ≤ length (now body) ⌝ }
@@ -298,154 +233,11 @@ fn place_at(body: &[u8], at: usize) -> usize
     wire::fetch32(&body[at..end], 0) as usize
 }
 
-// A constant block at a place of a radial of `size` bytes, by the block's first six.
-fn constant(head: &[u8], size: usize, place: usize, name: &[u8], least: u16) -> Found
-    requires { ⌜ (6 ≤ length (now head)) × (place < 2 ^ 32) ⌝ }
-    ensures { λ r. ⌜ tellFound r ≡ constantIn size place (now (head .entry)) (fetched 4 (now (name .entry)) 0) least ⌝ }
-{
-    if !named(head, name) {
-        return Found::Refused(refusal::NAME);
-    }
-    let length = wire::fetch16(head, 4);
-    if length < least {
-        return Found::Refused(refusal::BLOCK);
-    }
-    let end = place + length as usize;
-    if size < end {
-        return Found::Refused(refusal::BLOCK);
-    }
-    Found::Ends(end)
-}
-
-// A pointer too early, or too near the end of the radial, is 18. After any other the block's first bytes can be cut.
-fn constant_at(body: &[u8], size: usize, from: usize, at: usize, name: &[u8], least: u16) -> Found
-    requires { ⌜ (size ≤ length (now body)) × (at + 4 ≤ length (now body)) ⌝ }
-    ensures { λ r. ⌜ tellFound r ≡ constantAt (now (body .entry)) size from at (fetched 4 (now (name .entry)) 0) least ⌝ }
-{
-    let place = place_at(body, at);
-    if place < from {
-        return Found::Refused(refusal::POINTER);
-    }
-    let end = place + CONSTANT_HEAD;
-    if size < end {
-        return Found::Refused(refusal::POINTER);
-    }
-    constant(&body[place..end], size, place, name, least)
-}
-
-fn all_constants(body: &[u8], size: usize, first: usize) -> Found
-    requires { ⌜ (68 ≤ length (now body)) × (size ≤ length (now body)) × (size ≡ sizeIn (now body)) ⌝ }
-    ensures { λ r. ⌜ tellFound r ≡ constantsOf (now (body .entry)) first ⌝ }
-{
-    match constant_at(body, size, first, 32, b"RVOL", 44) {
-        Found::Refused(number) => Found::Refused(number),
-        Found::Ends(from) => match constant_at(body, size, from, 36, b"RELV", 12) {
-            Found::Refused(number) => Found::Refused(number),
-            Found::Ends(next) => constant_at(body, size, next, 40, b"RRAD", 20),
-        },
-    }
-}
-
-// "word size 19 (8 or 16 bits)"
-fn sized(word: u8) -> bool
-    ensures { λ r. ⌜ r ≡ among word wordSizes ⌝ }
-{
-    if word == 8 {
-        return true;
-    }
-    word == 16
-}
-
-// How many bytes a moment has: "Then the gates, one word each."
-pub fn moment_size(gates: u16, word: u8) -> u32
-    ensures { λ r. ⌜ r ≡ momentBytes gates word ⌝ }
-{
-    28 + gates as u32 * (word as u32 / 8)
-}
-
-// A moment at a place of a radial of `size` bytes, by the moment's first 28, after moments with the bits `seen`.
-fn moment_in(head: &[u8], size: usize, place: usize, seen: u32) -> Got
-    requires { ⌜ (28 ≤ length (now head)) × (place < 2 ^ 32) ⌝ }
-    ensures { λ r. ⌜ tellGot r ≡ momentIn size place (now (head .entry)) seen ⌝ }
-{
-    let bit = bit_of(head);
-    if bit == 0 {
-        return Got::Refused(refusal::NAME);
-    }
-    if seen & bit != 0 {
-        return Got::Refused(refusal::NAME);
-    }
-    let gates = wire::fetch16(head, 8);
-    if MOST_GATES < gates {
-        return Got::Refused(refusal::BLOCK);
-    }
-    let word = wire::fetch8(head, 19);
-    if !sized(word) {
-        return Got::Refused(refusal::BLOCK);
-    }
-    let end = place + moment_size(gates, word) as usize;
-    if size < end {
-        return Got::Refused(refusal::BLOCK);
-    }
-    Got::Moment(bit, end)
-}
-
-fn moment_at(body: &[u8], size: usize, from: usize, at: usize, seen: u32) -> Got
-    requires { ⌜ (size ≤ length (now body)) × (at + 4 ≤ length (now body)) ⌝ }
-    ensures { λ r. ⌜ tellGot r ≡ momentNext (now (body .entry)) size from at seen ⌝ }
-{
-    let place = place_at(body, at);
-    if place < from {
-        return Got::Refused(refusal::POINTER);
-    }
-    let end = place + MOMENT_HEAD;
-    if size < end {
-        return Got::Refused(refusal::POINTER);
-    }
-    moment_in(&body[place..end], size, place, seen)
-}
-
-// The moments in pointer order, each at or after the end of the block before: the number that refuses one, or 0.
-fn all_moments(body: &[u8], size: usize, first: usize, count: usize) -> u8
-    requires { ⌜ (68 ≤ length (now body)) × (size ≤ length (now body)) × (count ≤ room) ⌝ }
-    ensures { λ r. ⌜ r ≡ momentsOf (now (body .entry)) size first count ⌝ }
-{
-    let mut seen: u32 = 0;
-    let mut from = first;
-    let mut i = 0;
-    while i < count {
-        match moment_at(body, size, from, 44 + 4 * i, seen) {
-            Got::Refused(number) => {
-                return number;
-            }
-            Got::Moment(bit, end) => {
-                seen = seen | bit;
-                from = end;
-            }
-        }
-        i += 1;
-    }
-    0
-}
-
-// The radial's checks: 0, or the number that refuses the body. No byte of a gate is read.
-pub fn check_radial(body: &[u8]) -> u8
-    ensures { λ r. ⌜ r ≡ shown (radialOf (now (body .entry))) .refusal ⌝ }
-{
-    match begin(body) {
-        Start::Refused(number) => number,
-        Start::Checked(size, count) => match all_constants(body, size, FIRST_PLACE) {
-            Found::Refused(number) => number,
-            Found::Ends(end) => all_moments(body, size, end, count - CONSTANTS as usize),
-        },
-    }
-}
-
 // The header of an accepted radial, and its count of blocks.
 pub fn read_heading(body: &[u8]) -> Heading
     ensures { λ r. ⌜ r ≡ headingOf (shown (radialOf (now (body .entry)))) ⌝ }
 {
-    let number = check_radial(body);
+    let number = radial_check::check_radial(body);
     if number != 0 {
         let none = no_header();
         return Heading {
@@ -469,44 +261,37 @@ fn count_of(body: &[u8]) -> u16
     wire::fetch16(&body[30..32], 0)
 }
 
-// Where the first moment with a name begins, by the pointers alone; 0 where none has it, or more are counted than may be.
-pub fn moment_place(body: &[u8], name: u32) -> u32
+// Where the first moment with a name begins, by the pointers of an accepted radial; 0 where none has it.
+fn moment_place(body: &[u8], name: u32) -> u32
+    requires { ⌜ radialOf (now body) ≡ given (description (now body)) ⌝ }
     ensures { λ r. ⌜ r ≡ placeIn (now (body .entry)) name ⌝ }
 {
-    if body.len() < HEADER_SIZE {
-        return 0;
-    }
-    let count = count_of(body);
-    if MOST_BLOCKS < count {
-        return 0;
-    }
-    let end = count as usize;
+    let end = count_of(body) as usize;
     let mut k = CONSTANTS as usize;
     while k < end {
-        let place = place_at(body, 32 + 4 * k) as u32;
-        if wire::fetch32(body, place) == name {
-            return place;
+        let place = place_at(body, 32 + 4 * k);
+        let after = place + 4;
+        if wire::fetch32(&body[place..after], 0) == name {
+            return place as u32;
         }
         k += 1;
     }
     0
 }
 
-// The first 28 bytes of a moment at a place of the body; nothing where they are not all there.
-pub fn head_at(body: &[u8], place: u32) -> MomentHead
+// The head of the moment at a place of the body.
+fn head_at(body: &[u8], place: u32) -> MomentHead
+    requires { ⌜ place + momentHead ≤ length (now body) ⌝ }
     ensures { λ r. ⌜ r ≡ headAt (now (body .entry)) place ⌝ }
 {
     let begin = place as usize;
     let end = begin + MOMENT_HEAD;
-    if body.len() < end {
-        return no_head();
-    }
     head_of(&body[begin..end], place)
 }
 
 // The moments' heads of an accepted radial.
 fn all_heads(body: &[u8], count: usize) -> [MomentHead; ROOM]
-    requires { ⌜ (radialOf (now body) ≡ given (description (now body))) × (count ≡ countIn (now body) - constants) × (count ≤ room) ⌝ }
+    requires { ⌜ (radialOf (now body) ≡ given (description (now body))) × (count ≡ countIn (now body) - constants) × (count ≤ mostMoments) ⌝ }
     ensures { λ r. ⌜ r ≡ headsOf (momentsAt (now (body .entry)) 44 count) ⌝ }
 {
     let none = no_head();
@@ -557,4 +342,84 @@ pub fn read_radial(body: &[u8]) -> Radial
         radial: radial,
         moments: heads,
     }
+}
+
+// Where the moment with a name begins; "21 moment asked for doesn't exist".
+fn place(body: &[u8], name: u32) -> PlaceAnswer
+    ensures { λ r. ⌜ tellPlace r ≡ placeShown (momentOf (now (body .entry)) name) ⌝ }
+{
+    let number = radial_check::check_radial(body);
+    if number != 0 {
+        return PlaceAnswer::Refused(number);
+    }
+    let begin = moment_place(body, name);
+    if begin == 0 {
+        return PlaceAnswer::Refused(refusal::ASKED_FOR);
+    }
+    PlaceAnswer::At(begin)
+}
+
+// The head of the moment with a name.
+pub fn moment(body: &[u8], name: Name) -> MomentAnswer
+    ensures { λ r. ⌜ tellMoment r ≡ headShown (momentOf (now (body .entry)) (num 4 name 0)) ⌝ }
+{
+    let wanted = wire::fetch32(&name, 0);
+    match place(body, wanted) {
+        PlaceAnswer::Refused(number) => MomentAnswer::Refused(number),
+        PlaceAnswer::At(begin) => MomentAnswer::Moment(head_at(body, begin)),
+    }
+}
+
+// One of the three constant blocks of an accepted radial, by its pointer.
+fn constant(body: &[u8], name: &[u8], at: u32) -> BlockAnswer
+    requires { ⌜ (at + 4 ≤ length (now body)) × (pointer (now body) at + 6 ≤ length (now body)) ⌝ }
+    ensures { λ r. ⌜ tellBlock r ≡ given (some (constantTold (fetched 4 (now (name .entry)) 0) (spanAt (now (body .entry)) at))) ⌝ }
+{
+    let place = wire::fetch32(body, at);
+    let begin = place as usize + 4;
+    let end = place as usize + 6;
+    BlockAnswer::Constant(Lying {
+        name: wire::fetch32(name, 0),
+        place: place,
+        size: wire::fetch16(&body[begin..end], 0) as u32,
+    })
+}
+
+// Block k in pointer order, from 1.
+pub fn block(body: &[u8], k: u32) -> BlockAnswer
+    ensures { λ r. ⌜ tellBlock r ≡ blockShown (blockOf (now (body .entry)) k) ⌝ }
+{
+    let number = radial_check::check_radial(body);
+    if number != 0 {
+        return BlockAnswer::Refused(number);
+    }
+    let count = wire::fetch16(body, 30) as u32;
+    if count < k {
+        return BlockAnswer::NoSuch;
+    }
+    if k == 0 {
+        return BlockAnswer::NoSuch;
+    }
+    if k == 1 {
+        return constant(body, b"RVOL", 32);
+    }
+    if k == 2 {
+        return constant(body, b"RELV", 36);
+    }
+    if k == 3 {
+        return constant(body, b"RRAD", 40);
+    }
+    let place = wire::fetch32(body, 28 + 4 * k);
+    moment_block(head_at(body, place))
+}
+
+fn moment_block(head: MomentHead) -> BlockAnswer
+    ensures { λ r. ⌜ tellBlock r ≡ given (some (momentTold head)) ⌝ }
+{
+    let lying = Lying {
+        name: head.name,
+        place: head.place,
+        size: radial_check::moment_size(head.gates, head.word),
+    };
+    BlockAnswer::Moment(lying, head)
 }

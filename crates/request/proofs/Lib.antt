@@ -1,5 +1,5 @@
 -- The laws of message 9, its cases, and that each promise has one answer.
 pub mod StepLaws
-pub mod Trips
+pub mod Theorems
 pub mod CasesHold
 pub mod OneAnswer

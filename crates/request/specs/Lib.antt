@@ -1,5 +1,5 @@
 -- Message 9: its rule for a reader and a writer, what the answers tell, the laws between the two, and cases on either side of each limit.
 pub mod Request
-pub mod Promises
-pub mod Laws
+pub mod Told
+pub mod Theorems
 pub mod Cases

@@ -6,7 +6,7 @@ ghost use lib.ListN.{length, drop};
 ghost use Rattle.wire.specs.Answers.{Promise};
 ghost use Rattle.wire.specs.Writing.{tellWrite};
 ghost use Rattle.request.specs.Request.{isPermitted, requestOf, requestWritten};
-ghost use Rattle.request.specs.Promises.{tellRequest};
+ghost use Rattle.request.specs.Told.{tellRequest};
 use wire::Bytes;
 use wire::WriteAnswer;
 use wire::refusal;

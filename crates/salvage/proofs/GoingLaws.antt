@@ -9,14 +9,16 @@ use lib.Seq.{length-take-le}
 use lib.Dec.{eqb}
 use Rattle.wire.specs.Checks.{pick}
 use Rattle.wire.specs.Writing.{filled}
-use Rattle.recording.specs.Walk.{Step, kept, Run, run, stepsOf, framesOf, runsOf, keptOf, skippedOf}
-use Rattle.recording.specs.Salvage.{numbers}
-use Rattle.recording.proofs.RunLaws.{run-none}
-use Rattle.recording.proofs.InTurn.{numbers-length}
+use Rattle.salvage_spec.specs.Walk.{Step, kept, Run, run, stepsOf, framesOf, runsOf, keptOf, skippedOf}
+use Rattle.salvage_spec.specs.Salvage.{numbers}
+use Rattle.salvage_spec.proofs.RunLaws.{run-none}
+use Rattle.salvage_spec.proofs.InTurn.{numbers-length}
 use Rattle.salvage.specs.declared.Stretch.{Stretch}
-use Rattle.salvage.specs.Walks.{FoundFrom, StretchFrom, laid, Laid, LaidRun, WalkedOver}
+use Rattle.salvage_find.specs.Steps.{FoundFrom}
+use Rattle.salvage.specs.Steps.{StretchFrom, laid, Laid, LaidRun, WalkedOver}
 use Rattle.salvage.proofs.LayLaws.{laid-more}
-use Rattle.salvage.proofs.PlaceLaws.{flatten-append, numbers-append, frames-there, runs-there, steps-over, runs-closed, goes-forward}
+use Rattle.salvage.proofs.PlaceLaws.{flatten-append, numbers-append, runs-closed, goes-forward}
+use Rattle.salvage_find.proofs.PlaceLaws.{frames-there, runs-there, steps-over}
 
 -- one run at most
 run-most : (first next : ℕ) → length (run first next) ≤ 1

@@ -9,10 +9,10 @@ use lib.Seq.{drop-drop, drop-at, take-at, length-take-le}
 use Rattle.wire.specs.Writing.{filled, copied}
 use Rattle.wire.proofs.CopyLaws.{copied-same}
 use Rattle.wire.proofs.ListLaws.{two-stored}
-use Rattle.recording.specs.Walk.{Run, run}
-use Rattle.recording.specs.Salvage.{numbers}
-use Rattle.recording.proofs.RunLaws.{run-none, run-some}
-use Rattle.salvage.specs.Walks.{laid, LaidRun}
+use Rattle.salvage_spec.specs.Walk.{Run, run}
+use Rattle.salvage_spec.specs.Salvage.{numbers}
+use Rattle.salvage_spec.proofs.RunLaws.{run-none, run-some}
+use Rattle.salvage.specs.Steps.{laid, LaidRun}
 
 -- one piece after what was laid before it
 pub laid-more : (out₀ out before list : List ℕ) → out ≡ filled before out₀ → length before + length list ≤ length out₀

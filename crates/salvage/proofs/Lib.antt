@@ -1,5 +1,4 @@
 -- The laws that the proofs of `salvage`'s functions cite.
-pub mod MarkLaws
 pub mod LayLaws
 pub mod PlaceLaws
 pub mod GoingLaws

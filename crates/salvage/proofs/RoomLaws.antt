@@ -9,14 +9,14 @@ use lib.ListN.{length}
 use borrow.Author.Tests.{leb-true, leb-false, le-leb}
 use Rattle.wire.specs.Answers.{given}
 use Rattle.wire.proofs.CheckLaws.{never}
-use Rattle.recording.specs.Walk.{keptOf, skippedOf}
-use Rattle.recording.specs.Salvage.{Salvage, numbers, untouched, salvaged, salvageOf}
-use Rattle.recording.specs.Statements.{InTurn}
-use Rattle.recording.proofs.Theorems.{refused-in-order, most-runs, most-kept}
+use Rattle.salvage_spec.specs.Walk.{keptOf, skippedOf}
+use Rattle.salvage_spec.specs.Salvage.{Salvage, numbers, untouched, salvaged, salvageOf}
+use Rattle.salvage_spec.specs.Theorems.{InTurn}
+use Rattle.salvage_spec.proofs.Theorems.{refused-in-order, most-runs, most-kept}
 use Rattle.salvage.specs.declared.Totals.{Totals}
 use Rattle.salvage.specs.declared.SalvageAnswer.the-variants.{Salvaged, Refused}
-use Rattle.salvage.specs.Answers.{Salvages}
-use Rattle.salvage.specs.Walks.{WalkedOver, roomFor}
+use Rattle.salvage.specs.Told.{Salvages}
+use Rattle.salvage.specs.Steps.{WalkedOver, roomFor}
 
 both-of : (s t : Bool) → s && t ≡ true → (s ≡ true) × (t ≡ true)
 both-of true t e = (refl, e)

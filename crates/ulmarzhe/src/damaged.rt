@@ -130,7 +130,7 @@ fn stretch(s: Salvage, window: &[u8; WINDOW], sheet: &mut [u8; SHEET]) -> Salvag
     let w = s.walk;
     let r = w.reading;
     let stream = part(window, 0, r.fill);
-    let at = least(salvage::next_kept(stream, r.from), decided(r));
+    let at = least(salvage_find::next_kept(stream, r.from), decided(r));
     let f = frames_from(stream, at);
     let s = looking_at(s, at);
     if f.count == 0 {
@@ -165,7 +165,7 @@ fn frames_from(stream: &[u8], at: usize) -> Frames {
     let mut f = Frames { count: 0, end: at };
     let mut turns = WINDOW;
     while 0 < turns {
-        let long = salvage::whole_at(stream, f.end);
+        let long = salvage_find::whole_at(stream, f.end);
         if long == 0 {
             return f;
         }

@@ -13,8 +13,8 @@ use crate::recorded::Walk;
 use crate::recorded::paged;
 use crate::window::WINDOW;
 use frame::FrameAnswer;
-use gate::GateAnswer;
-use lookup::MomentAnswer;
+use gate_value::GateAnswer;
+use radial::MomentAnswer;
 use radial::MomentHead;
 
 // The recording is open, and stands at the frame's place.
@@ -66,14 +66,14 @@ fn in_message(
 
 fn in_radial(w: Walk, place: u64, name: [u8; 4], whole: &[u8], sheet: &mut [u8; SHEET]) -> Walk {
     let body = recorded::body_of(whole);
-    match lookup::moment(body, name) {
+    match radial::moment(body, name) {
         MomentAnswer::Refused(n) => paged(w, listing::refused(sheet, 0, place, whole, n)),
         MomentAnswer::Moment(m) => {
-            let n = refusal_of(gate::value(0, m.scale_bits, m.offset_bits));
+            let n = refusal_of(gate_value::value(0, m.scale_bits, m.offset_bits));
             if n != 0 {
                 return paged(w, listing::refused(sheet, 0, place, whole, n));
             }
-            lines(w, m, lookup::gates(body, name), sheet)
+            lines(w, m, radial_gates::gates(body, name), sheet)
         }
     }
 }
@@ -103,7 +103,7 @@ fn one(w: Walk, m: MomentHead, i: u16, metres: u64, code: u16, sheet: &mut [u8; 
     let values = [wide16(i), metres / 1000, metres % 1000, wide16(code)];
     let w = recorded::emptied(w, PAGE / 2, sheet);
     let next = page::filled(sheet, w.page, b"<  <.& km  <  ", &values);
-    let worth = gate::value(code, m.scale_bits, m.offset_bits);
+    let worth = gate_value::value(code, m.scale_bits, m.offset_bits);
     paged(w, value(sheet, next, worth))
 }
 

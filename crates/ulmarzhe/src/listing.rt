@@ -11,12 +11,12 @@ use crate::recorded::Carried;
 use crate::why;
 use crate::words;
 use frame::DATA;
-use message::Header;
-use message::HeaderAnswer;
-use radial::CONSTANTS;
+use header::Header;
+use header::HeaderAnswer;
 use radial::MomentHead;
 use radial::ROOM;
 use radial::Radial;
+use radial_check::CONSTANTS;
 
 // The beginning of a line: a place of the recording, and words with a number among them.
 fn begun(sheet: &mut [u8; SHEET], at: usize, place: u64, words: &[u8], n: u64) -> usize {
@@ -45,7 +45,7 @@ pub fn of_frame(sheet: &mut [u8; SHEET], at: usize, place: u64, kind: u32, whole
     if kind != DATA {
         return begun(sheet, at, place, words::pick(kinds, kind as usize), size);
     }
-    match message::read_header(whole) {
+    match header::read_header(whole) {
         HeaderAnswer::Refused(n) => refused(sheet, at, place, whole, n),
         HeaderAnswer::Read(h) => {
             let next = begun(sheet, at, place, b"data, # bytes, ", size);
@@ -64,7 +64,7 @@ fn of_header(sheet: &mut [u8; SHEET], at: usize, h: Header) -> usize {
 
 // A radial's date and time are not checked: those that no clock shows are shown as stored.
 fn stamp(sheet: &mut [u8; SHEET], at: usize, date: u16, milliseconds: u32) -> usize {
-    if message::breaks_time(date, milliseconds) {
+    if header::breaks_time(date, milliseconds) {
         let stored = [wide16(date), wide32(milliseconds)];
         return page::filled(sheet, at, b"day # and # ms", &stored);
     }

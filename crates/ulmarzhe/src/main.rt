@@ -25,8 +25,8 @@ mod words;
 mod writers;
 
 use damaged::Salvage;
-use filter::CodeAnswer;
 use lists::LIST;
+use map::CodeAnswer;
 use page::SHEET;
 use recorded::ROWS;
 use recorded::SURVEY;
@@ -361,7 +361,7 @@ fn mapped(
     azimuth: usize,
     kilometre: usize,
 ) -> CodeAnswer {
-    filter::code_at(part::part(window, 0, fill), elevation, azimuth, kilometre)
+    map::code_at(part::part(window, 0, fill), elevation, azimuth, kilometre)
 }
 
 fn run_compare() {

@@ -11,8 +11,8 @@ use crate::recorded::Walk;
 use crate::why;
 use crate::words;
 use compare::CompareAnswer;
-use filter::CodeAnswer;
-use filter::MapAnswer;
+use map::CodeAnswer;
+use map::MapAnswer;
 
 // A byte more than the longest map has: a file that is cut off here is refused as the whole would be.
 pub const LONG: usize = 147607;
@@ -79,7 +79,7 @@ pub fn compared(
 
 // The first map is refused first.
 fn refused(sheet: &mut [u8; SHEET], old: &[u8], n: u8) -> usize {
-    let at = match filter::check_map(old) {
+    let at = match map::check_map(old) {
         MapAnswer::Refused(_) => page::text(sheet, 0, b"old map, "),
         MapAnswer::Map(_, _, _) => page::text(sheet, 0, b"new map, "),
     };

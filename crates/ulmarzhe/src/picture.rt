@@ -3,7 +3,7 @@ use crate::page;
 use crate::page::SHEET;
 use crate::part::wide16;
 use crate::recorded::Carried;
-use lookup::MomentAnswer;
+use radial::MomentAnswer;
 
 // How many rows a picture has, how many gates the longest, and whether a code takes two bytes.
 pub struct Picture {
@@ -34,7 +34,7 @@ fn moment_in(c: Carried, body: &[u8], name: [u8; 4]) -> Shown {
         word: 0,
     };
     match c {
-        Carried::Radial => match lookup::moment(body, name) {
+        Carried::Radial => match radial::moment(body, name) {
             MomentAnswer::Refused(_) => none,
             MomentAnswer::Moment(m) => Shown {
                 there: true,
@@ -85,7 +85,7 @@ pub fn row(
     if !s.there {
         return at;
     }
-    codes(p, lookup::gates(body, name), s.word, sheet, at)
+    codes(p, radial_gates::gates(body, name), s.word, sheet, at)
 }
 
 // Gates past the last are 0.

@@ -5,15 +5,15 @@ use crate::part::wide32;
 use crate::real;
 use crate::told;
 use crate::told::Told;
-use filter::CodeAnswer;
-use filter::MapAnswer;
 use frame::Frame;
 use frame::FrameAnswer;
-use gate::GateAnswer;
-use lookup::BlockAnswer;
-use lookup::Lying;
-use message::Header;
-use message::HeaderAnswer;
+use gate_value::GateAnswer;
+use header::Header;
+use header::HeaderAnswer;
+use map::CodeAnswer;
+use map::MapAnswer;
+use radial::BlockAnswer;
+use radial::Lying;
 use radial::MomentHead;
 use request::RequestAnswer;
 
@@ -47,7 +47,7 @@ fn frame_told(f: Frame) -> Told {
 }
 
 pub fn of_header(message: &[u8]) -> Told {
-    match message::read_header(message) {
+    match header::read_header(message) {
         HeaderAnswer::Refused(n) => told::refused(n),
         HeaderAnswer::Read(h) => header_told(told::HEADER, h, 0),
     }
@@ -109,7 +109,7 @@ fn radial_told(h: radial::Header, count: u16) -> Told {
 
 // A block of a radial, counted from 1.
 pub fn of_block(body: &[u8], k: u32) -> Told {
-    match lookup::block(body, k) {
+    match radial::block(body, k) {
         BlockAnswer::Constant(l) => told::three(
             told::CONSTANT,
             l.place as u64,
@@ -143,7 +143,7 @@ fn moment_told(l: Lying, m: MomentHead) -> Told {
 }
 
 pub fn of_gate(body: &[u8], name: [u8; 4], gate: usize) -> Told {
-    match gate::gate_value(body, name, gate) {
+    match gate_value::gate_value(body, name, gate) {
         GateAnswer::BelowThreshold => told::one(told::BELOW, 0),
         GateAnswer::RangeFolded => told::one(told::FOLDED, 0),
         GateAnswer::Refused(n) => told::refused(n),
@@ -159,7 +159,7 @@ pub fn of_request(body: &[u8]) -> Told {
 }
 
 pub fn of_map(body: &[u8]) -> Told {
-    match filter::check_map(body) {
+    match map::check_map(body) {
         MapAnswer::Refused(n) => told::refused(n),
         MapAnswer::Map(date, minutes, elevations) => {
             told::three(told::MAP, date as u64, minutes as u64, elevations as u64)
@@ -168,7 +168,7 @@ pub fn of_map(body: &[u8]) -> Told {
 }
 
 pub fn of_map_code(body: &[u8], elevation: usize, azimuth: usize, kilometre: usize) -> Told {
-    match filter::code_at(body, elevation, azimuth, kilometre) {
+    match map::code_at(body, elevation, azimuth, kilometre) {
         CodeAnswer::Refused(n) => told::refused(n),
         CodeAnswer::Code(code) => told::one(told::CODE, code as u64),
     }

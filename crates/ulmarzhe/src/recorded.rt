@@ -11,7 +11,7 @@ use crate::window::Reading;
 use crate::window::WINDOW;
 use frame::DATA;
 use frame::FrameAnswer;
-use message::HeaderAnswer;
+use header::HeaderAnswer;
 use wire::refusal;
 
 // What is done with each frame.
@@ -165,7 +165,7 @@ pub fn carried_by(kind: u32, whole: &[u8]) -> Carried {
     if kind != DATA {
         return Carried::Other;
     }
-    match message::read_header(whole) {
+    match header::read_header(whole) {
         HeaderAnswer::Refused(n) => Carried::Refused(n),
         HeaderAnswer::Read(h) => {
             if h.kind == RADIAL {

@@ -13,8 +13,8 @@ use crate::readers;
 use crate::told;
 use crate::told::Told;
 use compare::CompareAnswer;
-use lookup::MomentAnswer;
-use sets::SetAnswer;
+use radial::MomentAnswer;
+use set::SetAnswer;
 use wire::WriteAnswer;
 use writer::Given;
 
@@ -102,7 +102,7 @@ pub fn kept(sheet: &[u8; SHEET], length: usize, end: usize) -> bool {
 }
 
 fn of_set(frames: &[u8], room: &mut [u8]) -> Told {
-    match sets::read_set(frames, room) {
+    match set::read_set(frames, room) {
         SetAnswer::Refused(n) => told::refused(n),
         SetAnswer::Set(h, size) => readers::header_told(told::SET, h, size.0 as usize),
     }
@@ -130,7 +130,7 @@ fn by_list(entry: usize, list: &[u16; LIST], count: usize, room: &mut [u8]) -> T
     if entry == entries::WRITE_REQUEST {
         return wrote(request::write_request(numbers, room));
     }
-    wrote(clutter::write_censor(numbers, room))
+    wrote(censor::write_censor(numbers, room))
 }
 
 // The comparison of two maps, its differences put into the room.
@@ -176,7 +176,7 @@ fn maps_told(answer: CompareAnswer) -> Told {
 
 // The regions of message 8, all places, put into the room.
 pub fn of_censor(body: &[u8], sheet: &mut [u8; SHEET]) -> Told {
-    let c = clutter::read_censor(body);
+    let c = censor::read_censor(body);
     if c.number != 0 {
         return told::refused(c.number);
     }
@@ -187,8 +187,8 @@ pub fn of_censor(body: &[u8], sheet: &mut [u8; SHEET]) -> Told {
 
 // A moment's gates, put into the room.
 pub fn of_gates(body: &[u8], name: [u8; 4], sheet: &mut [u8; SHEET]) -> Told {
-    let length = copied(lookup::gates(body, name), sheet);
-    match lookup::moment(body, name) {
+    let length = copied(radial_gates::gates(body, name), sheet);
+    match radial::moment(body, name) {
         MomentAnswer::Refused(n) => told::refused(n),
         MomentAnswer::Moment(_) => told::followed(told::GATES, 0, length),
     }

@@ -5,7 +5,7 @@ use native.Mathlib.Omega.{arith}
 use mathlib.Core.Path.{_≡_, refl, sym, ap, _∙_}
 use mathlib.Core.List.{List, [], _∷_, _++_, append-assoc}
 use lib.ListN.{length, getD, take, drop, length-append, length-drop, List·getD-append}
-use lib.Seq.{getD-drop, getD-take, getD-at, take-suc}
+use lib.Seq.{getD-drop, getD-take, getD-at, take-suc, length-take-le}
 use borrow.Author.Tests.{le-leb, lt-leb}
 use Rattle.wire.specs.Numbers.{num, fetched, nums, be, Octets}
 
@@ -46,6 +46,15 @@ num-drop w b q p = num-same w (drop q b) b p (q + p) (λ i h. getD-drop q b (p +
 
 pub num-take : (w n : ℕ) (b : List ℕ) (p : ℕ) → p + w ≤ n → num w (take n b) p ≡ num w b p
 num-take w n b p h = num-same w (take n b) b p p (λ i k. getD-take n b (p + i) 0 (omega arith))
+
+-- the number in a part that was cut out of b, and a fetch from there
+pub num-cut : (w n : ℕ) (b : List ℕ) (p k : ℕ) → k + w ≤ n → num w (take n (drop p b)) k ≡ num w b (p + k)
+num-cut w n b p k h = num-take w n (drop p b) k h ∙ num-drop w b p k
+
+pub cut-is : (w n : ℕ) (b : List ℕ) (p k r : ℕ) → k + w ≤ n → p + n ≤ length b → r ≡ fetched w (take n (drop p b)) k → r ≡ num w b (p + k)
+cut-is w n b p k r h i e =
+    let long : length (take n (drop p b)) ≡ n = length-take-le n (drop p b) (rw length-drop (omega arith)) in
+    e ∙ fetched-whole w (take n (drop p b)) k (rw long h) ∙ num-cut w n b p k h
 
 pub num-append : (w : ℕ) (b t : List ℕ) (p : ℕ) → p + w ≤ length b → num w (b ++ t) p ≡ num w b p
 num-append w b t p h = num-same w (b ++ t) b p p (λ i k. List·getD-append b t 0 (p + i) (omega arith))

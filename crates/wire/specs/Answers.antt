@@ -9,6 +9,11 @@ pub data Answer (A : Type 0) : Type 0 where
   refused : ℕ → Answer A
   given : A → Answer A
 
+-- the number of a refusal; 0 where there is none
+abbrev pub numberOf : {A : Type 0} → Answer A → ℕ
+numberOf (refused n) = n
+numberOf (given v) = 0
+
 -- the answer by a list of checks: the first broken one's number, or v
 abbrev pub rule : {A : Type 0} → List Check → A → Answer A
 rule ks v = decide ks refused (given v)

@@ -4,4 +4,4 @@ pub mod FrameLaws
 pub mod LoopLaws
 pub mod EntryLaws
 pub mod OneAnswer
-pub mod CaseTable
+pub mod CasesHold

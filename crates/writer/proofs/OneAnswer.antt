@@ -10,6 +10,6 @@ use Rattle.wire.proofs.WriteLaws.{write-apart}
 use Rattle.writer.specs.declared.Given.{Given}
 use Rattle.writer.specs.Writing.{writeOf}
 
-pub write-only : (given : Given) (body out : List ℕ) (r₁ r₂ : WriteAnswer) (a₁ a₂ : List ℕ)
+pub write-message-only : (given : Given) (body out : List ℕ) (r₁ r₂ : WriteAnswer) (a₁ a₂ : List ℕ)
     → Promise tellWrite (writeOf given body out) r₁ a₁ → Promise tellWrite (writeOf given body out) r₂ a₂ → (r₁ ≡ r₂) × (a₁ ≡ a₂)
-write-only given body out = only tellWrite write-apart (writeOf given body out)
+write-message-only given body out = only tellWrite write-apart (writeOf given body out)

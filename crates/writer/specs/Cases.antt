@@ -10,7 +10,7 @@ use Rattle.wire.specs.Answers.{given, Outcome}
 use Rattle.wire.specs.Sizes.{bytes}
 use Rattle.wire.specs.declared.Bytes.{Bytes}
 use Rattle.frame.specs.Session.{bodyIn, after}
-use Rattle.message.specs.Header.{headerIn}
+use Rattle.header.specs.Header.{headerIn}
 use Rattle.writer.specs.declared.Given.{Given}
 use Rattle.writer.specs.Writing.{framesOf, writeOf}
 

@@ -10,8 +10,8 @@ use Rattle.wire.specs.Writing.{written}
 use Rattle.wire.specs.Sizes.{bytes, halved, odd}
 use Rattle.wire.specs.declared.Bytes.{Bytes}
 use Rattle.frame.specs.Session.{headTable, dataKind, sessionLimit}
-use Rattle.message.specs.Header.{headerTable, headerSize, notPermitted, radialType, timeChecks}
-use Rattle.message.specs.declared.Header.{Header}
+use Rattle.header.specs.Header.{headerTable, headerSize, notPermitted, radialType, timeChecks}
+use Rattle.header.specs.declared.Header.{Header}
 use Rattle.writer.specs.declared.Given.{Given}
 
 -- "a body is cut into data of 2,400 bytes each, the last one shorter or full. An empty body makes one segment."

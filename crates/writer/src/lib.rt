@@ -38,10 +38,10 @@ const RADIAL: u8 = 31;
 pub fn write_message(given: Given, body: &[u8], out: &mut [u8]) -> WriteAnswer
     ensures { λ r. ⌜ Promise tellWrite (writeOf given (now (body .entry)) (now (out .entry))) r (now (out .exit)) ⌝ }
 {
-    if message::breaks_type(given.kind) {
+    if header::breaks_type(given.kind) {
         return WriteAnswer::Refused(refusal::TYPE);
     }
-    if message::breaks_time(given.date, given.milliseconds) {
+    if header::breaks_time(given.date, given.milliseconds) {
         return WriteAnswer::Refused(refusal::DATE_OR_TIME);
     }
     if body.len() % 2 != 0 {

@@ -4,27 +4,21 @@ use Rattle.c_lent.proofs.written_face.Tie as tie
 use Rattle.c_lent.proofs.written_face.Reads as reads
 use Rattle.c_lent.proofs.written_face.Lts as lts
 
--- src/lib.rt:525:30
 enum-known-answer : tie.Need-enum-known-answer
 enum-known-answer c = search needs
 
--- src/lib.rt:527:21
 cast-t5 : tie.Need-cast-t5
 cast-t5 c = search needs
 
--- src/lib.rt:529:30
 enum-known-answer-2 : tie.Need-enum-known-answer-2
 enum-known-answer-2 c = search needs
 
--- src/lib.rt:530:22
 cast-t6 : tie.Need-cast-t6
 cast-t6 c = search needs
 
--- src/lib.rt:521:1
 returns : tie.Need-returns
 returns c = simp (c .before .before .answer .given .1)
 
--- src/lib.rt:521:1
 returns-2 : tie.Need-returns-2
 returns-2 c = simp (c .before .answer2 .given .1)
 

@@ -1,11 +1,11 @@
 use denote.Ref.{now}
 use mathlib.Core.Path.{refl, sym, ap, _∙_}
 use Rattle.wire.proofs.AnswerLaws.{kept}
-use Rattle.filter.specs.Answers.{tellMap}
-use Rattle.differences.specs.Comparing.{comparisonOf}
+use Rattle.map.specs.Told.{tellMap}
+use Rattle.compare_spec.specs.Comparing.{comparisonOf}
 use Rattle.compare.specs.declared.CompareAnswer.the-variants.{Refused}
-use Rattle.compare.specs.Answers.{tellCompare}
-use Rattle.compare.specs.Sheets.{Counts}
+use Rattle.compare.specs.Told.{tellCompare}
+use Rattle.compare.specs.Steps.{Counts}
 use Rattle.compare.proofs.EntryLaws.{map-counts, first-refused, second-refused}
 use borrow.Author.Needs.{needs}
 use Rattle.compare.proofs.compare.Statement.{statement}

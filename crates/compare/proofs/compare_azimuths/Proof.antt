@@ -4,8 +4,8 @@ use denote.Ref.{now}
 use native.Mathlib.Omega.{arith}
 use mathlib.Core.Path.{_≡_, refl, sym, ap, _∙_, subst}
 use lib.ListN.{length}
-use Rattle.map.proofs.CheckFacts.{map-facts}
-use Rattle.compare.specs.Sheets.{sheet}
+use Rattle.map_spec.proofs.CheckFacts.{map-facts}
+use Rattle.compare.specs.Steps.{sheet}
 use Rattle.compare.proofs.AzimuthWalk.{Reached, reached-start, reached-more, reached-next, reached-past, going-old, going-new, inside-old, inside-new, going-few, going-done, checked-part, size-part, length-part, run-part, parts-same, parts-listed}
 use Rattle.compare.proofs.compare_azimuths.Statement.{statement}
 use Rattle.compare.proofs.compare_azimuths.Tie as tie

@@ -7,10 +7,10 @@ use lib.ListN.{length}
 use borrow.Author.Tests.{leb-true, leb-false, not-true, not-false}
 use Rattle.wire.specs.Writing.{filled}
 use Rattle.wire.proofs.AnswerLaws.{kept}
-use Rattle.differences.specs.Comparing.{mostHalfwords, comparisonOf}
+use Rattle.compare_spec.specs.Comparing.{mostHalfwords, comparisonOf}
 use Rattle.compare.specs.declared.CompareAnswer.the-variants.{Compared, Refused}
-use Rattle.compare.specs.Answers.{tellCompare}
-use Rattle.compare.specs.Sheets.{sheet, onto, elevationsDifferences, listOf, Checked}
+use Rattle.compare.specs.Told.{tellCompare}
+use Rattle.compare.specs.Steps.{sheet, onto, elevationsDifferences, listOf, Checked}
 use Rattle.compare.proofs.EntryLaws.{present-is, has-old, has-new, counted, listed, room-most, room-refused, all-given}
 use borrow.Author.Needs.{needs}
 use Rattle.compare.proofs.compare_checked.Statement.{statement}

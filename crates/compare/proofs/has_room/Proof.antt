@@ -7,7 +7,7 @@ use lib.Dec.{leb}
 use lib.ListN.{length}
 use borrow.Author.Tests.{le-leb}
 use Rattle.wire.proofs.ListLaws.{none-put}
-use Rattle.compare.specs.Sheets.{listOf}
+use Rattle.compare.specs.Steps.{listOf}
 use Rattle.compare.proofs.EntryLaws.{has-old, has-new, counted, room-most}
 use borrow.Author.Needs.{needs}
 use Rattle.compare.proofs.has_room.Statement.{statement}

@@ -4,8 +4,8 @@ use denote.Ref.{now}
 use native.Mathlib.Omega.{arith}
 use mathlib.Core.Path.{_≡_, sym}
 use lib.ListN.{length}
-use Rattle.map.specs.Reading.{runSize, azimuthPart}
-use Rattle.map.proofs.Runs.{run-none}
+use Rattle.map_spec.specs.Reading.{runSize, azimuthPart}
+use Rattle.map_spec.proofs.Runs.{run-none}
 use Rattle.compare.proofs.AzimuthWalk.{run-on}
 use Rattle.compare.proofs.pass.Statement.{statement}
 use Rattle.compare.proofs.pass.Tie as tie

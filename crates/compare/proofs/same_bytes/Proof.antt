@@ -4,7 +4,7 @@ use denote.Ref.{now}
 use native.Mathlib.Omega.{arith}
 use mathlib.Core.Path.{sym, _∙_}
 use lib.ListN.{length}
-use Rattle.compare.specs.Sheets.{Same}
+use Rattle.compare.specs.Steps.{Same}
 use Rattle.compare.proofs.SameBytes.{same-more}
 use Rattle.compare.proofs.same_bytes.Statement.{statement}
 use Rattle.compare.proofs.same_bytes.Tie as tie

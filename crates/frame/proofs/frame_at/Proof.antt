@@ -16,33 +16,26 @@ use Rattle.frame.proofs.frame_at.Reads as reads
 use Rattle.frame.proofs.frame_at.Lts as lts
 use Rattle.frame.proofs.frame_in.Reads as frame-in-reads
 
--- src/lib.rt:36:9
 returns : tie.Need-returns
 unfolding frameAt
 returns c = simp (eq-eqb _ _ (c .if1 .taken))
 
--- src/lib.rt:39:9
 returns-2 : tie.Need-returns-2
 unfolding frameAt
 returns-2 c = simp (ne-eqb _ _ (c .before .if1 .left)) (past-end (now (c .before .before .before .args .stream)) (c .before .before .before .args .place) (c .if2 .taken))
 
--- src/lib.rt:41:14
 sub-frame-in : tie.Need-sub-frame-in
 sub-frame-in c = search needs
 
--- src/lib.rt:41:14
 part-frame-in-start : tie.Need-part-frame-in-start
 part-frame-in-start c = search needs
 
--- src/lib.rt:41:14
 part-frame-in-end : tie.Need-part-frame-in-end
 part-frame-in-end c = search needs
 
--- src/lib.rt:41:5
 frame-in-requires : tie.Need-frame-in-requires
 frame-in-requires c κs = search needs
 
--- src/lib.rt:32:1
 returns-3 : tie.Need-returns-3
 unfolding frameAt
 returns-3 c = simp (ne-eqb _ _ (c .before .before .before .if1 .left), c .frame-in .ensures, part-is)

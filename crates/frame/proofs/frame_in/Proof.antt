@@ -21,51 +21,39 @@ size c = c .fetch322 .ensures ∙ fetched-whole 4 (now (c .before .before .befor
 second : (c : tie.After-fetch323) → c .fetch323 .result ≡ num 4 (now (c .before .before .before .before .before .before .before .before .args .rest)) 4
 second c = c .fetch323 .ensures ∙ fetched-whole 4 (now (c .before .before .before .before .before .before .before .before .args .rest)) 4 (omega arith)
 
--- src/lib.rt:49:9
 returns : tie.Need-returns
 returns c = simp (lt-ltb _ _ (c .if1 .taken))
 
--- src/lib.rt:51:9
 fetch32-requires : tie.Need-fetch32-requires
 fetch32-requires c κs = search needs
 
--- src/lib.rt:53:9
 returns-2 : tie.Need-returns-2
 returns-2 c = simp (le-ltb _ _ (c .before .before .if1 .left), ← kind (c .before), lt-ltb _ _ (c .if2 .taken))
 
--- src/lib.rt:55:9
 fetch32-requires-2 : tie.Need-fetch32-requires-2
 fetch32-requires-2 c κs = search needs
 
--- src/lib.rt:57:9
 returns-3 : tie.Need-returns-3
 returns-3 c = simp (le-ltb _ _ (c .before .before .before .before .if1 .left), ← kind (c .before .before .before), le-ltb _ _ (c .before .before .if2 .left), ← size (c .before), lt-ltb _ _ (c .if3 .taken))
 
--- src/lib.rt:59:24
 cast-whole : tie.Need-cast-whole
 cast-whole c = search needs
 
--- src/lib.rt:59:17
 add-whole : tie.Need-add-whole
 add-whole c = search needs
 
--- src/lib.rt:61:9
 returns-4 : tie.Need-returns-4
 returns-4 c = simp (le-ltb _ _ (c .before .before .before .before .before .if1 .left), ← kind (c .before .before .before .before), le-ltb _ _ (c .before .before .before .if2 .left), ← size (c .before .before), le-ltb _ _ (c .before .if3 .left), lt-ltb _ _ (c .if4 .taken))
 
--- src/lib.rt:63:9
 fetch32-requires-3 : tie.Need-fetch32-requires-3
 fetch32-requires-3 c κs = search needs
 
--- src/lib.rt:67:16
 add-t7 : tie.Need-add-t7
 add-t7 c = search needs
 
--- src/lib.rt:69:15
 add-t10 : tie.Need-add-t10
 add-t10 c = search needs
 
--- src/lib.rt:44:1
 returns-5 : tie.Need-returns-5
 returns-5 c = simp (le-ltb _ _ (c .before .before .before .before .before .before .if1 .left), ← kind (c .before .before .before .before .before), le-ltb _ _ (c .before .before .before .before .if2 .left), ← size (c .before .before .before), le-ltb _ _ (c .before .before .if3 .left), le-ltb _ _ (c .before .if4 .left), ← second c)
 

@@ -2,9 +2,9 @@ use Prim.Native.Nat.{ℕ, _+_, _-_, _*_}
 use native.Mathlib.Omega.{arith}
 use mathlib.Core.Path.{ap, _∙_}
 use denote.Ref.{now}
-use Rattle.description.specs.Refusal.{pointer}
-use Rattle.radial.specs.Places.{headAt}
-use Rattle.radial.proofs.HeadLaws.{Held, held, head-is, Filling, fill-begins, fill-turns, fill-ends}
+use Rattle.radial.specs.Steps.{headAt}
+use Rattle.radial_spec.proofs.Held.{Held, held}
+use Rattle.radial.proofs.HeadLaws.{Filling, fill-begins, fill-turns, fill-ends}
 use borrow.Author.Needs.{needs}
 use Rattle.radial.proofs.all_heads.Statement.{statement}
 use Rattle.radial.proofs.all_heads.Tie as tie
@@ -36,7 +36,11 @@ cast-place : tie.Need-cast-place Inv-loop μ-loop
 cast-place c = search needs
 
 head-at-requires : tie.Need-head-at-requires Inv-loop μ-loop
-head-at-requires c κs = search needs
+head-at-requires c κs =
+    let b = now (c .before .before .before .before .before .args .body) in
+    let l = c .before .before .loop in
+    let m = held b _ (c .before .before .before .before .before .pre .0) .moment (l .i) (rw (← c .before .before .before .before .before .pre .1) (c .before .loop-test .taken)) .1 in
+    omega (arith, m, c .place-at .ensures .0)
 
 mul-heads : tie.Need-mul-heads Inv-loop μ-loop
 mul-heads c = search needs
@@ -56,9 +60,8 @@ loop-again c =
     let b = now (a .body) in
     let l = c .before .before .before .loop in
     let p = c .before .place-at .ensures .0 in
-    let inside = held b _ (c .before .before .before .before .before .before .pre .0) .moment (l .i) (rw (← c .before .before .before .before .before .before .pre .1) (c .before .before .loop-test .taken)) .1 in
     fill-turns b (a .count) (l .heads) (l .i) (l .inv) (c .head-at .result) (c .before .before .loop-test .taken)
-    (c .head-at .ensures ∙ ap (λ (k : ℕ). headAt b k) p ∙ head-is b (pointer b (44 + 4 * l .i)) inside)
+    (c .head-at .ensures ∙ ap (λ (k : ℕ). headAt b k) p)
 
 returns : tie.Need-returns Inv-loop μ-loop
 returns c =

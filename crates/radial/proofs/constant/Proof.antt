@@ -1,33 +1,30 @@
-use Rattle.radial.proofs.StepLaws.{named-as}
-use Rattle.wire.proofs.NumberLaws.{number-is}
-use Rattle.description.specs.Refusal.{nameIn, blockSays}
-use Rattle.wire.specs.Numbers.{fetched}
-use borrow.Author.Tests.{lt-ltb, le-ltb, not-true, not-false}
+use Prim.Native.Nat.{ℕ}
+use native.Mathlib.Omega.{arith}
+use mathlib.Core.Path.{_≡_, sym}
+use mathlib.Core.Option.{some}
 use denote.Ref.{now}
-use lib.Dec.{eqb}
-use mathlib.Core.Path.{_≡_, refl}
+use Rattle.wire.specs.Answers.{given}
+use Rattle.wire.proofs.NumberLaws.{number-is}
+use Rattle.radial_spec.specs.Refusal.{pointer}
+use Rattle.radial.specs.declared.Span.{Span}
+use Rattle.radial.proofs.PartLaws.{span-cut}
+use Rattle.radial.specs.Steps.{constantTold}
 use borrow.Author.Needs.{needs}
 use Rattle.radial.proofs.constant.Statement.{statement}
 use Rattle.radial.proofs.constant.Tie as tie
 
--- the comparison of the names, and the block's length
-same : (c : tie.After-named) → eqb (nameIn (now (c .before .before .before .args .head))) (fetched 4 (now (c .before .before .before .args .name)) 0) ≡ c .named .result
-same c = named-as (now (c .before .before .before .args .head)) (now (c .before .before .before .args .name)) _ _ (search needs) refl (c .named .ensures)
+-- the pointer that was fetched
+place-is : (c : tie.After-fetch32) → c .fetch32 .result ≡ pointer (now (c .before .before .before .args .body)) (c .before .before .before .args .at)
+place-is c = sym (number-is 4 _ _ _ (c .fetch32 .ensures) (c .before .before .before .pre .0))
 
-says : (c : tie.After-fetch16) → blockSays (now (c .before .before .before .before .before .args .head)) ≡ c .fetch16 .result
-says c = number-is 2 _ 4 _ (c .fetch16 .ensures) (search needs)
+fetch32-requires : tie.Need-fetch32-requires
+fetch32-requires c κs = search needs
 
-named-requires : tie.Need-named-requires
-named-requires c κs = search needs
+cast-begin : tie.Need-cast-begin
+cast-begin c = search needs
 
-returns : tie.Need-returns
-returns c = simp (same (c .before), not-true (c .before .named .result) (c .if1 .taken))
-
-fetch16-requires : tie.Need-fetch16-requires
-fetch16-requires c κs = search needs
-
-returns-2 : tie.Need-returns-2
-returns-2 c = simp (same (c .before .before .before), says (c .before), not-false (c .before .before .before .named .result) (c .before .before .if1 .left), lt-ltb _ _ (c .if2 .taken))
+add-begin : tie.Need-add-begin
+add-begin c = search needs
 
 cast-end : tie.Need-cast-end
 cast-end c = search needs
@@ -35,21 +32,43 @@ cast-end c = search needs
 add-end : tie.Need-add-end
 add-end c = search needs
 
-returns-3 : tie.Need-returns-3
-returns-3 c = simp (same (c .before .before .before .before), says (c .before .before), not-false (c .before .before .before .before .named .result) (c .before .before .before .if1 .left), le-ltb _ _ (c .before .if2 .left), lt-ltb _ _ (c .if3 .taken))
+fetch32-requires-2 : tie.Need-fetch32-requires-2
+fetch32-requires-2 c κs = search needs
 
-returns-4 : tie.Need-returns-4
-returns-4 c = simp (same (c .before .before .before .before), says (c .before .before), not-false (c .before .before .before .before .named .result) (c .before .before .before .if1 .left), le-ltb _ _ (c .before .if2 .left), le-ltb _ _ (c .if3 .left))
+sub-fetch16 : tie.Need-sub-fetch16
+sub-fetch16 c = search needs
+
+part-fetch16-start : tie.Need-part-fetch16-start
+part-fetch16-start c = search needs
+
+part-fetch16-end : tie.Need-part-fetch16-end
+part-fetch16-end c = omega (arith, place-is (c .before), c .before .before .before .before .pre .1)
+
+fetch16-requires : tie.Need-fetch16-requires
+fetch16-requires c κs = search needs
+
+cast-t13 : tie.Need-cast-t13
+cast-t13 c = search needs
+
+returns : tie.Need-returns
+returns c =
+    let a = c .before .before .before .before .before .before .args in
+    let s = span-cut (now (a .body)) (a .at) (c .before .before .before .fetch32 .result) (c .fetch16 .result) (place-is (c .before .before .before)) (c .before .before .before .before .before .before .pre .1) (c .fetch16 .ensures) in
+    λ i. given (some (constantTold (c .before .before .fetch322 .ensures i) (s i)))
 
 pub constant-spec : {M : Type 1} → statement M
 constant-spec =
     tie.close
     (tie.spec
-    named-requires
-    returns
-    fetch16-requires
-    returns-2
+    fetch32-requires
+    cast-begin
+    add-begin
     cast-end
     add-end
-    returns-3
-    returns-4)
+    fetch32-requires-2
+    sub-fetch16
+    part-fetch16-start
+    part-fetch16-end
+    fetch16-requires
+    cast-t13
+    returns)

@@ -1,4 +1,4 @@
-use Rattle.radial.proofs.PartLaws.{cut-is}
+use Rattle.wire.proofs.NumberLaws.{cut-is}
 use denote.Ref.{now}
 use native.Mathlib.Omega.{arith}
 use borrow.Author.Needs.{needs}

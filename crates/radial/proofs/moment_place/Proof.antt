@@ -1,29 +1,41 @@
-use Prim.Native.Nat.{ℕ, _+_, _-_, _*_, _≤_}
-use mathlib.Core.Path.{_≡_, sym, ap, _∙_}
+use Prim.Native.Nat.{ℕ, _+_, _-_, _*_, _≤_, _<_}
+use native.Mathlib.Omega.{arith}
+use mathlib.Core.Path.{_≡_, sym, ap, subst, _∙_}
+use lib.ListN.{length, drop}
 use denote.Ref.{now}
-use borrow.Author.Tests.{lt-ltb, le-ltb}
-use Rattle.wire.specs.Numbers.{fetched}
-use Rattle.description.specs.Refusal.{countIn}
-use Rattle.radial.specs.Places.{placeFrom, placeIn}
+use Rattle.radial_spec.specs.Refusal.{countIn, pointer, part, nameIn}
+use Rattle.radial_spec.proofs.Held.{held}
+use Rattle.radial.specs.Steps.{placeFrom, placeIn}
+use Rattle.radial.proofs.PartLaws.{name-cut}
 use Rattle.radial.proofs.StepLaws.{place-here, place-next, place-end}
 use borrow.Author.Needs.{needs}
 use Rattle.radial.proofs.moment_place.Statement.{statement}
 use Rattle.radial.proofs.moment_place.Tie as tie
 
 abbrev Inv-loop : tie.InvT-loop
-Inv-loop body name count end k₀ k = (3 ≤ k) × (placeFrom body name (32 + 4 * k) (end - k) ≡ placeIn body name)
+Inv-loop body name end k₀ k = (3 ≤ k) × (end ≡ countIn body) × (placeFrom body name (32 + 4 * k) (end - k) ≡ placeIn body name)
 
 abbrev μ-loop : tie.MeasureT-loop
-μ-loop body name count end k₀ k = end - k
+μ-loop body name end k₀ k = end - k
 
-returns : tie.Need-returns Inv-loop μ-loop
-returns c = simp (lt-ltb _ _ (c .if1 .taken))
+-- the pointer's block is in the body, and its name was fetched
+inside : (c : tie.After-place-at Inv-loop μ-loop) → c .place-at .result + 28 ≤ length (now (c .before .before .before .before .before .args .body))
+inside c =
+    let b = now (c .before .before .before .before .before .args .body) in
+    let l = c .before .before .loop in
+    let q : 44 + 4 * (l .k - 3) ≡ 32 + 4 * l .k = omega (arith, l .inv .0) in
+    let m = held b _ (c .before .before .before .before .before .pre) .moment (l .k - 3) (omega (arith, c .before .loop-test .taken, l .inv .0, l .inv .1)) .1 in
+    let there : pointer b (32 + 4 * l .k) + 28 ≤ length b = subst (λ (n : ℕ). pointer b n + 28 ≤ length b) q m in
+    omega (arith, there, c .place-at .ensures .0)
+
+named : (c : tie.After-fetch32 Inv-loop μ-loop) → c .fetch32 .result ≡ nameIn (part (now (c .before .before .before .before .before .before .before .args .body)) (32 + 4 * c .before .before .before .before .loop .k))
+named c =
+    let b = now (c .before .before .before .before .before .before .before .args .body) in
+    name-cut b (c .before .before .place-at .result) _ (omega (arith, inside (c .before .before))) (c .fetch32 .ensures)
+    ∙ ap (λ (p : ℕ). nameIn (drop p b)) (c .before .before .place-at .ensures .0)
 
 count-of-requires : tie.Need-count-of-requires Inv-loop μ-loop
-count-of-requires c κs = search needs
-
-returns-2 : tie.Need-returns-2 Inv-loop μ-loop
-returns-2 c = simp (le-ltb _ _ (c .before .before .if1 .left), ← c .before .count-of .ensures, lt-ltb _ _ (c .if2 .taken))
+count-of-requires c κs = held _ _ (c .before .pre) .start .long
 
 cast-end : tie.Need-cast-end Inv-loop μ-loop
 cast-end c = search needs
@@ -33,8 +45,8 @@ cast-k c = search needs
 
 loop-holds : tie.Need-loop-holds Inv-loop μ-loop
 loop-holds c =
-    let a = c .before .before .before .before .args in
-    (search needs, ap (λ (n : ℕ). placeFrom (now (a .body)) (a .name) 44 (n - 3)) (c .before .count-of .ensures) ∙ sym (simp (le-ltb _ _ (c .before .before .if1 .left), le-ltb 9 (countIn (now (a .body))) (rw (← c .before .count-of .ensures) (c .if2 .left)))))
+    let a = c .before .before .args in
+    (search needs, c .count-of .ensures, ap (λ (n : ℕ). placeFrom (now (a .body)) (a .name) 44 (n - 3)) (c .count-of .ensures))
 
 mul-place-at : tie.Need-mul-place-at Inv-loop μ-loop
 mul-place-at c = search needs
@@ -43,21 +55,35 @@ add-place-at : tie.Need-add-place-at Inv-loop μ-loop
 add-place-at c = search needs
 
 place-at-requires : tie.Need-place-at-requires Inv-loop μ-loop
-place-at-requires c κs = search needs
+place-at-requires c κs =
+    let s = held _ _ (c .before .before .before .before .pre) .start in
+    omega (arith, s .long, s .few, c .loop-test .taken, c .before .loop .inv .1)
 
-cast-place : tie.Need-cast-place Inv-loop μ-loop
-cast-place c = search needs
+add-after : tie.Need-add-after Inv-loop μ-loop
+add-after c = search needs
+
+sub-fetch32 : tie.Need-sub-fetch32 Inv-loop μ-loop
+sub-fetch32 c = search needs
+
+part-fetch32-start : tie.Need-part-fetch32-start Inv-loop μ-loop
+part-fetch32-start c = omega (arith, inside c)
+
+part-fetch32-end : tie.Need-part-fetch32-end Inv-loop μ-loop
+part-fetch32-end c = omega (arith, inside c)
 
 fetch32-requires : tie.Need-fetch32-requires Inv-loop μ-loop
 fetch32-requires c κs = search needs
 
-returns-3 : tie.Need-returns-3 Inv-loop μ-loop
-returns-3 c =
-    let a = c .before .before .before .before .before .before .before .before .before .args in
-    let b = now (a .body) in
-    let l = c .before .before .before .before .loop in
-    let p = c .before .before .place-at .ensures .0 in
-    p ∙ place-here b (a .name) (l .k) _ (c .before .before .before .loop-test .taken) (ap (fetched 4 b) (sym p) ∙ sym (c .before .fetch32 .ensures) ∙ c .if3 .taken) ∙ l .inv .1
+cast-result : tie.Need-cast-result Inv-loop μ-loop
+cast-result c = search needs
+
+returns : tie.Need-returns Inv-loop μ-loop
+returns c =
+    let a = c .before .before .before .before .before .before .before .before .args in
+    let l = c .before .before .before .before .before .loop in
+    c .before .before .before .place-at .ensures .0
+    ∙ place-here (now (a .body)) (a .name) (l .k) _ (c .before .before .before .before .loop-test .taken) (sym (named (c .before)) ∙ c .if1 .taken)
+    ∙ l .inv .2
 
 add-k : tie.Need-add-k Inv-loop μ-loop
 add-k c = search needs
@@ -67,16 +93,14 @@ loop-less c = search needs
 
 loop-again : tie.Need-loop-again Inv-loop μ-loop
 loop-again c =
-    let a = c .before .before .before .before .before .before .before .before .before .args in
-    let b = now (a .body) in
-    let l = c .before .before .before .before .loop in
-    let p = c .before .before .place-at .ensures .0 in
-    (search needs, place-next b (a .name) (l .k) _ (c .before .before .before .loop-test .taken) (λ e. c .if3 .left (c .before .fetch32 .ensures ∙ ap (fetched 4 b) p ∙ e)) ∙ l .inv .1)
+    let a = c .before .before .before .before .before .before .before .before .args in
+    let l = c .before .before .before .before .before .loop in
+    (search needs, l .inv .1, place-next (now (a .body)) (a .name) (l .k) _ (c .before .before .before .before .loop-test .taken) (λ e. c .if1 .left (named (c .before) ∙ e)) ∙ l .inv .2)
 
-returns-4 : tie.Need-returns-4 Inv-loop μ-loop
-returns-4 c =
-    let a = c .before .before .before .before .before .before .args in
-    place-end (now (a .body)) (a .name) (c .before .loop .k) _ (c .loop-test .left) ∙ c .before .loop .inv .1
+returns-2 : tie.Need-returns-2 Inv-loop μ-loop
+returns-2 c =
+    let a = c .before .before .before .before .args in
+    place-end (now (a .body)) (a .name) (c .before .loop .k) _ (c .loop-test .left) ∙ c .before .loop .inv .2
 
 pub moment-place-spec : {M : Type 1} → statement M
 moment-place-spec =
@@ -84,19 +108,21 @@ moment-place-spec =
     (tie.spec
     Inv-loop
     μ-loop
-    returns
     count-of-requires
-    returns-2
     cast-end
     cast-k
     loop-holds
     mul-place-at
     add-place-at
     place-at-requires
-    cast-place
+    add-after
+    sub-fetch32
+    part-fetch32-start
+    part-fetch32-end
     fetch32-requires
-    returns-3
+    cast-result
+    returns
     add-k
     loop-less
     loop-again
-    returns-4)
+    returns-2)

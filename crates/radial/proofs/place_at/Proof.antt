@@ -1,5 +1,5 @@
-use Rattle.radial.proofs.PartLaws.{cut-is}
-use Rattle.description.specs.Refusal.{pointer}
+use Rattle.wire.proofs.NumberLaws.{cut-is}
+use Rattle.radial_spec.specs.Refusal.{pointer}
 use denote.Ref.{now}
 use mathlib.Core.Path.{ap, _∙_}
 use native.Mathlib.Omega.{arith}

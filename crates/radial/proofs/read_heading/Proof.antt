@@ -3,11 +3,10 @@ use mathlib.Core.Path.{_≡_, sym, ap}
 use lib.ListN.{length}
 use denote.Ref.{now}
 use Rattle.wire.specs.Answers.{given}
-use Rattle.description.specs.Refusal.{description, radialOf}
-use Rattle.radial.specs.Shown.{shown}
-use Rattle.radial.specs.Places.{headingOf}
-use Rattle.radial.proofs.HeadLaws.{held, heading-is}
-use Rattle.radial.proofs.HandedLaws.{number-given, number-refused}
+use Rattle.radial_spec.specs.Refusal.{description, radialOf}
+use Rattle.radial.specs.Told.{shown, headingOf}
+use Rattle.radial_spec.proofs.Held.{held, number-given, number-refused}
+use Rattle.radial.proofs.HeadLaws.{heading-is}
 use borrow.Author.Needs.{needs}
 use Rattle.radial.proofs.read_heading.Statement.{statement}
 use Rattle.radial.proofs.read_heading.Tie as tie

@@ -6,9 +6,9 @@ use mathlib.Core.Path.{_≡_, sym, _∙_}
 use mathlib.Core.Bool.{true}
 use lib.ListN.{length, drop}
 use Rattle.wire.specs.Checks.{pick}
-use Rattle.recording.specs.Walk.{stands, wholeLong}
-use Rattle.salvage.specs.Walks.{Frames}
-use Rattle.salvage.proofs.MarkLaws.{whole-none, whole-some}
+use Rattle.salvage_spec.specs.Walk.{stands, wholeLong}
+use Rattle.salvage.specs.Steps.{Frames}
+use Rattle.salvage_find.proofs.MarkLaws.{whole-none, whole-some}
 use Rattle.salvage.proofs.PlaceLaws.{frames-none, frame-inside, frames-more, stretch-ends}
 use Rattle.salvage.proofs.follow.Statement.{statement}
 use Rattle.salvage.proofs.follow.Tie as tie

@@ -6,7 +6,7 @@ use mathlib.Core.Bool.{_&&_}
 use lib.Dec.{leb}
 use lib.ListN.{length}
 use Rattle.wire.proofs.ListLaws.{none-put}
-use Rattle.recording.proofs.Theorems.{most-runs}
+use Rattle.salvage_spec.proofs.Theorems.{most-runs}
 use Rattle.salvage.proofs.RoomLaws.{any-room, counted-room}
 use Rattle.salvage.proofs.has_room.Statement.{statement}
 use Rattle.salvage.proofs.has_room.Tie as tie

@@ -1,43 +1,36 @@
 use denote.Ref.{now}
 use mathlib.Core.Path.{sym, ap, _∙_}
-use Rattle.c_frames.specs.Frames.{headerFace}
-use Rattle.message.proofs.HeaderLaws.{header-read, header-refused}
+use Rattle.c_frame.specs.Face.{headerFace}
+use Rattle.header.proofs.HeaderLaws.{header-read, header-refused}
 use borrow.Author.Needs.{needs}
 use Rattle.ulm.proofs.ulm_header.Statement.{statement}
 use Rattle.ulm.proofs.ulm_header.Tie as tie
 use Rattle.ulm.proofs.ulm_header.Reads as reads
 use Rattle.ulm.proofs.ulm_header.Lts as lts
-use Rattle.c_frames.proofs.header_face.Reads as header-face-reads
-use Rattle.c_frames.proofs.no_header.Reads as no-header-reads
-use Rattle.message.proofs.check_header.Reads as check-header-reads
-use Rattle.message.proofs.reported.Reads as reported-reads
-use Rattle.message.proofs.stored.Reads as stored-reads
+use Rattle.c_frame.proofs.header_face.Reads as header-face-reads
+use Rattle.c_frame.proofs.no_header.Reads as no-header-reads
+use Rattle.header.proofs.check_header.Reads as check-header-reads
+use Rattle.header.proofs.reported.Reads as reported-reads
+use Rattle.header.proofs.stored.Reads as stored-reads
 
--- src/lib.rt:42:9
 stored-requires : tie.Need-stored-requires
 stored-requires c κs = search needs
 
--- src/lib.rt:43:9
 check-header-requires : tie.Need-check-header-requires
 check-header-requires c κs = search needs
 
--- src/lib.rt:45:9
 no-header-requires : tie.Need-no-header-requires
 no-header-requires c κs = search needs
 
--- src/lib.rt:45:9
 returns : tie.Need-returns
 returns c = c .no-header .ensures ∙ ap headerFace (sym (header-refused (now (c .before .before .before .before .before .args .msg)) (c .before .before .before .stored .result) (c .before .before .check-header .result) (c .before .before .before .stored .ensures) (c .before .before .check-header .ensures) (c .before .if1 .taken)))
 
--- src/lib.rt:47:27
 reported-requires : tie.Need-reported-requires
 reported-requires c κs = search needs
 
--- src/lib.rt:47:5
 header-face-requires : tie.Need-header-face-requires
 header-face-requires c κs = search needs
 
--- src/lib.rt:38:1
 returns-2 : tie.Need-returns-2
 returns-2 c = c .header-face .ensures ∙ ap headerFace (sym (header-read (now (c .before .before .before .before .before .before .args .msg)) (c .before .before .before .before .stored .result) (c .before .before .before .check-header .result) (c .before .before .before .before .stored .ensures) (c .before .before .before .check-header .ensures) (c .before .reported .result) (c .before .reported .ensures) (c .before .before .if1 .left)))
 

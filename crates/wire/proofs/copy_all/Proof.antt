@@ -17,89 +17,68 @@ Inv-loop from to₀ done₀ to done = Copied from to₀ to done
 abbrev μ-loop : tie.MeasureT-loop
 μ-loop from to₀ done₀ to done = length to₀ - done
 
--- src/lib.rt:111:5
 loop-holds : tie.Need-loop-holds Inv-loop μ-loop
 loop-holds c = search needs
 
--- src/lib.rt:111:11
 add-loop : tie.Need-add-loop Inv-loop μ-loop
 add-loop c = search needs
 
--- src/lib.rt:112:19
 add-end : tie.Need-add-end Inv-loop μ-loop
 add-end c = search needs
 
--- src/lib.rt:113:20
 sub-copy-block : tie.Need-sub-copy-block Inv-loop μ-loop
 sub-copy-block c = search needs
 
--- src/lib.rt:113:20
 part-copy-block-start : tie.Need-part-copy-block-start Inv-loop μ-loop
 part-copy-block-start c = search needs
 
--- src/lib.rt:113:20
 part-copy-block-end : tie.Need-part-copy-block-end Inv-loop μ-loop
 part-copy-block-end c = search needs
 
--- src/lib.rt:113:35
 sub-copy-block-2 : tie.Need-sub-copy-block-2 Inv-loop μ-loop
 sub-copy-block-2 c = search needs
 
--- src/lib.rt:113:35
 part-copy-block-start-2 : tie.Need-part-copy-block-start-2 Inv-loop μ-loop
 part-copy-block-start-2 c = search needs
 
--- src/lib.rt:113:35
 part-copy-block-end-2 : tie.Need-part-copy-block-end-2 Inv-loop μ-loop
 part-copy-block-end-2 c = search needs
 
--- src/lib.rt:113:9
 copy-block-requires : tie.Need-copy-block-requires Inv-loop μ-loop
 copy-block-requires c κs = search needs
 
--- src/lib.rt:111:5
 loop-less : tie.Need-loop-less Inv-loop μ-loop
 loop-less c = search needs
 
--- src/lib.rt:111:5
 loop-again : tie.Need-loop-again Inv-loop μ-loop
 loop-again c =
     part-turn (now (c .before .before .before .before .before .before .before .before .before .args .from)) (now (c .before .before .before .before .before .before .before .before .before .args .to)) (c .before .before .before .before .before .before .loop .to) (c .before .before .before .before .before .before .loop .done) 1200 (c .before .before .before .before .before .before .before .before .before .pre) (c .before .before .before .before .before .before .loop .inv) (omega (arith, c .before .before .before .before .before .loop-test .taken, c .before .before .before .before .before .before .loop .inv .2)) (c .before .before .before .before .before .before .loop .done + 1200 - c .before .before .before .before .before .before .loop .done) (c .before .before .before .before .before .before .loop .done + 1200 - c .before .before .before .before .before .before .loop .done) (c .before .before .copy-block .last .1 .0) (omega arith) (omega arith)
     (c .before .before .copy-block .ensures)
 
--- src/lib.rt:116:15
 sub-copy-each : tie.Need-sub-copy-each Inv-loop μ-loop
 sub-copy-each c = search needs
 
--- src/lib.rt:116:15
 part-copy-each-start : tie.Need-part-copy-each-start Inv-loop μ-loop
 part-copy-each-start c = search needs
 
--- src/lib.rt:116:15
 part-copy-each-end : tie.Need-part-copy-each-end Inv-loop μ-loop
 part-copy-each-end c = search needs
 
--- src/lib.rt:116:27
 sub-copy-each-2 : tie.Need-sub-copy-each-2 Inv-loop μ-loop
 sub-copy-each-2 c = search needs
 
--- src/lib.rt:116:27
 part-copy-each-start-2 : tie.Need-part-copy-each-start-2 Inv-loop μ-loop
 part-copy-each-start-2 c = search needs
 
--- src/lib.rt:116:27
 part-copy-each-end-2 : tie.Need-part-copy-each-end-2 Inv-loop μ-loop
 part-copy-each-end-2 c = search needs
 
--- src/lib.rt:116:5
 copy-each-requires : tie.Need-copy-each-requires Inv-loop μ-loop
 copy-each-requires c κs = search needs
 
--- src/lib.rt:106:1
 same-length : tie.Need-same-length Inv-loop μ-loop
 same-length c = part-end-long (now (c .before .before .before .before .before .before .before .before .before .args .from)) (now (c .before .before .before .before .before .before .before .before .before .args .to)) (c .before .before .before .before .before .before .loop .to) (c .before .before .before .before .before .before .loop .done) (c .before .before .before .before .before .before .before .before .before .pre) (c .before .before .before .before .before .before .loop .inv) (c .before .before .copy-each .last .1 .0) (c .before .before .copy-each .ensures)
 
--- src/lib.rt:106:1
 returns : tie.Need-returns Inv-loop μ-loop
 returns c = part-end (now (c .before .before .before .before .before .before .before .before .before .args .from)) (now (c .before .before .before .before .before .before .before .before .before .args .to)) (c .before .before .before .before .before .before .loop .to) (c .before .before .before .before .before .before .loop .done) (c .before .before .before .before .before .before .before .before .before .pre) (c .before .before .before .before .before .before .loop .inv) (c .before .before .copy-each .last .1 .0) (c .before .before .copy-each .ensures)
 

@@ -7,19 +7,15 @@ use Rattle.wire.proofs.fetch16.Reads as reads
 use Rattle.wire.proofs.fetch16.Lts as lts
 use Rattle.wire.proofs.whole16.Reads as whole16-reads
 
--- src/lib.rt:62:8
 add-if1 : tie.Need-add-if1
 add-if1 c = search needs
 
--- src/lib.rt:63:9
 whole16-requires : tie.Need-whole16-requires
 whole16-requires c κs = search needs
 
--- src/lib.rt:63:9
 returns : tie.Need-returns
 returns c = c .whole16 .ensures ∙ sym (fetched-whole 2 _ _ (search needs))
 
--- src/lib.rt:58:1
 returns-2 : tie.Need-returns-2
 returns-2 c = sym (fetched-short 2 _ _ (search needs))
 

@@ -7,19 +7,15 @@ use Rattle.wire.proofs.fetch32.Reads as reads
 use Rattle.wire.proofs.fetch32.Lts as lts
 use Rattle.wire.proofs.whole32.Reads as whole32-reads
 
--- src/lib.rt:73:8
 add-if1 : tie.Need-add-if1
 add-if1 c = search needs
 
--- src/lib.rt:74:9
 whole32-requires : tie.Need-whole32-requires
 whole32-requires c κs = search needs
 
--- src/lib.rt:74:9
 returns : tie.Need-returns
 returns c = c .whole32 .ensures ∙ sym (fetched-whole 4 _ _ (search needs))
 
--- src/lib.rt:69:1
 returns-2 : tie.Need-returns-2
 returns-2 c = sym (fetched-short 4 _ _ (search needs))
 

@@ -6,19 +6,15 @@ use Rattle.wire.proofs.fetch8.Tie as tie
 use Rattle.wire.proofs.fetch8.Reads as reads
 use Rattle.wire.proofs.fetch8.Lts as lts
 
--- src/lib.rt:51:8
 add-if1 : tie.Need-add-if1
 add-if1 c = search needs
 
--- src/lib.rt:52:16
 shared-slice-read-result : tie.Need-shared-slice-read-result
 shared-slice-read-result c = search needs
 
--- src/lib.rt:52:9
 returns : tie.Need-returns
 returns c = sym (fetched-whole 1 _ _ (search needs) ∙ num-one _ _)
 
--- src/lib.rt:47:1
 returns-2 : tie.Need-returns-2
 returns-2 c = sym (fetched-short 1 _ _ (search needs))
 

@@ -6,15 +6,12 @@ use Rattle.wire.proofs.float_of.Tie as tie
 use Rattle.wire.proofs.float_of.Reads as reads
 use Rattle.wire.proofs.float_of.Lts as lts
 
--- src/lib.rt:116:9
 float-from-bits-result : tie.Need-float-from-bits-result
 float-from-bits-result c = rw (no-nan _ (c .if1 .taken)) tt
 
--- src/lib.rt:112:1
 returns : tie.Need-returns
 returns c = search needs
 
--- src/lib.rt:112:1
 returns-2 : tie.Need-returns-2
 returns-2 c = zero-by-zero ∙ sym (nan-read _ (c .if1 .left))
 

@@ -8,35 +8,27 @@ use Rattle.wire.proofs.whole16.Reads as reads
 use Rattle.wire.proofs.whole16.Lts as lts
 use Rattle.wire.proofs.wide16.Reads as wide16-reads
 
--- src/lib.rt:36:12
 shared-slice-read-wide16 : tie.Need-shared-slice-read-wide16
 shared-slice-read-wide16 c = search needs
 
--- src/lib.rt:36:5
 wide16-requires : tie.Need-wide16-requires
 wide16-requires c κs = search needs
 
--- src/lib.rt:36:5
 mul-result : tie.Need-mul-result
 mul-result c = search needs
 
--- src/lib.rt:36:36
 add-wide16 : tie.Need-add-wide16
 add-wide16 c = search needs
 
--- src/lib.rt:36:34
 shared-slice-read-wide16-2 : tie.Need-shared-slice-read-wide16-2
 shared-slice-read-wide16-2 c = search needs
 
--- src/lib.rt:36:27
 wide16-requires-2 : tie.Need-wide16-requires-2
 wide16-requires-2 c κs = search needs
 
--- src/lib.rt:36:5
 add-result : tie.Need-add-result
 add-result c = search needs
 
--- src/lib.rt:32:1
 returns : tie.Need-returns
 returns c = omega (arith, num-two (now (c .before .before .before .before .before .args .b)) (c .before .before .before .before .before .args .at))
 

@@ -1,0 +1,2 @@
+-- Frames and message headers, as the structs that C receives.
+pub mod Face

@@ -1,0 +1,29 @@
+-- The gates of a moment, and what a gate is worth, as C receives them. "On a refusal every other field is 0."
+use Prim.Native.Nat.{_+_}
+use Rattle.wire.specs.Answers.{Answer, refused, given}
+use Rattle.radial_spec.specs.Description.{momentHead, Moment, gates, gateBytes}
+use Rattle.gate_value.specs.Value.{float, Worth, belowThreshold, rangeFolded, worth}
+use Rattle.c_gates.specs.declared.UlmGates.{UlmGates}
+use Rattle.c_gates.specs.declared.UlmGate.{UlmGate}
+
+-- the gates of a moment: how they are to be read, and where they lie in the body
+abbrev pub gatesFace : Answer Moment → UlmGates
+gatesFace (refused n) = record { refusal = n; gates = 0; word = 0; scale = 0; offset = 0; first = 0; interval = 0; start = 0; size = 0 }
+gatesFace (given m) = record {
+  refusal = 0;
+  gates = gates m;
+  word = m .word;
+  scale = m .scale;
+  offset = m .offset;
+  first = m .first;
+  interval = m .interval;
+  start = m .place + momentHead;
+  size = gateBytes m;
+}
+
+-- kind 0 a value, 1 below threshold, 2 range folded; the value is +0 where there is none
+abbrev pub worthFace : Answer Worth → UlmGate
+worthFace (refused n) = record { refusal = n; kind = 0; value = float 0 }
+worthFace (given (worth v)) = record { refusal = 0; kind = 0; value = v }
+worthFace (given belowThreshold) = record { refusal = 0; kind = 1; value = float 0 }
+worthFace (given rangeFolded) = record { refusal = 0; kind = 2; value = float 0 }

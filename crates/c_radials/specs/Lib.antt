@@ -1,3 +1,0 @@
--- What the library answers of radials, as the structs that C receives.
-pub mod Radials
-pub mod Steps

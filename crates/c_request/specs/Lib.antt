@@ -1,0 +1,2 @@
+-- Message 9, as the struct that C receives.
+pub mod Face

@@ -1,0 +1,2 @@
+-- A set, as the struct that C receives.
+pub mod Face

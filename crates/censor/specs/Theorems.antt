@@ -1,0 +1,29 @@
+-- What holds of every body and list of message 8: the reader and the writer undo each other, and the struct that is handed back tells the answer.
+use Prim.Native.Nat.{ℕ, _≤_, _<_}
+use mathlib.Core.Path.{_≡_}
+use mathlib.Core.List.{List}
+use lib.ListN.{length, getD, take}
+use Rattle.wire.specs.Numbers.{Octets}
+use Rattle.wire.specs.Answers.{given}
+use Rattle.wire.specs.Writing.{wrote}
+use Rattle.wire.specs.declared.Bytes.{Bytes}
+use Rattle.censor.specs.Censor.{censorOf, censorWritten}
+use Rattle.censor.specs.Told.{shown, tellCensor}
+
+-- every number of the list is a halfword
+abbrev pub Halfwords : List ℕ → Type 0
+Halfwords list = (i : ℕ) → getD list i 0 < 65536
+
+-- what the writer writes, the reader accepts with the same numbers
+abbrev pub WrittenIsRead : Type 0
+WrittenIsRead = (list out : List ℕ) (size : Bytes) → Halfwords list → censorWritten list out .answer ≡ given size
+    → censorOf (take (size .0) (censorWritten list out .output)) ≡ given list
+
+-- what the reader hands back, written, is the body again
+abbrev pub ReadIsWritten : Type 0
+ReadIsWritten = (body out list : List ℕ) → Octets body → censorOf body ≡ given list → length body ≤ length out
+    → censorWritten list out ≡ wrote body out
+
+-- nothing of the answer is lost in the struct
+abbrev pub StructTells : Type 0
+StructTells = (body : List ℕ) → tellCensor (shown (censorOf body)) ≡ censorOf body

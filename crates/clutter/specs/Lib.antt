@@ -1,5 +1,0 @@
--- Message 8: its rule for a reader and a writer, what the answers tell, the laws between the two, and cases on either side of each limit.
-pub mod Censor
-pub mod Promises
-pub mod Laws
-pub mod Cases

@@ -1,0 +1,9 @@
+-- Document 01's number and values for each case of an answer.
+use Rattle.wire.specs.Answers.{Answer, refused, given}
+use Rattle.compare_spec.specs.Comparing.{Comparison}
+use Rattle.compare.specs.declared.CompareAnswer.{CompareAnswer}
+use Rattle.compare.specs.declared.CompareAnswer.the-variants.{Compared, Refused}
+
+abbrev pub tellCompare : CompareAnswer → Answer Comparison
+tellCompare (Compared old new count) = given (record { oldElevations = old; newElevations = new; differences = count })
+tellCompare (Refused n) = refused n

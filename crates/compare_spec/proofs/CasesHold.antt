@@ -1,0 +1,12 @@
+-- The cases, computed by the definitions themselves. Assumes nothing.
+use mathlib.Core.Path.{refl}
+use Rattle.wire.specs.Numbers.{num}
+use Rattle.map_spec.specs.Map.{codeFrom}
+use Rattle.map_spec.specs.Reading.{zonesChecks, zonesIn, runSize, runChecks, runIn}
+use Rattle.compare_spec.specs.Differences.{stretches, inOrder}
+use Rattle.compare_spec.specs.Comparing.{halfwords}
+use Rattle.compare_spec.specs.Cases.{Table}
+
+pub table : Table
+unfolding num codeFrom zonesChecks zonesIn runSize runChecks runIn stretches inOrder halfwords
+table = (refl, (refl, (refl, (refl, (refl, (refl, (refl, (refl, (refl, (refl, (refl, (refl, (refl, (refl, (refl, (refl, (refl, (refl, tt))))))))))))))))))

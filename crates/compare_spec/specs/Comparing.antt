@@ -1,0 +1,41 @@
+-- Two bodies 15 and a lent output of halfwords: how a comparison is refused, what it reports, and what it leaves in the output.
+use Prim.Native.Nat.{ℕ, _*_}
+use mathlib.Core.List.{List, [], _∷_, _++_}
+use lib.Dec.{ltb}
+use lib.ListN.{length}
+use Rattle.wire.specs.Checks.{Check, check}
+use Rattle.wire.specs.Answers.{Outcome, outcome}
+use Rattle.wire.specs.Writing.{filled}
+use Rattle.map_spec.specs.Map.{mostElevations, azimuths, FilterMap}
+use Rattle.map_spec.specs.Reading.{mapChecks, mapIn}
+use Rattle.compare_spec.specs.Differences.{Difference, mostRuns, differences}
+
+-- "both elevation counts and the number of differences are reported"
+pub record Comparison : Type 0 where
+  pub oldElevations : ℕ
+  pub newElevations : ℕ
+  pub differences : ℕ
+
+abbrev pub comparison : FilterMap → FilterMap → Comparison
+comparison m n =
+    record { oldElevations = length (m .elevations); newElevations = length (n .elevations); differences = length (differences m n) }
+
+-- six halfwords a difference
+unfoldable pub halfwords : List Difference → List ℕ
+halfwords [] = []
+halfwords (d ∷ ds) = d .elevation ∷ d .azimuth ∷ d .first ∷ d .last ∷ d .old ∷ d .new ∷ halfwords ds
+
+-- so many halfwords have room for the differences of any two maps in range: 421,200
+abbrev pub mostHalfwords : ℕ
+mostHalfwords = 6 * (mostElevations * (azimuths * mostRuns))
+
+-- "too little output is 13"
+abbrev pub roomChecks : List ℕ → List ℕ → List Check
+roomChecks list out = check 13 (ltb (length out) (length list)) ∷ []
+
+-- "A bad map is refused by its own number, the first map first": "with nothing written", and "all 0 on refusal", since a refusal has no other number
+abbrev pub comparisonOf : List ℕ → List ℕ → List ℕ → Outcome Comparison
+comparisonOf old new out =
+    let m = mapIn old in
+    let n = mapIn new in
+    outcome (mapChecks old ++ mapChecks new ++ roomChecks (halfwords (differences m n)) out) out (comparison m n) (filled (halfwords (differences m n)) out)

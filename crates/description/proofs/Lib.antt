@@ -1,7 +1,0 @@
--- The theorems of demand 3 with their laws, and the starred cases.
-pub mod Runs
-pub mod Pieces
-pub mod Blocks
-pub mod Accepted
-pub mod Naming
-pub mod CaseTable

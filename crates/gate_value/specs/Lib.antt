@@ -1,0 +1,6 @@
+-- The value of a gate.
+pub mod Value
+pub mod Told
+pub mod Steps
+pub mod Theorems
+pub mod Cases

@@ -1,0 +1,163 @@
+-- "The message header": its table, its rules, and what is read of it.
+use Prim.Native.Nat.{ℕ, _+_}
+use mathlib.Core.Bool.{Bool, not}
+use mathlib.Core.List.{List, [], _∷_, _++_}
+use lib.Dec.{ltb, eqb}
+use lib.ListN.{length, drop}
+use Rattle.wire.specs.Numbers.{num}
+use Rattle.wire.specs.Tables.{Field, field}
+use Rattle.wire.specs.Checks.{pick, both, among, Check, check}
+use Rattle.wire.specs.Answers.{Answer, rule}
+use Rattle.wire.specs.Sizes.{bytes, halfwords, halved, odd}
+use Rattle.wire.specs.declared.Halfwords.{Halfwords}
+use Rattle.header.specs.declared.Header.{Header}
+
+-- "16 bytes, in order: size in halfwords with the header included (2 bytes), channel (1), type (1), sequence number (2), date (2),
+-- milliseconds of the day (4), number of segments N (2), segment number (2)."
+abbrev pub headerTable : Header → List Field
+headerTable h =
+    field 2 (h .size .0)
+    ∷ field 1 (h .channel)
+    ∷ field 1 (h .kind)
+    ∷ field 2 (h .sequence)
+    ∷ field 2 (h .date)
+    ∷ field 4 (h .milliseconds)
+    ∷ field 2 (h .segments)
+    ∷ field 2 (h .number)
+    ∷ []
+
+abbrev pub headerSize : ℕ
+headerSize = 16
+
+-- the values that a message begins with, as stored
+unfoldable pub storedIn : List ℕ → Header
+storedIn b = record {
+  size = halfwords (num 2 b 0);
+  channel = num 1 b 2;
+  kind = num 1 b 3;
+  sequence = num 2 b 4;
+  date = num 2 b 6;
+  milliseconds = num 4 b 8;
+  segments = num 2 b 12;
+  number = num 2 b 14;
+}
+
+-- "Where N is 1, any segment number is accepted and reported as 1" (K1): what the rules below are asked of, and what is reported
+abbrev pub reportedNumber : ℕ → ℕ → ℕ
+reportedNumber n k = pick (eqb n 1) 1 k
+
+abbrev pub withNumber : Header → ℕ → Header
+withNumber h k = record {
+  size = h .size;
+  channel = h .channel;
+  kind = h .kind;
+  sequence = h .sequence;
+  date = h .date;
+  milliseconds = h .milliseconds;
+  segments = h .segments;
+  number = k;
+}
+
+-- all other values count, and are reported, as stored
+abbrev pub asReported : Header → Header
+asReported h = withNumber h (reportedNumber (h .segments) (h .number))
+
+-- the header that a message begins with
+unfoldable pub headerIn : List ℕ → Header
+headerIn b = asReported (storedIn b)
+
+-- the data of a message: what follows its header
+abbrev pub dataIn : List ℕ → List ℕ
+dataIn b = drop headerSize b
+
+-- "Size is 8 to 65,534,"
+abbrev pub leastSize : Halfwords
+leastSize = halfwords 8
+
+abbrev pub mostSize : Halfwords
+mostSize = halfwords 65534
+
+abbrev pub tooSmall : Halfwords → Bool
+tooSmall size = ltb (size .0) (leastSize .0)
+
+abbrev pub tooLarge : Halfwords → Bool
+tooLarge size = ltb (mostSize .0) (size .0)
+
+-- "and the frame's body is exactly twice that in bytes": it has an even number of bytes, and half of it is the size
+abbrev pub notTheBody : Halfwords → ℕ → Bool
+notTheBody size long = not (eqb (halved (bytes long) .0) (size .0))
+
+abbrev pub sizeChecks : Halfwords → ℕ → List Check
+sizeChecks size long = check 5 (tooSmall size) ∷ check 5 (tooLarge size) ∷ check 5 (odd long) ∷ check 5 (notTheBody size long) ∷ []
+
+-- "Types permitted: 1 to 13, 15, 18, 31."
+abbrev pub permittedTypes : List ℕ
+permittedTypes = 1 ∷ 2 ∷ 3 ∷ 4 ∷ 5 ∷ 6 ∷ 7 ∷ 8 ∷ 9 ∷ 10 ∷ 11 ∷ 12 ∷ 13 ∷ 15 ∷ 18 ∷ 31 ∷ []
+
+abbrev pub radialType : ℕ
+radialType = 31
+
+abbrev pub notPermitted : ℕ → Bool
+notPermitted kind = not (among kind permittedTypes)
+
+-- "N is 1 to 128;"
+abbrev pub mostSegments : ℕ
+mostSegments = 128
+
+abbrev pub noSegments : ℕ → Bool
+noSegments n = ltb n 1
+
+abbrev pub tooManySegments : ℕ → Bool
+tooManySegments n = ltb mostSegments n
+
+-- "the segment number is 1 to N."
+abbrev pub numberTooLow : ℕ → Bool
+numberTooLow k = ltb k 1
+
+abbrev pub numberTooHigh : ℕ → ℕ → Bool
+numberTooHigh n k = ltb n k
+
+-- "Type 31 has N = 1."
+abbrev pub radialCut : ℕ → ℕ → Bool
+radialCut kind n = both (eqb kind radialType) (not (eqb n 1))
+
+-- "For any other type the size is at most 1,208."
+abbrev pub segmentSize : Halfwords
+segmentSize = halfwords 1208
+
+abbrev pub segmentTooLarge : Halfwords → ℕ → Bool
+segmentTooLarge size kind = both (not (eqb kind radialType)) (ltb (segmentSize .0) (size .0))
+
+abbrev pub segmentChecks : Halfwords → ℕ → ℕ → ℕ → List Check
+segmentChecks size kind n k =
+    check 7 (noSegments n)
+    ∷ check 7 (tooManySegments n)
+    ∷ check 7 (numberTooLow k)
+    ∷ check 7 (numberTooHigh n k)
+    ∷ check 7 (radialCut kind n)
+    ∷ check 7 (segmentTooLarge size kind)
+    ∷ []
+
+-- "Date is at least 1; milliseconds at most 86,399,999."
+abbrev pub dateTooLow : ℕ → Bool
+dateTooLow date = ltb date 1
+
+abbrev pub timeTooHigh : ℕ → Bool
+timeTooHigh milliseconds = ltb 86399999 milliseconds
+
+abbrev pub timeChecks : ℕ → ℕ → List Check
+timeChecks date milliseconds = check 8 (dateTooLow date) ∷ check 8 (timeTooHigh milliseconds) ∷ []
+
+-- the checks of a header's own values, 5 to 8, in a message of `long` bytes
+abbrev pub valueChecks : Header → ℕ → List Check
+valueChecks h long =
+    sizeChecks (h .size) long
+    ++ (check 6 (notPermitted (h .kind)) ∷ segmentChecks (h .size) (h .kind) (h .segments) (h .number) ++ timeChecks (h .date) (h .milliseconds))
+
+-- "Header: 4 to 8 rising."
+abbrev pub headerChecks : List ℕ → List Check
+headerChecks b = check 4 (ltb (length b) headerSize) ∷ valueChecks (headerIn b) (length b)
+
+-- what a message, a data frame's body, answers: its header
+unfoldable pub headerOf : List ℕ → Answer Header
+headerOf b = rule (headerChecks b) (headerIn b)

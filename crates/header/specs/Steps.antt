@@ -1,0 +1,21 @@
+-- What the steps of reading a header answer, each by itself: the stored values, the number of their refusal, the number that is reported.
+use Prim.Native.Nat.{ℕ}
+use mathlib.Core.List.{List, [], _∷_}
+use lib.Dec.{ltb}
+use lib.ListN.{length}
+use Rattle.wire.specs.Numbers.{fetched}
+use Rattle.wire.specs.Checks.{pick, check, decide}
+use Rattle.header.specs.declared.Header.{Header}
+use Rattle.header.specs.Header.{headerSize, storedIn, reportedNumber, withNumber, asReported, valueChecks}
+
+-- the values of a message before they are checked: those of no bytes where the message is too short for a header
+unfoldable pub storedOr0 : List ℕ → Header
+storedOr0 b = pick (ltb (length b) headerSize) (storedIn []) (storedIn b)
+
+-- the number of refusal of a message of `long` bytes that has the stored values h, or 0
+unfoldable pub refusalOf : Header → ℕ → ℕ
+refusalOf h long = decide (check 4 (ltb long headerSize) ∷ valueChecks (asReported h) long) (λ (n : ℕ). n) 0
+
+-- the header h with the number that the message b reports
+abbrev pub reportedFrom : List ℕ → Header → Header
+reportedFrom b h = withNumber h (reportedNumber (h .segments) (fetched 2 b 14))

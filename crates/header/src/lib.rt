@@ -1,0 +1,214 @@
+// The message header: the 16 bytes that a data frame's body begins with.
+ghost use mathlib.Core.Path.{_≡_};
+ghost use mathlib.Core.List.{[]};
+ghost use Prim.Native.Nat.{_≤_};
+ghost use Rattle.wire.specs.Numbers.{fetched};
+ghost use Rattle.wire.specs.Checks.{someBroken};
+ghost use Rattle.header.specs.Header.{headerSize, headerIn, headerOf, reportedNumber, notPermitted, sizeChecks, segmentChecks, timeChecks};
+ghost use Rattle.header.specs.Steps.{storedOr0, reportedFrom, refusalOf};
+ghost use Rattle.header.specs.Told.{tellHeader};
+use wire::Bytes;
+use wire::Halfwords;
+use wire::refusal;
+
+// The values of a header. `kind` is the type of Table I, a word that the language keeps for itself.
+pub struct Header {
+    pub size: Halfwords,
+    pub channel: u8,
+    pub kind: u8,
+    pub sequence: u16,
+    pub date: u16,
+    pub milliseconds: u32,
+    pub segments: u16,
+    pub number: u16,
+}
+
+pub enum HeaderAnswer {
+    Read(Header),
+    Refused(u8),
+}
+
+const HEADER: usize = 16;
+
+const MOST_BYTES: usize = 131068;
+
+const RADIAL: u8 = 31;
+
+const MOST_SEGMENTS: u16 = 128;
+
+const SEGMENT_SIZE: u32 = 1208;
+
+const LAST_MILLISECOND: u32 = 86399999;
+
+// The header of a message, which is a data frame's whole body.
+pub fn read_header(message: &[u8]) -> HeaderAnswer
+    ensures { λ r. ⌜ tellHeader r ≡ headerOf (now (message .entry)) ⌝ }
+{
+    let h = stored(message);
+    let number = check_header(h, message.len());
+    if number != 0 {
+        return HeaderAnswer::Refused(number);
+    }
+    HeaderAnswer::Read(reported(message, h))
+}
+
+// The values that a message begins with, not yet checked: those of no bytes where the message is too short for a header.
+pub fn stored(message: &[u8]) -> Header
+    ensures { λ r. ⌜ r ≡ storedOr0 (now (message .entry)) ⌝ }
+{
+    if message.len() < HEADER {
+        return no_header();
+    }
+    let size = wire::fetch16(message, 0) as u32;
+    let channel = wire::fetch8(message, 2);
+    let kind = wire::fetch8(message, 3);
+    let sequence = wire::fetch16(message, 4);
+    let date = wire::fetch16(message, 6);
+    let milliseconds = wire::fetch32(message, 8);
+    let segments = wire::fetch16(message, 12);
+    let number = wire::fetch16(message, 14);
+    Header {
+        size: Halfwords(size),
+        channel,
+        kind,
+        sequence,
+        date,
+        milliseconds,
+        segments,
+        number,
+    }
+}
+
+// The header that no bytes spell.
+pub fn no_header() -> Header
+    ensures { λ r. ⌜ r ≡ headerIn [] ⌝ }
+{
+    Header {
+        size: Halfwords(0),
+        channel: 0,
+        kind: 0,
+        sequence: 0,
+        date: 0,
+        milliseconds: 0,
+        segments: 0,
+        number: 0,
+    }
+}
+
+// The header h with the number that the message reports.
+pub fn reported(message: &[u8], h: Header) -> Header
+    ensures { λ r. ⌜ r ≡ reportedFrom (now (message .entry)) h ⌝ }
+{
+    let size = h.size;
+    let number = number_in(message, h.segments);
+    Header {
+        size,
+        channel: h.channel,
+        kind: h.kind,
+        sequence: h.sequence,
+        date: h.date,
+        milliseconds: h.milliseconds,
+        segments: h.segments,
+        number,
+    }
+}
+
+// Of one segment the two bytes are not looked at. They are fetched here once more, and not taken from a header, so that the compiler
+// makes a branch of it: it is quicker where most messages are of one segment.
+fn number_in(message: &[u8], segments: u16) -> u16
+    ensures { λ r. ⌜ r ≡ reportedNumber segments (fetched 2 (now (message .entry)) 14) ⌝ }
+{
+    if segments != 1 {
+        return wire::fetch16(message, 14);
+    }
+    1
+}
+
+// The number of refusal of a message of `long` bytes that has these stored values, or 0. It takes the values and not the bytes, so that it is
+// small enough to be put in line wherever a header is read.
+pub fn check_header(h: Header, long: usize) -> u8
+    ensures { λ r. ⌜ r ≡ refusalOf h long ⌝ }
+{
+    if long < HEADER {
+        return refusal::MESSAGE_SHORT;
+    }
+    if breaks_size(h.size, long) {
+        return refusal::SIZE;
+    }
+    if breaks_type(h.kind) {
+        return refusal::TYPE;
+    }
+    if breaks_segment(h.size, h.kind, h.segments, h.number) {
+        return refusal::SEGMENT;
+    }
+    if breaks_time(h.date, h.milliseconds) {
+        return refusal::DATE_OR_TIME;
+    }
+    0
+}
+
+// A header's bytes are 8 halfwords and 131,068 bytes are 65,534, so a size that is half of the message is within both limits.
+fn breaks_size(size: Halfwords, long: usize) -> bool
+    requires { ⌜ headerSize ≤ long ⌝ }
+    ensures { λ r. ⌜ r ≡ someBroken (sizeChecks size long) ⌝ }
+{
+    if MOST_BYTES < long {
+        return true;
+    }
+    let half = wire::to_halfwords(Bytes(long as u32));
+    if half.0 != size.0 {
+        return true;
+    }
+    long % 2 != 0
+}
+
+// Whether a type is not one of those permitted. Radials come first, as most messages are.
+pub fn breaks_type(kind: u8) -> bool
+    ensures { λ r. ⌜ r ≡ notPermitted kind ⌝ }
+{
+    if kind == RADIAL {
+        return false;
+    }
+    if kind <= 13 {
+        return kind < 1;
+    }
+    if kind == 15 {
+        return false;
+    }
+    kind != 18
+}
+
+// Of one segment the number is not looked at.
+fn breaks_segment(size: Halfwords, kind: u8, segments: u16, number: u16) -> bool
+    ensures { λ r. ⌜ r ≡ someBroken (segmentChecks size kind segments (reportedNumber segments number)) ⌝ }
+{
+    if kind == RADIAL {
+        return segments != 1;
+    }
+    if SEGMENT_SIZE < size.0 {
+        return true;
+    }
+    if segments < 1 {
+        return true;
+    }
+    if MOST_SEGMENTS < segments {
+        return true;
+    }
+    if segments == 1 {
+        return false;
+    }
+    if number < 1 {
+        return true;
+    }
+    segments < number
+}
+
+// Whether a date or a time of day is out of range.
+pub fn breaks_time(date: u16, milliseconds: u32) -> bool
+    ensures { λ r. ⌜ r ≡ someBroken (timeChecks date milliseconds) ⌝ }
+{
+    if date < 1 {
+        return true;
+    }
+    LAST_MILLISECOND < milliseconds
+}

@@ -1,0 +1,3 @@
+-- The laws of zones that rise, and of checked parts one after the other.
+pub mod StepLaws
+pub mod RisingLaws

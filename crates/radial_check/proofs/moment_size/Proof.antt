@@ -1,0 +1,18 @@
+use native.Mathlib.Nat.{mul-le-mul}
+use native.Mathlib.Omega.{arith}
+use Prim.Native.Nat.{_/_}
+use borrow.Author.Needs.{needs}
+use Rattle.radial_check.proofs.moment_size.Statement.{statement}
+use Rattle.radial_check.proofs.moment_size.Tie as tie
+
+mul-result : tie.Need-mul-result
+mul-result c = omega (arith, mul-le-mul {n₁ = c .args .gates} {m₁ = c .args .word / 8} {n₂ = 65535} {m₂ = 31} (omega arith) (omega arith))
+
+add-result : tie.Need-add-result
+add-result c = omega (arith, mul-le-mul {n₁ = c .args .gates} {m₁ = c .args .word / 8} {n₂ = 65535} {m₂ = 31} (omega arith) (omega arith))
+
+returns : tie.Need-returns
+returns c = search needs
+
+pub moment-size-spec : {M : Type 1} → statement M
+moment-size-spec = tie.close (tie.spec mul-result add-result returns)

@@ -1,0 +1,2 @@
+-- What the private functions of the check promise each other.
+pub mod Steps

@@ -1,0 +1,3 @@
+-- What is promised where gates are handed over, and what the private functions promise each other.
+pub mod Told
+pub mod Steps

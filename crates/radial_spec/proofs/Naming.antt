@@ -1,0 +1,195 @@
+-- What a description names, byte by byte, and that nothing else changes an answer. Assumes nothing.
+use Prim.Native.Nat.{ℕ, zero, suc, _+_, _-_, _*_, _/_, _≤_, _<_}
+use native.Mathlib.Omega.{arith}
+use mathlib.Core.Path.{_≡_, refl, sym, ap, subst, _∙_}
+use mathlib.Core.Bool.{Bool, true, false}
+use mathlib.Core.Logic.{inl, inr}
+use mathlib.Core.List.{List, [], _∷_, _++_, map}
+use lib.Dec.{eqb}
+use lib.ListN.{length, getD, drop}
+use Rattle.wire.specs.Numbers.{num, Octets}
+use Rattle.wire.specs.Checks.{pick}
+use Rattle.wire.specs.Tables.{field, render, Spells}
+use Rattle.wire.specs.Answers.{Answer, refused, given}
+use Rattle.wire.proofs.CheckLaws.{never}
+use Rattle.wire.proofs.ListLaws.{same-bytes}
+use Rattle.wire.proofs.TableLaws.{render-length, spelt, nums-spell, total-run}
+use Rattle.wire.proofs.AnswerLaws.{rule-given}
+use Rattle.wire.proofs.NumberLaws.{nums-length, nums-at}
+use Rattle.radial_spec.specs.Description.{constants, RVOL, RELV, RRAD, momentHead, mostGates, wordSizes, Member, Piece, Moment, Description, gates}
+use Rattle.radial_spec.specs.Description.{wordBytes, gateBytes, momentSize, momentPieces, pieces, InPieces, Named, AllStand, Layout, MomentsLie, blockEnd, momentEnd}
+use Rattle.radial_spec.specs.Refusal.{sizeIn, pointer, part, momentAt, momentsAt, countIn, description, radialChecks, radialOf}
+use Rattle.radial_spec.specs.Lookups.{onward, momentNamed, momentOf, momentLying, blockOf, gatesIn}
+use Rattle.radial_spec.specs.Lookups.{gatesOf}
+use Rattle.radial_spec.specs.Theorems.{InBlocks, Listed, NamedExactly, Unnamed, CodeAt, GateWords}
+use Rattle.radial_spec.proofs.Runs.{part-spelt-from}
+use Rattle.radial_spec.proofs.Accepted.{block-total, moment-total, places-total, accepted, agreed}
+
+-- ---- the bytes that are named
+moments-in : (ms : List Moment) (i : ℕ) → InPieces (momentPieces ms) i → InBlocks (map momentLying ms) i
+moments-in [] i h = h
+moments-in (m ∷ ms) i (inl h) = inl (h .0, omega (arith, h .1, moment-total m))
+moments-in (m ∷ ms) i (inr h) = inr (moments-in ms i h)
+
+in-moments : (ms : List Moment) (i : ℕ) → InBlocks (map momentLying ms) i → InPieces (momentPieces ms) i
+in-moments [] i h = h
+in-moments (m ∷ ms) i (inl h) = inl (h .0, omega (arith, h .1, moment-total m))
+in-moments (m ∷ ms) i (inr h) = inr (in-moments ms i h)
+
+named-listed : (d : Description) (i : ℕ) → Named d i → Listed d i
+named-listed d i (inl h) = inl (omega (arith, h .1), λ e. omega (arith, h .1))
+named-listed d i (inr (inl h)) = inl (omega (arith, h .1), λ e. omega (arith, h .0))
+named-listed d i (inr (inr (inl h))) = inr (inl (h .0, omega (arith, h .1, places-total (d .moments))))
+named-listed d i (inr (inr (inr (inl h)))) = inr (inr (inl (h .0, omega (arith, h .1, block-total RVOL (d .volumeBlock)))))
+named-listed d i (inr (inr (inr (inr (inl h))))) = inr (inr (inr (inl (h .0, omega (arith, h .1, block-total RELV (d .elevationBlock))))))
+named-listed d i (inr (inr (inr (inr (inr (inl h)))))) =
+    inr (inr (inr (inr (inl (h .0, omega (arith, h .1, block-total RRAD (d .radialBlock)))))))
+named-listed d i (inr (inr (inr (inr (inr (inr h)))))) = inr (inr (inr (inr (inr (moments-in (d .moments) i h)))))
+
+listed-named : (d : Description) (i : ℕ) → Listed d i → Named d i
+listed-named d i (inl h) = go (i - 16) refl
+  where
+    go : (n : ℕ) → i - 16 ≡ n → Named d i
+    go zero e = inl (omega arith, omega arith)
+    go (suc zero) e = absurd (h .1 (omega arith))
+    go (suc (suc n)) e = inr (inl (omega arith, omega (arith, h .0)))
+listed-named d i (inr (inl h)) = inr (inr (inl (h .0, omega (arith, h .1, places-total (d .moments)))))
+listed-named d i (inr (inr (inl h))) = inr (inr (inr (inl (h .0, omega (arith, h .1, block-total RVOL (d .volumeBlock))))))
+listed-named d i (inr (inr (inr (inl h)))) = inr (inr (inr (inr (inl (h .0, omega (arith, h .1, block-total RELV (d .elevationBlock)))))))
+listed-named d i (inr (inr (inr (inr (inl h))))) =
+    inr (inr (inr (inr (inr (inl (h .0, omega (arith, h .1, block-total RRAD (d .radialBlock))))))))
+listed-named d i (inr (inr (inr (inr (inr h))))) = inr (inr (inr (inr (inr (inr (in-moments (d .moments) i h))))))
+
+pub named-exactly : NamedExactly
+named-exactly d i = (λ h. named-listed d i h, λ h. listed-named d i h)
+
+-- ---- bodies that are equal at every named byte
+stand-same : (b b′ : List ℕ) (xs : List Piece) → length b′ ≡ length b → ((i : ℕ) → InPieces xs i → getD b′ i 0 ≡ getD b i 0) → AllStand b xs
+    → AllStand b′ xs
+stand-same b b′ [] e f s = tt
+stand-same b b′ (x ∷ xs) e f s = (
+  same-bytes b b′ (x .place) (length (render (x .fields))) e (λ i lo hi. f i (inl (lo, omega (arith, hi, render-length (x .fields))))) ∙ s .0,
+  stand-same b b′ xs e (λ i h. f i (inr h)) (s .1),
+)
+
+-- ---- what a lookup found
+record Went {A B : Type 0} (a : Answer A) (f : A → Answer B) (w : B) : Type 0 where
+  value : A
+  was : a ≡ given value
+  gave : f value ≡ given w
+
+onward-given : {A B : Type 0} (a : Answer A) (f : A → Answer B) (w : B) → onward a f ≡ given w → Went a f w
+onward-given (refused n) f w e = never (cc e)
+onward-given (given v) f w e = record { value = v; was = refl; gave = e }
+
+-- a moment that is found is one of the moments
+found-named : (name : ℕ) (ms : List Moment) (m : Moment) → momentNamed name ms ≡ given m → (i : ℕ) → m .place ≤ i → i < m .place + momentSize m
+    → InPieces (momentPieces ms) i
+found-named name [] m e i lo hi = never (cc e)
+found-named name (x ∷ ms) m e i lo hi = go (eqb (x .name) name) e (λ k. found-named name ms m k i lo hi)
+  where
+    go : (t : Bool) → pick t (given x) (momentNamed name ms) ≡ given m → (momentNamed name ms ≡ given m → InPieces (momentPieces ms) i)
+        → InPieces (momentPieces (x ∷ ms)) i
+    go true k later = let q : x ≡ m = cc k in inl (rw q (lo, omega (arith, moment-total m)))
+    go false k later = inr (later k)
+
+pub unnamed : Unnamed
+unfolding momentOf blockOf gatesOf
+unnamed b b′ d o e given-d same =
+    let h = agreed b d o given-d in
+    let lay : Layout (length b′) d = rw e (h .0) in
+    let again : radialOf b′ ≡ radialOf b =
+    accepted b′ d lay (stand-same b b′ (pieces d) e same (h .1)) ∙ sym given-d
+    in
+    record {
+      radial = again;
+      moment = λ name. rw again refl;
+      block = λ k. rw again refl;
+      gates = λ name. rw again refl;
+      codes = λ name p k.
+          let g = onward-given (momentOf b name) (λ m. given (gatesIn m)) p k in
+          let r = onward-given (radialOf b) (λ x. momentNamed name (x .moments)) (g .value) (g .was) in
+          let x : r .value ≡ d = cc (r .was, given-d) in
+          let q : gatesIn (g .value) ≡ p = cc (g .gave) in
+          rw (← q)
+          (same-bytes b b′ (g .value .place + momentHead) (gateBytes (g .value)) e
+          (λ i lo hi. same i (inr (inr (inr (inr (inr (inr (found-named name (d .moments) (g .value) (rw x at (r .gave)) i (omega arith) (omega arith))))))))));
+    }
+
+-- ---- a moment that is found was read at its place
+record ReadAt (b : List ℕ) (m : Moment) : Type 0 where
+  at : ℕ
+  reads : momentAt at (drop at b) ≡ m
+
+found-read : (b : List ℕ) (name q n : ℕ) (m : Moment) → momentNamed name (momentsAt b q n) ≡ given m → ReadAt b m
+found-read b name q zero m e = never (cc e)
+found-read b name q (suc n) m e = go (eqb (momentAt (pointer b q) (part b q) .name) name) e (λ k. found-read b name (q + 4) n m k)
+  where
+    go : (t : Bool) → pick t (given (momentAt (pointer b q) (part b q))) (momentNamed name (momentsAt b (q + 4) n)) ≡ given m
+        → (momentNamed name (momentsAt b (q + 4) n) ≡ given m → ReadAt b m) → ReadAt b m
+    go true k later = record { at = pointer b q; reads = cc k }
+    go false k later = later k
+
+-- code i of what is read at p
+read-code : (p : ℕ) (l : List ℕ) (i : ℕ) → i < gates (momentAt p l)
+    → getD (momentAt p l .codes) i 0 ≡ num (wordBytes (momentAt p l)) l (28 + i * wordBytes (momentAt p l))
+read-code p l i h =
+    nums-at (num 1 l 19 / 8) l 28 (num 2 l 8) i (omega (arith, h, nums-length (num 1 l 19 / 8) l 28 (num 2 l 8)))
+
+-- a moment that a radial answers with, by the moments that are read
+moment-of : (b : List ℕ) (name : ℕ) (m : Moment) → momentOf b name ≡ given m → (radialOf b ≡ given (description b)) × (momentNamed name (description b .moments) ≡ given m)
+unfolding momentOf radialOf
+moment-of b name m e =
+    let r = onward-given (radialOf b) (λ x. momentNamed name (x .moments)) m e in
+    let d : description b ≡ r .value = rule-given (radialChecks b) (description b) (r .value) (r .was) .1 in
+    (r .was ∙ ap given (sym d), ap (λ (x : Description). momentNamed name (x .moments)) d ∙ r .gave)
+
+-- it is what is read at its place
+pub found-at : (b : List ℕ) (name : ℕ) (m : Moment) → momentOf b name ≡ given m → momentAt (m .place) (drop (m .place) b) ≡ m
+found-at b name m e =
+    let w = found-read b name 44 (countIn b - constants) m (moment-of b name m e .1) in
+    subst (λ (x : Moment). momentAt (x .place) (drop (x .place) b) ≡ x) (w .reads) refl
+
+pub code-at : CodeAt
+code-at b name m i e h =
+    let w = found-read b name 44 (countIn b - constants) m (moment-of b name m e .1) in
+    subst
+    (λ (x : Moment). i < gates x → getD (x .codes) i 0 ≡ num (wordBytes x) (drop (x .place) b) (28 + i * wordBytes x)) (w .reads)
+    (λ k. read-code (w .at) (drop (w .at) b) i k) h
+
+-- a moment that is found lies as the layout says: its gates, its word size, and its end within the radial length
+found-within : (name z from : ℕ) (seen : List ℕ) (ms : List Moment) (m : Moment) → momentNamed name ms ≡ given m → MomentsLie from z seen ms
+    → (gates m ≤ mostGates) × Member (m .word) wordSizes × (momentEnd m ≤ z)
+found-within name z from seen [] m e lie = never (cc e)
+found-within name z from seen (x ∷ ms) m e lie =
+    go (eqb (x .name) name) e (λ k. found-within name z (momentEnd x) (seen ++ (x .name ∷ [])) ms m k (lie .1))
+  where
+    go : (t : Bool) → pick t (given x) (momentNamed name ms) ≡ given m
+        → (momentNamed name ms ≡ given m → (gates m ≤ mostGates) × Member (m .word) wordSizes × (momentEnd m ≤ z))
+        → (gates m ≤ mostGates) × Member (m .word) wordSizes × (momentEnd m ≤ z)
+    go true k later = let q : x ≡ m = cc k in rw (← q) (lie .0 .few, lie .0 .words, lie .0 .within)
+    go false k later = later k
+
+pub found-lies : (b : List ℕ) (name : ℕ) (m : Moment) → Octets b → momentOf b name ≡ given m
+    → (gates m ≤ mostGates) × Member (m .word) wordSizes × (momentEnd m ≤ length b)
+found-lies b name m o e =
+    let f = moment-of b name m e in
+    let lay = agreed b (description b) o (f .0) .0 in
+    let w = found-within name (sizeIn b) (blockEnd (description b .radialBlock)) [] (description b .moments) m (f .1) (lay .momentsLie) in
+    (w .0, w .1, omega (arith, w .2, lay .most))
+
+pub gate-words : GateWords
+gate-words b name m o e =
+    let f = moment-of b name m e in
+    let end = found-lies b name m o e .2 in
+    let within : gatesIn m .place + gatesIn m .size ≤ length b = omega (arith, end) in
+    let w = found-read b name 44 (countIn b - constants) m (f .1) in
+    let run = map (field (wordBytes m)) (m .codes) in
+    let s : Spells b (m .place + momentHead) run =
+    subst
+    (λ (x : Moment). Spells b (x .place + momentHead) (map (field (wordBytes x)) (x .codes))) (w .reads)
+    (part-spelt-from (map (field (wordBytes (momentAt (w .at) (drop (w .at) b)))) (momentAt (w .at) (drop (w .at) b) .codes)) b (w .at) 28
+    (nums-spell (num 1 (drop (w .at) b) 19 / 8) (drop (w .at) b) 28 (num 2 (drop (w .at) b) 8)))
+    in
+    let long : length (render run) ≡ gateBytes m = render-length run ∙ total-run (wordBytes m) (m .codes) in
+    (within, rw (← long) (spelt run b (m .place + momentHead) o (omega (arith, total-run (wordBytes m) (m .codes))) s))

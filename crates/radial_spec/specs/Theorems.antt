@@ -1,0 +1,60 @@
+-- Demand 3: a radial is accepted exactly if a description has its layout in the body and agrees with it, no two descriptions do, and what the
+-- description does not name changes no answer.
+use Prim.Native.Nat.{ℕ, _+_, _*_, _≤_, _<_}
+use mathlib.Core.Path.{_≡_}
+use mathlib.Core.Logic.{_⊎_, _≢_, _↔_}
+use mathlib.Core.List.{List, [], _∷_, map}
+use lib.ListN.{length, getD, drop}
+use Rattle.wire.specs.Numbers.{num, Octets}
+use Rattle.wire.specs.Tables.{field, render}
+use Rattle.wire.specs.Answers.{given}
+use Rattle.radial_spec.specs.Description.{Moment, Description, blockCount, gates, wordBytes, Named, Agrees, Layout}
+use Rattle.radial_spec.specs.Refusal.{radialOf}
+use Rattle.radial_spec.specs.Lookups.{momentOf, Lying, blocks, blockOf, Part, gatesIn, gatesOf, bytesIn}
+
+-- a body of bytes is accepted with d exactly if d has the layout of a radial in it and agrees with it
+abbrev pub Exactly : Type 0
+Exactly = (b : List ℕ) (d : Description) → Octets b → (radialOf b ≡ given d) ↔ (Layout (length b) d × Agrees b d)
+
+-- no two descriptions do
+abbrev pub Unique : Type 0
+Unique = (b : List ℕ) (d d′ : Description) → Layout (length b) d × Agrees b d → Layout (length b) d′ × Agrees b d′ → d ≡ d′
+
+-- ---- the bytes that a description names
+-- byte i is one of a block's
+abbrev pub InBlocks : List Lying → ℕ → Type 0
+InBlocks [] i = ⊥
+InBlocks (k ∷ ks) i = ((k .place ≤ i) × (i < k .place + k .size)) ⊎ InBlocks ks i
+
+-- "header bytes 0-31 but not 17, the used pointers, and every byte of every block"
+abbrev pub Listed : Description → ℕ → Type 0
+Listed d i = ((i ≤ 31) × (i ≢ 17)) ⊎ (((32 ≤ i) × (i < 32 + 4 * blockCount d)) ⊎ InBlocks (blocks d) i)
+
+-- these are named, and "nothing else"
+abbrev pub NamedExactly : Type 0
+NamedExactly = (d : Description) (i : ℕ) → Named d i ↔ Listed d i
+
+-- ---- what is not named
+-- two bodies have the same answers
+pub record SameAnswers (b b′ : List ℕ) : Type 0 where
+  pub radial : radialOf b′ ≡ radialOf b
+  pub moment : (name : ℕ) → momentOf b′ name ≡ momentOf b name
+  pub block : (k : ℕ) → blockOf b′ k ≡ blockOf b k
+  pub gates : (name : ℕ) → gatesOf b′ name ≡ gatesOf b name
+  pub codes : (name : ℕ) (p : Part) → gatesOf b name ≡ given p → bytesIn b′ p ≡ bytesIn b p
+
+-- bodies of one length do that are equal at every byte that d names
+abbrev pub Unnamed : Type 0
+Unnamed = (b b′ : List ℕ) (d : Description) → Octets b → length b′ ≡ length b → radialOf b ≡ given d
+    → ((i : ℕ) → Named d i → getD b′ i 0 ≡ getD b i 0) → SameAnswers b b′
+
+-- ---- a moment's gates
+-- "The 8- and 16-bit gates share one fact over the word width": code i of a moment is the number in its word of the block
+abbrev pub CodeAt : Type 0
+CodeAt = (b : List ℕ) (name : ℕ) (m : Moment) (i : ℕ) → momentOf b name ≡ given m → i < gates m
+    → getD (m .codes) i 0 ≡ num (wordBytes m) (drop (m .place) b) (28 + i * wordBytes m)
+
+-- "holding exactly that moment's gate words": the part of the body is inside it, and is the moment's codes, one word each
+abbrev pub GateWords : Type 0
+GateWords = (b : List ℕ) (name : ℕ) (m : Moment) → Octets b → momentOf b name ≡ given m
+    → (gatesIn m .place + gatesIn m .size ≤ length b) × (bytesIn b (gatesIn m) ≡ render (map (field (wordBytes m)) (m .codes)))

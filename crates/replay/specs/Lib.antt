@@ -1,2 +1,0 @@
--- Demand 2: a message that was written comes back.
-pub mod RoundTrip

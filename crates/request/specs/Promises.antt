@@ -1,9 +1,0 @@
--- The number and values of document 01 that the reader's answer tells.
-use Prim.Native.Nat.{ℕ}
-use Rattle.wire.specs.Answers.{Answer, refused, given}
-use Rattle.request.specs.declared.RequestAnswer.{RequestAnswer}
-use Rattle.request.specs.declared.RequestAnswer.the-variants.{Code, Refused}
-
-abbrev pub tellRequest : RequestAnswer → Answer ℕ
-tellRequest (Code code) = given code
-tellRequest (Refused n) = refused n

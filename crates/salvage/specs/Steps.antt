@@ -1,0 +1,51 @@
+-- What the private functions promise each other. No public promise cites this file.
+use Prim.Native.Nat.{ℕ, _+_, _*_, _-_, _≤_, _<_}
+use mathlib.Core.Path.{_≡_}
+use mathlib.Core.Bool.{Bool, true, _&&_}
+use mathlib.Core.List.{List, _++_, flatten}
+use lib.Dec.{leb}
+use lib.ListN.{length, take, drop}
+use Rattle.wire.specs.Writing.{filled}
+use Rattle.salvage_spec.specs.Walk.{stands, run, stepsOf, framesOf, runsOf, keptOf, skippedOf}
+use Rattle.salvage_spec.specs.Salvage.{numbers}
+use Rattle.salvage.specs.declared.Stretch.{Stretch}
+use Rattle.salvage.specs.declared.Totals.{Totals}
+
+-- from a place on to another, frames that pass and nothing else: so many, and their bytes
+pub record Frames (b : List ℕ) (from to count : ℕ) : Type 0 where
+  pub forward : from + count ≤ to
+  pub within : to ≤ length b
+  pub each : List (List ℕ)
+  pub counted : count ≡ length each
+  pub bytes : flatten each ≡ take (to - from) (drop from b)
+  pub kept : framesOf (stepsOf (drop from b)) ≡ each ++ framesOf (stepsOf (drop to b))
+  pub none : runsOf from from (stepsOf (drop from b)) ≡ runsOf to to (stepsOf (drop to b))
+
+-- as many as follow one another there
+pub record StretchFrom (b : List ℕ) (from : ℕ) (r : Stretch) : Type 0 where
+  pub frames : Frames b from (r .next) (r .frames)
+  pub some : stands (drop from b) ≡ true → from < r .next
+
+-- what stands in an output that held `out`, with `list` from a place on
+abbrev pub laid : List ℕ → ℕ → List ℕ → List ℕ
+laid out at list = take at out ++ (list ++ drop (length list) (drop at out))
+
+-- it stands there, if there was room for it
+abbrev pub Laid : List ℕ → ℕ → List ℕ → List ℕ → Type 0
+Laid out at list after = at + length list ≤ length out → after ≡ laid out at list
+
+pub record LaidRun (runs : List ℕ) (count first next r : ℕ) (after : List ℕ) : Type 0 where
+  pub counted : r ≡ count + length (run first next)
+  pub listed : Laid runs (2 * count) (numbers (run first next)) after
+
+-- all of it is counted, and each output holds it if there was room
+pub record WalkedOver (b out runs : List ℕ) (r : Totals) (out′ runs′ : List ℕ) : Type 0 where
+  pub kept : r .kept ≡ length (keptOf b)
+  pub long : r .long ≡ length (flatten (keptOf b))
+  pub count : r .runs ≡ length (skippedOf b)
+  pub output : length (flatten (keptOf b)) ≤ length out → out′ ≡ filled (flatten (keptOf b)) out
+  pub listed : 2 * length (skippedOf b) ≤ length runs → runs′ ≡ filled (numbers (skippedOf b)) runs
+
+-- both outputs have room
+abbrev pub roomFor : List ℕ → List ℕ → List ℕ → Bool
+roomFor b out runs = leb (length (flatten (keptOf b))) (length out) && leb (2 * length (skippedOf b)) (length runs)

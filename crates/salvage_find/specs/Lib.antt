@@ -1,0 +1,2 @@
+-- What the private functions promise each other where frames are found.
+pub mod Steps

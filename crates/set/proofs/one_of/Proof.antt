@@ -1,0 +1,15 @@
+use borrow.Author.Tests.{eq-eqb, ne-eqb}
+use borrow.Author.Needs.{needs}
+use Rattle.set.proofs.one_of.Statement.{statement}
+use Rattle.set.proofs.one_of.Tie as tie
+use Rattle.set.proofs.one_of.Reads as reads
+use Rattle.set.proofs.one_of.Lts as lts
+
+returns : tie.Need-returns
+returns c = simp (eq-eqb _ _ (c .if1 .taken))
+
+returns-2 : tie.Need-returns-2
+returns-2 c = simp (ne-eqb _ _ (c .if1 .left))
+
+pub one-of-spec : {M : Type 1} → statement M
+one-of-spec = tie.close (tie.spec returns returns-2)

@@ -1,0 +1,3 @@
+-- What the answer of a set tells, and what the private functions promise each other.
+pub mod Told
+pub mod Steps

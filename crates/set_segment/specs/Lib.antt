@@ -1,0 +1,2 @@
+-- What the answer of a segment tells.
+pub mod Told

@@ -1,0 +1,13 @@
+-- What the crates above cite of sets.
+pub mod OrderLaws
+pub mod FrameFacts
+pub mod NumberedLaws
+pub mod WalkLaws
+pub mod PrefixLaws
+pub mod FrameLists
+pub mod OrderFree
+pub mod Accepted
+pub mod OutputApart
+pub mod AnyOrder
+pub mod LoneNumber
+pub mod CasesHold
