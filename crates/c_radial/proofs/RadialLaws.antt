@@ -6,9 +6,10 @@ use Rattle.wire.specs.Answers.{Answer, refused, given}
 use Rattle.wire.proofs.CheckLaws.{never}
 use Rattle.radial_spec.specs.Description.{Moment, Description}
 use Rattle.radial_spec.specs.Lookups.{Asked, noSuch, lies}
-use Rattle.radial.specs.declared.Heading.{Heading}
+use Rattle.radial_heading.specs.declared.Heading.{Heading}
 use Rattle.radial.specs.declared.MomentHead.{MomentHead}
-use Rattle.radial.specs.Told.{headOf, shown, headingOf, Told, headIfAny, blockShown}
+use Rattle.radial.specs.Told.{headOf, shown, Told, headIfAny, blockShown}
+use Rattle.radial_heading.specs.Told.{headingShown}
 use Rattle.radial.specs.declared.Lying.{Lying as Placed}
 use Rattle.c_radial.specs.declared.UlmRadial.{UlmRadial}
 use Rattle.c_radial.specs.Face.{radialFace, noBlock, constantFace, lyingFace, blockFace}
@@ -34,7 +35,7 @@ radialShown r = record {
   blocks = r .count;
 }
 
-pub radial-shown : (a : Answer Description) → radialShown (headingOf (shown a)) ≡ radialFace a
+pub radial-shown : (a : Answer Description) → radialShown (headingShown a) ≡ radialFace a
 radial-shown (refused n) = refl
 radial-shown (given d) = refl
 

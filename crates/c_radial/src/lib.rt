@@ -49,7 +49,7 @@ pub struct UlmBlock {
 pub fn radial(body: &[u8]) -> UlmRadial
     ensures { λ r. ⌜ r ≡ radialFace (radialOf (now (body .entry))) ⌝ }
 {
-    let read = radial::read_heading(body);
+    let read = radial_heading::read_heading(body);
     let h = read.header;
     UlmRadial {
         refusal: read.refusal as u32,

@@ -11,7 +11,7 @@ use lib.Seq.{take-at}
 use borrow.Author.Tests.{ne-eqb}
 use Rattle.wire.specs.Numbers.{num, nums}
 use Rattle.wire.specs.Checks.{Check, first, pick}
-use Rattle.wire.specs.Answers.{Answer, refused, given, numberOf}
+use Rattle.wire.specs.Answers.{Answer, refused, given}
 use Rattle.wire.proofs.CheckLaws.{never}
 use Rattle.wire.proofs.AnswerLaws.{rule-given, rule-refused}
 use Rattle.wire.proofs.NumberLaws.{nums-length}
@@ -24,11 +24,6 @@ use Rattle.radial.specs.declared.Radial.{Radial}
 use Rattle.radial.specs.Told.{headOf, spanOf, noHead, shown}
 use Rattle.radial.specs.Theorems.{blockFrom, momentFrom, handed, Handed, HandedExactly}
 use Rattle.radial.proofs.HeadLaws.{map-length}
-
--- the struct's number is the answer's
-pub shown-number : (a : Answer Description) → shown a .refusal ≡ numberOf a
-shown-number (refused n) = refl
-shown-number (given d) = refl
 
 -- ---- what is handed
 block-from : (b : List ℕ) (p : ℕ) → blockFrom b (spanOf (blockAt p (drop p b))) ≡ blockAt p (drop p b)

@@ -17,12 +17,13 @@ use Rattle.wire.proofs.NumberLaws.{nums-length}
 use Rattle.radial_spec.specs.Description.{constants, Moment, Description, mostMoments}
 use Rattle.radial_spec.specs.Refusal.{sizeIn, countIn, pointer, part, nameIn, blockSays, momentSays, blockAt, momentAt, momentsAt, description, constantsChecks, momentsChecks, endAt, radialChecks, radialOf}
 use Rattle.radial_spec.proofs.Accepted.{moments-length}
-use Rattle.radial.specs.declared.Header.{Header}
-use Rattle.radial.specs.declared.Heading.{Heading}
+use Rattle.radial_heading.specs.declared.Header.{Header}
+use Rattle.radial_heading.specs.declared.Heading.{Heading}
 use Rattle.radial.specs.declared.Span.{Span}
 use Rattle.radial.specs.declared.MomentHead.{MomentHead}
 use Rattle.radial.specs.declared.Radial.{Radial}
-use Rattle.radial.specs.Told.{spanOf, headerOf, headOf, noHead, headsOf, shown, headingOf}
+use Rattle.radial.specs.Told.{spanOf, headOf, noHead, headsOf, shown}
+use Rattle.radial_heading.specs.Told.{headerOf, headingShown}
 use Rattle.radial.specs.Steps.{headAt, spanAt}
 use Rattle.radial_spec.proofs.Held.{BlockHeld, Held, held}
 
@@ -94,24 +95,13 @@ module _ (b : List ℕ) (accepted : radialOf b ≡ given (description b)) where
   abbrev all : Held b
   all = held b (description b) accepted
 
-  -- the block count is that of what is described
-  counted : countIn b ≡ constants + length (momentsAt b 44 (countIn b - constants))
-  counted = omega (arith, all .start .some, moments-length b 44 (countIn b - constants))
-
-  pub heading-is : (n : ℕ) (h : Header) → n ≡ countIn b → h ≡ headerOf (description b) → record { refusal = 0; count = n; header = h } ≡ headingOf (shown (radialOf b))
-  heading-is n h e f = (λ i. record { refusal = 0; count = (e ∙ counted) i; header = f i }) ∙ ap (λ a. headingOf (shown a)) (sym accepted)
-
-  pub read : (h : Heading) (s₁ s₂ s₃ : Span) (hs : List MomentHead) → h ≡ headingOf (shown (radialOf b)) → s₁ ≡ spanAt b 32 → s₂ ≡ spanAt b 36 → s₃ ≡ spanAt b 40
+  pub read : (h : Heading) (s₁ s₂ s₃ : Span) (hs : List MomentHead) → h ≡ headingShown (radialOf b) → s₁ ≡ spanAt b 32 → s₂ ≡ spanAt b 36 → s₃ ≡ spanAt b 40
       → hs ≡ headsOf (momentsAt b 44 (countIn b - constants))
       → record { refusal = 0; count = h .count; header = h .header; volume = s₁; elevation = s₂; radial = s₃; moments = hs } ≡ shown (radialOf b)
   read h s₁ s₂ s₃ hs e e₁ e₂ e₃ f =
-      let x : h ≡ headingOf (shown (given (description b))) = e ∙ ap (λ a. headingOf (shown a)) accepted in
+      let x : h ≡ headingShown (given (description b)) = e ∙ ap headingShown accepted in
       let v₁ = e₁ ∙ span-is b 32 (all .volume) in
       let v₂ = e₂ ∙ span-is b 36 (all .elevation) in
       let v₃ = e₃ ∙ span-is b 40 (all .radial) in
       (λ i. record { refusal = 0; count = x i .count; header = x i .header; volume = v₁ i; elevation = v₂ i; radial = v₃ i; moments = f i })
       ∙ ap shown (sym accepted)
-
-  -- the count that the heading has
-  pub count-is : (h : Heading) → h ≡ headingOf (shown (radialOf b)) → h .count ≡ countIn b
-  count-is h e = ap (λ (x : Heading). x .count) (e ∙ ap (λ a. headingOf (shown a)) accepted) ∙ sym counted

@@ -5,4 +5,5 @@ pub mod HeadLaws
 pub mod HandedLaws
 pub mod FindLaws
 pub mod BlockLaws
+pub mod CodeLaws
 pub mod OneAnswer

@@ -6,22 +6,20 @@ use mathlib.Core.List.{List}
 use Rattle.wire.proofs.CheckLaws.{never}
 use Rattle.wire.proofs.AnswerLaws.{only-answer}
 use Rattle.radial_spec.specs.Refusal.{radialOf}
-use Rattle.radial_spec.specs.Lookups.{momentOf, blockOf}
-use Rattle.radial.specs.declared.Heading.{Heading}
+use Rattle.radial_spec.specs.Lookups.{Coded, momentOf, codedOf, blockOf}
 use Rattle.radial.specs.declared.MomentHead.{MomentHead}
 use Rattle.radial.specs.declared.Radial.{Radial}
 use Rattle.radial.specs.declared.MomentAnswer.{MomentAnswer}
 use Rattle.radial.specs.declared.MomentAnswer.the-variants.{Moment as Found, Refused as NotFound}
+use Rattle.radial.specs.declared.CodeAnswer.{CodeAnswer}
+use Rattle.radial.specs.declared.CodeAnswer.the-variants.{Code, Refused as NoCode}
 use Rattle.radial.specs.declared.Lying.{Lying}
 use Rattle.radial.specs.declared.BlockAnswer.{BlockAnswer}
 use Rattle.radial.specs.declared.BlockAnswer.the-variants.{Constant, Moment as MomentBlock, NoSuch, Refused as NoBlock}
-use Rattle.radial.specs.Told.{shown, headingOf, tellMoment, headShown, Told, tellBlock, blockShown}
+use Rattle.radial.specs.Told.{shown, tellMoment, headShown, tellCoded, Told, tellBlock, blockShown}
 
 pub read-radial-only : (b : List ℕ) (r₁ r₂ : Radial) → r₁ ≡ shown (radialOf b) → r₂ ≡ shown (radialOf b) → r₁ ≡ r₂
 read-radial-only b r₁ r₂ p q = p ∙ sym q
-
-pub read-heading-only : (b : List ℕ) (r₁ r₂ : Heading) → r₁ ≡ headingOf (shown (radialOf b)) → r₂ ≡ headingOf (shown (radialOf b)) → r₁ ≡ r₂
-read-heading-only b r₁ r₂ p q = p ∙ sym q
 
 moment-apart : (a b : MomentAnswer) → tellMoment a ≡ tellMoment b → a ≡ b
 moment-apart (Found h) (Found k) e = cc e
@@ -31,6 +29,18 @@ moment-apart (NotFound n) (NotFound m) e = cc e
 
 pub moment-only : (b : List ℕ) (name : ℕ) (r₁ r₂ : MomentAnswer) → tellMoment r₁ ≡ headShown (momentOf b name) → tellMoment r₂ ≡ headShown (momentOf b name) → r₁ ≡ r₂
 moment-only b name = only-answer tellMoment moment-apart (headShown (momentOf b name))
+
+code-apart : (a b : CodeAnswer) → tellCoded a ≡ tellCoded b → a ≡ b
+code-apart (Code c) (Code d) e =
+    let p : _≡_ {A = Coded} (record { code = c .code; word = c .word; scale = c .scale; offset = c .offset }) (record { code = d .code; word = d .word; scale = d .scale; offset = d .offset })
+    = cc e in
+    λ i. Code (record { code = p i .code; word = p i .word; scale = p i .scale; offset = p i .offset })
+code-apart (Code c) (NoCode n) e = never (cc e)
+code-apart (NoCode n) (Code c) e = never (cc e)
+code-apart (NoCode n) (NoCode m) e = cc e
+
+pub code-only : (b : List ℕ) (name gate : ℕ) (r₁ r₂ : CodeAnswer) → tellCoded r₁ ≡ codedOf b name gate → tellCoded r₂ ≡ codedOf b name gate → r₁ ≡ r₂
+code-only b name gate = only-answer tellCoded code-apart (codedOf b name gate)
 
 abbrev told : Lying → Option MomentHead → Told
 told k h = record { name = k .name; place = k .place; size = k .size; head = h }

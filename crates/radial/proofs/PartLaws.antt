@@ -1,4 +1,4 @@
--- The header and the heads of blocks are cut from the body. What is read there is what the description says. Assumes nothing.
+-- The heads of blocks are cut from the body. What is read there is what the description says. Assumes nothing.
 use Prim.Native.Nat.{ℕ, _+_, _-_, _/_, _≤_}
 use mathlib.Core.Path.{_≡_, sym, ap, _∙_}
 use mathlib.Core.List.{List}
@@ -7,10 +7,10 @@ use native.Mathlib.Omega.{arith}
 use lib.Ieee.{binary32, ofBits}
 use lib.ListN.{length, take, drop}
 use Rattle.wire.specs.Numbers.{num, fetched}
-use Rattle.wire.proofs.NumberLaws.{cut-is, num-take, num-drop, nums-length}
-use Rattle.radial_spec.specs.Refusal.{pointer, part, nameIn, blockSays, momentAt, description}
+use Rattle.wire.proofs.NumberLaws.{cut-is, num-drop, nums-length}
+use Rattle.radial_spec.specs.Refusal.{pointer, part, nameIn, blockSays, momentAt}
 use Rattle.radial_check.proofs.PartLaws.{there, there-num}
-use Rattle.radial.specs.Told.{headerOf, headOf}
+use Rattle.radial.specs.Told.{headOf}
 use Rattle.radial.specs.Steps.{spanAt, headIn}
 
 -- a block's name
@@ -51,24 +51,4 @@ head-there b p =
       offset = ofBits binary32 (offset i);
       «scale_bits» = scale i;
       «offset_bits» = offset i;
-    }
-
--- the header, by the body's first 68 bytes
-pub header-there : (b : List ℕ) → headerOf (description (take 68 b)) ≡ headerOf (description b)
-header-there b =
-    λ i.
-    record {
-      station = num-take 4 68 b 0 (omega arith) i;
-      time = num-take 4 68 b 4 (omega arith) i;
-      date = num-take 2 68 b 8 (omega arith) i;
-      «azimuth_number» = num-take 2 68 b 10 (omega arith) i;
-      azimuth = num-take 4 68 b 12 (omega arith) i;
-      size = num-take 2 68 b 18 (omega arith) i;
-      spacing = num-take 1 68 b 20 (omega arith) i;
-      status = num-take 1 68 b 21 (omega arith) i;
-      «elevation_number» = num-take 1 68 b 22 (omega arith) i;
-      sector = num-take 1 68 b 23 (omega arith) i;
-      elevation = num-take 4 68 b 24 (omega arith) i;
-      spot = num-take 1 68 b 28 (omega arith) i;
-      indexing = num-take 1 68 b 29 (omega arith) i;
     }

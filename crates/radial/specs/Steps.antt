@@ -1,15 +1,15 @@
 -- What the private functions promise each other. No public promise cites this file.
-use Prim.Native.Nat.{ℕ, zero, suc, _+_, _-_, _*_, _/_}
+use Prim.Native.Nat.{ℕ, zero, suc, _+_, _-_, _*_, _/_, _^_, _≤_, _<_}
 use mathlib.Core.Option.{none, some}
 use mathlib.Core.List.{List}
 use lib.Dec.{eqb}
 use lib.Ieee.{binary32, ofBits}
-use lib.ListN.{drop}
+use lib.ListN.{length, drop}
 use Rattle.wire.specs.Numbers.{num}
 use Rattle.wire.specs.Checks.{pick}
 use Rattle.wire.specs.Answers.{Answer, refused, given}
-use Rattle.radial_spec.specs.Description.{constants, momentHead, Moment}
-use Rattle.radial_spec.specs.Refusal.{countIn, pointer, part, nameIn, blockSays, momentAt}
+use Rattle.radial_spec.specs.Description.{constants, mostGates, wordSizes, momentHead, Member, Moment}
+use Rattle.radial_spec.specs.Refusal.{countIn, pointer, part, nameIn, blockSays, momentSays, momentAt}
 use Rattle.radial.specs.declared.Span.{Span}
 use Rattle.radial.specs.declared.MomentHead.{MomentHead}
 use Rattle.radial.specs.declared.PlaceAnswer.{PlaceAnswer}
@@ -63,6 +63,25 @@ placeShown (given m) = given (m .place)
 -- by the number of the radial's refusal or 0, and the place for a name that its pointers give or 0
 abbrev pub placeAsked : ℕ → ℕ → Answer ℕ
 placeAsked number place = pick (eqb number 0) (pick (eqb place 0) (refused 21) (given place)) (refused number)
+
+-- ---- a gate's word
+-- a moment that a radial was accepted with begins at this place
+pub record MomentThere (b : List ℕ) (place : ℕ) : Type 0 where
+  pub sized : Member (num 1 (drop place b) 19) wordSizes
+  pub few : num 2 (drop place b) 8 ≤ mostGates
+  pub within : place + momentSays (drop place b) ≤ length b
+  pub low : place < 2 ^ 32
+
+-- the word of a gate is in the body
+pub record WordThere (b : List ℕ) (place word gate : ℕ) : Type 0 where
+  pub sized : Member word wordSizes
+  pub few : gate < mostGates
+  pub within : place + (momentHead + gate * (word / 8) + word / 8) ≤ length b
+  pub low : place < 2 ^ 32
+
+-- the number in it
+abbrev pub codeIn : List ℕ → ℕ → ℕ → ℕ → ℕ
+codeIn b place word gate = num (word / 8) (drop place b) (momentHead + gate * (word / 8))
 
 -- ---- a block by what was read of it
 abbrev pub constantTold : ℕ → Span → Told

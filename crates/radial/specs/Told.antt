@@ -7,33 +7,17 @@ use lib.ListN.{length, replicate}
 use lib.Ieee.{binary32, ofBits}
 use Rattle.wire.specs.Answers.{Answer, refused, given}
 use Rattle.radial_spec.specs.Description.{mostMoments, Block, Moment, Description, gates, blockSize, blockCount}
-use Rattle.radial_spec.specs.Lookups.{Asked, noSuch, lies}
-use Rattle.radial.specs.declared.Header.{Header}
+use Rattle.radial_spec.specs.Lookups.{Coded, Asked, noSuch, lies}
+use Rattle.radial_heading.specs.Told.{headerOf, noHeader}
 use Rattle.radial.specs.declared.Span.{Span}
 use Rattle.radial.specs.declared.MomentHead.{MomentHead}
 use Rattle.radial.specs.declared.Radial.{Radial}
-use Rattle.radial.specs.declared.Heading.{Heading}
 use Rattle.radial.specs.declared.MomentAnswer.{MomentAnswer}
 use Rattle.radial.specs.declared.MomentAnswer.the-variants.{Moment as Found, Refused as NotFound}
+use Rattle.radial.specs.declared.CodeAnswer.{CodeAnswer}
+use Rattle.radial.specs.declared.CodeAnswer.the-variants.{Code, Refused as NoCode}
 use Rattle.radial.specs.declared.BlockAnswer.{BlockAnswer}
 use Rattle.radial.specs.declared.BlockAnswer.the-variants.{Constant, Moment as MomentBlock, NoSuch, Refused as NoBlock}
-
-abbrev pub headerOf : Description → Header
-headerOf d = record {
-  station = d .station;
-  time = d .time;
-  date = d .date;
-  «azimuth_number» = d .azimuthNumber;
-  azimuth = d .azimuth;
-  size = d .size;
-  spacing = d .spacing;
-  status = d .status;
-  «elevation_number» = d .elevationNumber;
-  sector = d .sector;
-  elevation = d .elevation;
-  spot = d .spot;
-  indexing = d .indexing;
-}
 
 -- where a constant block lies: "kept whole" in the lent body
 abbrev pub spanOf : Block → Span
@@ -56,23 +40,6 @@ headOf m = record {
   offset = ofBits binary32 (m .offset);
   «scale_bits» = m .scale;
   «offset_bits» = m .offset;
-}
-
-abbrev pub noHeader : Header
-noHeader = record {
-  station = 0;
-  time = 0;
-  date = 0;
-  «azimuth_number» = 0;
-  azimuth = 0;
-  size = 0;
-  spacing = 0;
-  status = 0;
-  «elevation_number» = 0;
-  sector = 0;
-  elevation = 0;
-  spot = 0;
-  indexing = 0;
 }
 
 abbrev pub nowhere : Span
@@ -121,10 +88,6 @@ shown (given d) = record {
   moments = headsOf (d .moments);
 }
 
--- the reader's struct without its blocks
-abbrev pub headingOf : Radial → Heading
-headingOf r = record { refusal = r .refusal; count = r .count; header = r .header }
-
 -- ---- a moment: its head and its place, or the number of refusal
 abbrev pub tellMoment : MomentAnswer → Answer MomentHead
 tellMoment (Found h) = given h
@@ -133,6 +96,11 @@ tellMoment (NotFound n) = refused n
 abbrev pub headShown : Answer Moment → Answer MomentHead
 headShown (refused n) = refused n
 headShown (given m) = given (headOf m)
+
+-- ---- a gate's code with what it is read by, or the number of refusal
+abbrev pub tellCoded : CodeAnswer → Answer Coded
+tellCoded (Code c) = given (record { code = c .code; word = c .word; scale = c .scale; offset = c .offset })
+tellCoded (NoCode n) = refused n
 
 -- ---- a block: its name, place and length, and of a moment its head; or that there is no such block; or the number of refusal
 pub record Told : Type 0 where

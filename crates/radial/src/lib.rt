@@ -1,40 +1,22 @@
-// What an accepted body of message 31 says, handed back by value: its header, its blocks, and a moment by its name.
+// What an accepted body of message 31 says, handed back by value: its blocks, a moment by its name, and a gate of it.
 ghost use mathlib.Core.Path.{_≡_};
 ghost use Prim.Native.Nat.{_+_, _-_, _^_, _<_, _≤_};
 ghost use mathlib.Core.Option.{some};
-ghost use lib.ListN.{length};
+ghost use lib.ListN.{length, drop};
 ghost use Rattle.wire.specs.Numbers.{num, fetched};
 ghost use Rattle.wire.specs.Answers.{refused, given};
 ghost use Rattle.radial_spec.specs.Description.{constants, mostMoments, momentHead};
-ghost use Rattle.radial_spec.specs.Refusal.{countIn, pointer, momentsAt, description, radialOf};
-ghost use Rattle.radial_spec.specs.Lookups.{momentOf, blockOf};
-ghost use Rattle.radial.specs.Told.{headerOf, noHeader, noHead, headsOf, shown, headingOf, tellMoment, headShown, tellBlock, blockShown};
-ghost use Rattle.radial.specs.Steps.{spanAt, headIn, headAt, placeIn, tellPlace, placeShown, constantTold, momentTold};
+ghost use Rattle.radial_spec.specs.Refusal.{countIn, pointer, momentAt, momentsAt, description, radialOf};
+ghost use Rattle.radial_spec.specs.Lookups.{momentOf, codedIn, codedOf, blockOf};
+ghost use Rattle.radial.specs.Told.{noHead, headsOf, shown, tellMoment, headShown, tellCoded, tellBlock, blockShown};
+ghost use Rattle.radial.specs.Steps.{spanAt, headIn, headAt, placeIn, tellPlace, placeShown, MomentThere, WordThere, codeIn, constantTold, momentTold};
 use radial_check::CONSTANTS;
 use radial_check::MOMENT_HEAD;
+use radial_heading::Header;
 use wire::refusal;
-
-const HEADER_SIZE: usize = 68;
 
 // Room for as many moments as the count allows.
 pub const ROOM: usize = 6;
-
-// The header's values, as stored. Angles by their 32 bits.
-pub struct Header {
-    pub station: u32,
-    pub time: u32,
-    pub date: u16,
-    pub azimuth_number: u16,
-    pub azimuth: u32,
-    pub size: u16,
-    pub spacing: u8,
-    pub status: u8,
-    pub elevation_number: u8,
-    pub sector: u8,
-    pub elevation: u32,
-    pub spot: u8,
-    pub indexing: u8,
-}
 
 // Where a constant block lies in the body.
 pub struct Span {
@@ -71,13 +53,6 @@ pub struct Radial {
     pub moments: [MomentHead; ROOM],
 }
 
-// What a body's header says, where its radial is accepted: `refusal` and all else as in `Radial`.
-pub struct Heading {
-    pub refusal: u8,
-    pub count: u16,
-    pub header: Header,
-}
-
 // The four bytes that a moment is asked for by.
 pub type Name = [u8; 4];
 
@@ -89,6 +64,19 @@ enum PlaceAnswer {
 
 pub enum MomentAnswer {
     Moment(MomentHead),
+    Refused(u8),
+}
+
+// A gate's code, the bits of its word, and the bits of its moment's scale and offset.
+pub struct Coded {
+    pub code: u16,
+    pub word: u8,
+    pub scale: u32,
+    pub offset: u32,
+}
+
+pub enum CodeAnswer {
+    Code(Coded),
     Refused(u8),
 }
 
@@ -128,31 +116,11 @@ fn no_head() -> MomentHead
     }
 }
 
-fn no_header() -> Header
-    ensures { λ r. ⌜ r ≡ noHeader ⌝ }
-{
-    Header {
-        station: 0,
-        time: 0,
-        date: 0,
-        azimuth_number: 0,
-        azimuth: 0,
-        size: 0,
-        spacing: 0,
-        status: 0,
-        elevation_number: 0,
-        sector: 0,
-        elevation: 0,
-        spot: 0,
-        indexing: 0,
-    }
-}
-
 // A refusal: its number, and all else 0.
 fn refuse(number: u8) -> Radial
     ensures { λ r. ⌜ r ≡ shown (refused number) ⌝ }
 {
-    let header = no_header();
+    let header = radial_heading::no_header();
     let nowhere = Span {
         place: 0,
         length: 0,
@@ -167,35 +135,6 @@ fn refuse(number: u8) -> Radial
         elevation: nowhere,
         radial: nowhere,
         moments: moments,
-    }
-}
-
-fn header_of(body: &[u8]) -> Header
-    requires { ⌜ 68 ≤ length (now body) ⌝ }
-    ensures { λ r. ⌜ r ≡ headerOf (description (now (body .entry))) ⌝ }
-{
-    header_in(&body[..HEADER_SIZE])
-}
-
-// The 68 bytes of the header.
-fn header_in(head: &[u8]) -> Header
-    requires { ⌜ 68 ≤ length (now head) ⌝ }
-    ensures { λ r. ⌜ r ≡ headerOf (description (now (head .entry))) ⌝ }
-{
-    Header {
-        station: wire::fetch32(head, 0),
-        time: wire::fetch32(head, 4),
-        date: wire::fetch16(head, 8),
-        azimuth_number: wire::fetch16(head, 10),
-        azimuth: wire::fetch32(head, 12),
-        size: wire::fetch16(head, 18),
-        spacing: wire::fetch8(head, 20),
-        status: wire::fetch8(head, 21),
-        elevation_number: wire::fetch8(head, 22),
-        sector: wire::fetch8(head, 23),
-        elevation: wire::fetch32(head, 24),
-        spot: wire::fetch8(head, 28),
-        indexing: wire::fetch8(head, 29),
     }
 }
 
@@ -233,40 +172,12 @@ fn place_at(body: &[u8], at: usize) -> usize
     wire::fetch32(&body[at..end], 0) as usize
 }
 
-// The header of an accepted radial, and its count of blocks.
-pub fn read_heading(body: &[u8]) -> Heading
-    ensures { λ r. ⌜ r ≡ headingOf (shown (radialOf (now (body .entry)))) ⌝ }
-{
-    let number = radial_check::check_radial(body);
-    if number != 0 {
-        let none = no_header();
-        return Heading {
-            refusal: number,
-            count: 0,
-            header: none,
-        };
-    }
-    let values = header_of(body);
-    Heading {
-        refusal: 0,
-        count: count_of(body),
-        header: values,
-    }
-}
-
-fn count_of(body: &[u8]) -> u16
-    requires { ⌜ 68 ≤ length (now body) ⌝ }
-    ensures { λ r. ⌜ r ≡ countIn (now (body .entry)) ⌝ }
-{
-    wire::fetch16(&body[30..32], 0)
-}
-
 // Where the first moment with a name begins, by the pointers of an accepted radial; 0 where none has it.
 fn moment_place(body: &[u8], name: u32) -> u32
     requires { ⌜ radialOf (now body) ≡ given (description (now body)) ⌝ }
     ensures { λ r. ⌜ r ≡ placeIn (now (body .entry)) name ⌝ }
 {
-    let end = count_of(body) as usize;
+    let end = wire::fetch16(&body[30..32], 0) as usize;
     let mut k = CONSTANTS as usize;
     while k < end {
         let place = place_at(body, 32 + 4 * k);
@@ -324,7 +235,7 @@ fn span_of(body: &[u8], at: usize) -> Span
 pub fn read_radial(body: &[u8]) -> Radial
     ensures { λ r. ⌜ r ≡ shown (radialOf (now (body .entry))) ⌝ }
 {
-    let read = read_heading(body);
+    let read = radial_heading::read_heading(body);
     if read.refusal != 0 {
         return refuse(read.refusal);
     }
@@ -367,6 +278,51 @@ pub fn moment(body: &[u8], name: Name) -> MomentAnswer
     match place(body, wanted) {
         PlaceAnswer::Refused(number) => MomentAnswer::Refused(number),
         PlaceAnswer::At(begin) => MomentAnswer::Moment(head_at(body, begin)),
+    }
+}
+
+// The code of a gate: the word of the block at `place` that the gate's number counts to.
+fn code_in(body: &[u8], place: usize, word: u8, gate: usize) -> u16
+    requires { ⌜ WordThere (now body) place word gate ⌝ }
+    ensures { λ r. ⌜ r ≡ codeIn (now (body .entry)) place word gate ⌝ }
+{
+    if word == 16 {
+        let at = place + (28 + gate * 2);
+        let end = at + 2;
+        return wire::fetch16(&body[at..end], 0);
+    }
+    let at = place + (28 + gate);
+    let end = at + 1;
+    wire::fetch8(&body[at..end], 0) as u16
+}
+
+// A gate of the moment at `place`.
+fn coded_at(body: &[u8], place: usize, gate: usize) -> CodeAnswer
+    requires { ⌜ MomentThere (now body) place ⌝ }
+    ensures { λ r. ⌜ tellCoded r ≡ codedIn (momentAt place (drop place (now (body .entry)))) gate ⌝ }
+{
+    let end = place + MOMENT_HEAD;
+    let head = &body[place..end];
+    if wire::fetch16(head, 8) as usize <= gate {
+        return CodeAnswer::Refused(refusal::ASKED_FOR);
+    }
+    let word = wire::fetch8(head, 19);
+    CodeAnswer::Code(Coded {
+        code: code_in(body, place, word, gate),
+        word: word,
+        scale: wire::fetch32(head, 20),
+        offset: wire::fetch32(head, 24),
+    })
+}
+
+// A gate, counted from 0, of the moment with a name: its code, and how it is to be read.
+pub fn code(body: &[u8], name: Name, gate: usize) -> CodeAnswer
+    ensures { λ r. ⌜ tellCoded r ≡ codedOf (now (body .entry)) (num 4 name 0) gate ⌝ }
+{
+    let wanted = wire::fetch32(&name, 0);
+    match place(body, wanted) {
+        PlaceAnswer::Refused(number) => CodeAnswer::Refused(number),
+        PlaceAnswer::At(begin) => coded_at(body, begin as usize, gate),
     }
 }
 

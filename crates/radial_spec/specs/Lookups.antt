@@ -2,11 +2,11 @@
 use Prim.Native.Nat.{ℕ, _+_}
 use mathlib.Core.Option.{Option, none, some}
 use mathlib.Core.List.{List, [], _∷_, map}
-use lib.Dec.{eqb}
+use lib.Dec.{leb, eqb}
 use lib.ListN.{getD, take, drop}
 use Rattle.wire.specs.Checks.{pick}
 use Rattle.wire.specs.Answers.{Answer, refused, given}
-use Rattle.radial_spec.specs.Description.{RVOL, RELV, RRAD, momentHead, Block, Moment, Description, gateBytes, blockSize, momentSize}
+use Rattle.radial_spec.specs.Description.{RVOL, RELV, RRAD, momentHead, Block, Moment, Description, gates, gateBytes, blockSize, momentSize}
 use Rattle.radial_spec.specs.Refusal.{radialOf}
 
 -- a refusal stays; of what was given, what f answers
@@ -22,6 +22,22 @@ momentNamed name (m ∷ ms) = pick (eqb (m .name) name) (given m) (momentNamed n
 
 unfoldable pub momentOf : List ℕ → ℕ → Answer Moment
 momentOf b name = onward (radialOf b) (λ d. momentNamed name (d .moments))
+
+-- ---- a gate of a moment, counted from 0: its code, how wide its word is, and the moment's scale and offset, which "travel with it"
+pub record Coded : Type 0 where
+  pub code : ℕ
+  pub word : ℕ
+  pub scale : ℕ
+  pub offset : ℕ
+
+-- 21: the gate "asked for doesn't exist"
+abbrev pub codedIn : Moment → ℕ → Answer Coded
+codedIn m gate =
+    pick (leb (gates m) gate) (refused 21)
+    (given (record { code = getD (m .codes) gate 0; word = m .word; scale = m .scale; offset = m .offset }))
+
+unfoldable pub codedOf : List ℕ → ℕ → ℕ → Answer Coded
+codedOf b name gate = onward (momentOf b name) (λ m. codedIn m gate)
 
 -- ---- a block by its number, from 1
 -- a block's name, place and length and, of a moment, what it says

@@ -109,7 +109,7 @@ fn radial_line(sheet: &mut [u8; SHEET], at: usize, place: u64, whole: &[u8]) -> 
     moments(sheet, next, answer)
 }
 
-fn values(sheet: &mut [u8; SHEET], at: usize, h: radial::Header) -> usize {
+fn values(sheet: &mut [u8; SHEET], at: usize, h: radial_heading::Header) -> usize {
     let name = wide32(h.station);
     let letters = [name / 16777216, name / 65536, name / 256, name];
     let mut next = page::filled(sheet, at, b"$$$$  ", &letters);

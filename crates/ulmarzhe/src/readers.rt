@@ -85,7 +85,7 @@ pub fn of_radial(body: &[u8]) -> Told {
     radial_told(h, r.count)
 }
 
-fn radial_told(h: radial::Header, count: u16) -> Told {
+fn radial_told(h: radial_heading::Header, count: u16) -> Told {
     let values = [
         wide32(h.station),
         wide32(h.time),

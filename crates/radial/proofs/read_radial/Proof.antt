@@ -4,18 +4,18 @@ use mathlib.Core.Path.{_≡_, sym, ap, _∙_}
 use denote.Ref.{now}
 use Rattle.wire.specs.Answers.{given}
 use Rattle.radial_spec.specs.Refusal.{countIn, momentsAt, description, radialOf}
-use Rattle.radial.specs.declared.Heading.{Heading}
+use Rattle.radial_heading.specs.declared.Heading.{Heading}
 use Rattle.radial.specs.Told.{headsOf, shown}
 use Rattle.radial_spec.proofs.Held.{Held, held, number-given, number-refused}
-use Rattle.radial.proofs.HeadLaws.{count-is, read}
-use Rattle.radial.proofs.HandedLaws.{shown-number}
+use Rattle.radial_heading.proofs.HeadingLaws.{count-is, heading-number}
+use Rattle.radial.proofs.HeadLaws.{read}
 use borrow.Author.Needs.{needs}
 use Rattle.radial.proofs.read_radial.Statement.{statement}
 use Rattle.radial.proofs.read_radial.Tie as tie
 
 -- the body is accepted, and what its checks leave known
 accepted : (c : tie.After-header) → radialOf (now (c .before .before .before .before .before .args .body)) ≡ given (description (now (c .before .before .before .before .before .args .body)))
-accepted c = number-given (now (c .before .before .before .before .before .args .body)) (c .before .before .before .read-heading .result .refusal) (ap (λ (h : Heading). h .refusal) (c .before .before .before .read-heading .ensures) ∙ shown-number (radialOf (now (c .before .before .before .before .before .args .body)))) (c .before .if1 .left)
+accepted c = number-given (now (c .before .before .before .before .before .args .body)) (c .before .before .before .read-heading .result .refusal) (ap (λ (h : Heading). h .refusal) (c .before .before .before .read-heading .ensures) ∙ heading-number (radialOf (now (c .before .before .before .before .before .args .body)))) (c .before .if1 .left)
 
 all : (c : tie.After-header) → Held (now (c .before .before .before .before .before .args .body))
 all c = held (now (c .before .before .before .before .before .args .body)) _ (accepted c)
@@ -33,7 +33,7 @@ returns : tie.Need-returns
 returns c =
     let b = now (c .before .before .before .before .before .args .body) in
     let h = c .before .before .before .read-heading in
-    c .refuse .ensures ∙ sym (ap shown (number-refused b (h .result .refusal) (ap (λ (x : Heading). x .refusal) (h .ensures) ∙ shown-number (radialOf b)) (c .before .if1 .taken)))
+    c .refuse .ensures ∙ sym (ap shown (number-refused b (h .result .refusal) (ap (λ (x : Heading). x .refusal) (h .ensures) ∙ heading-number (radialOf b)) (c .before .if1 .taken)))
 
 span-of-requires : tie.Need-span-of-requires
 span-of-requires c κs = (omega (arith, all c .start .long), all c .volume .inside)

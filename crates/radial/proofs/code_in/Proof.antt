@@ -4,10 +4,10 @@ use native.Mathlib.Omega.{arith}
 use mathlib.Core.Logic.{⊎-elim}
 use mathlib.Core.Path.{_≡_, refl, ap, sym}
 use denote.Ref.{now}
-use Rattle.gate_value.proofs.GateLaws.{fetched-code}
+use Rattle.radial.proofs.CodeLaws.{fetched-code}
 use borrow.Author.Needs.{needs}
-use Rattle.gate_value.proofs.code_in.Statement.{statement}
-use Rattle.gate_value.proofs.code_in.Tie as tie
+use Rattle.radial.proofs.code_in.Statement.{statement}
+use Rattle.radial.proofs.code_in.Tie as tie
 
 mul-at : tie.Need-mul-at
 mul-at c = search needs

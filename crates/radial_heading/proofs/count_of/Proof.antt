@@ -2,8 +2,8 @@ use Rattle.wire.proofs.NumberLaws.{cut-is}
 use denote.Ref.{now}
 use native.Mathlib.Omega.{arith}
 use borrow.Author.Needs.{needs}
-use Rattle.radial.proofs.count_of.Statement.{statement}
-use Rattle.radial.proofs.count_of.Tie as tie
+use Rattle.radial_heading.proofs.count_of.Statement.{statement}
+use Rattle.radial_heading.proofs.count_of.Tie as tie
 
 sub-fetch16 : tie.Need-sub-fetch16
 sub-fetch16 c = search needs

@@ -1,10 +1,10 @@
-use Rattle.radial.proofs.PartLaws.{header-there}
+use Rattle.radial_heading.proofs.HeadingLaws.{header-there}
 use denote.Ref.{now}
 use lib.Seq.{length-take-le}
 use mathlib.Core.Path.{sym, _∙_}
 use borrow.Author.Needs.{needs}
-use Rattle.radial.proofs.header_of.Statement.{statement}
-use Rattle.radial.proofs.header_of.Tie as tie
+use Rattle.radial_heading.proofs.header_of.Statement.{statement}
+use Rattle.radial_heading.proofs.header_of.Tie as tie
 
 slice-aggregate-header-in : tie.Need-slice-aggregate-header-in
 slice-aggregate-header-in c = sym (length-take-le 68 (now (c .before .before .args .body)) (c .before .before .pre))

@@ -2,8 +2,8 @@ use mathlib.Core.Path.{sym}
 use native.Mathlib.Omega.{arith}
 use Rattle.wire.proofs.NumberLaws.{number-is}
 use borrow.Author.Needs.{needs}
-use Rattle.radial.proofs.header_in.Statement.{statement}
-use Rattle.radial.proofs.header_in.Tie as tie
+use Rattle.radial_heading.proofs.header_in.Statement.{statement}
+use Rattle.radial_heading.proofs.header_in.Tie as tie
 
 fetch32-requires : tie.Need-fetch32-requires
 fetch32-requires c κs = search needs

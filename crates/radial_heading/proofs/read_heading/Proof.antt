@@ -4,12 +4,12 @@ use lib.ListN.{length}
 use denote.Ref.{now}
 use Rattle.wire.specs.Answers.{given}
 use Rattle.radial_spec.specs.Refusal.{description, radialOf}
-use Rattle.radial.specs.Told.{shown, headingOf}
+use Rattle.radial_heading.specs.Told.{headingShown}
 use Rattle.radial_spec.proofs.Held.{held, number-given, number-refused}
-use Rattle.radial.proofs.HeadLaws.{heading-is}
+use Rattle.radial_heading.proofs.HeadingLaws.{heading-is}
 use borrow.Author.Needs.{needs}
-use Rattle.radial.proofs.read_heading.Statement.{statement}
-use Rattle.radial.proofs.read_heading.Tie as tie
+use Rattle.radial_heading.proofs.read_heading.Statement.{statement}
+use Rattle.radial_heading.proofs.read_heading.Tie as tie
 
 -- the body is accepted
 accepted : (c : tie.Else1) → radialOf (now (c .before .before .before .args .body)) ≡ given (description (now (c .before .before .before .args .body)))
@@ -27,7 +27,7 @@ no-header-requires c κs = search needs
 returns : tie.Need-returns
 returns c =
     let b = now (c .before .before .before .before .args .body) in
-    rw (c .no-header .ensures) (sym (ap (λ a. headingOf (shown a)) (number-refused b (c .before .before .check-radial .result) (c .before .before .check-radial .ensures) (c .before .if1 .taken))))
+    rw (c .no-header .ensures) (sym (ap headingShown (number-refused b (c .before .before .check-radial .result) (c .before .before .check-radial .ensures) (c .before .if1 .taken))))
 
 header-of-requires : tie.Need-header-of-requires
 header-of-requires c κs = long c

@@ -1,0 +1,2 @@
+-- What the heading of a radial hands back.
+pub mod Told
