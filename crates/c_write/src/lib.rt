@@ -2,7 +2,7 @@
 ghost use Rattle.writer.specs.Writing.{writeOf};
 ghost use Rattle.c_lent.specs.Face.{Leaves, writtenFace};
 use c_lent::UlmWritten;
-use writer::Given;
+use writer_head::Given;
 
 pub fn write(
     channel: u8,

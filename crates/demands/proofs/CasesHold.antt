@@ -8,7 +8,8 @@ use Rattle.frame.specs.Session.{frameAt}
 use Rattle.header.specs.Header.{storedIn, headerIn, headerOf}
 use Rattle.set_spec.specs.Segment.{numbered}
 use Rattle.set_spec.specs.Walk.{walk, allSeen, joined, setOf}
-use Rattle.writer.specs.Writing.{cut, heads, frameOf, framesFrom, framesOf, writeOf}
+use Rattle.writer.specs.Writing.{cut, frameOf, framesFrom, framesOf, writeOf}
+use Rattle.writer_head.specs.Head.{heads}
 use Rattle.radial_spec.specs.Refusal.{radialOf}
 use Rattle.gate_value.specs.Value.{valueOf}
 use Rattle.map_spec.specs.Map.{codeFrom}

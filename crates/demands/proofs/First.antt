@@ -32,7 +32,7 @@ use Rattle.wire.specs.Checks.{Check, check}
 use Rattle.wire.specs.Sizes.{bytes}
 use Rattle.wire.specs.Writing.{tellWrite, filled, written}
 use Rattle.wire.specs.declared.WriteAnswer.{WriteAnswer}
-use Rattle.writer.specs.declared.Given.{Given}
+use Rattle.writer_head.specs.declared.Given.{Given}
 use Rattle.writer.specs.Writing.{framesOf, writeChecks, writeOf}
 use Rattle.writer.proofs.OneAnswer.{write-message-only}
 use Rattle.request.specs.Request.{requestTable, requestChecks, requestOf, requestWritten}

@@ -19,7 +19,7 @@ use Rattle.set_spec.specs.Walk.{setOf}
 use Rattle.set.specs.Told.{tellSet}
 use Rattle.salvage_spec.specs.Salvage.{salvageOf}
 use Rattle.salvage.specs.Told.{Salvages}
-use Rattle.writer.specs.declared.Given.{Given}
+use Rattle.writer_head.specs.declared.Given.{Given}
 use Rattle.writer.specs.Writing.{framesOf, writeChecks, writeOf}
 use Rattle.radial_spec.specs.Refusal.{radialChecks, radialOf}
 use Rattle.radial_spec.specs.Lookups.{momentOf, blockOf}

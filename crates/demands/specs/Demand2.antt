@@ -12,7 +12,7 @@ use Rattle.set_spec.specs.Walk.{setOf}
 use Rattle.set.specs.declared.SetAnswer.{SetAnswer}
 use Rattle.set.specs.declared.SetAnswer.the-variants.{Set}
 use Rattle.set.specs.Told.{tellSet}
-use Rattle.writer.specs.declared.Given.{Given}
+use Rattle.writer_head.specs.declared.Given.{Given}
 use Rattle.writer.specs.Writing.{writeOf}
 use Rattle.round_trip.specs.Theorems.{Fits, headerBack}
 

@@ -10,7 +10,7 @@ use Rattle.frame.specs.Session.{frameAt}
 use Rattle.header.specs.Header.{headerOf}
 use Rattle.set_spec.specs.Walk.{setOf}
 use Rattle.salvage_spec.specs.Salvage.{salvageOf}
-use Rattle.writer.specs.declared.Given.{Given}
+use Rattle.writer_head.specs.declared.Given.{Given}
 use Rattle.writer.specs.Writing.{writeOf}
 use Rattle.radial_spec.specs.Refusal.{radialOf}
 use Rattle.radial_spec.specs.Lookups.{momentOf, blockOf}

@@ -21,14 +21,14 @@ pub record EndFacts (left from end : ℕ) : Type 0 where
 
 pub end-facts : (left from end : ℕ) → endBroken left from end ≡ false → EndFacts left from end
 end-facts left from end e =
-    let p = neither (ltb lastKilometre end) (either (ltb end from) (both (eqb left 0) (not (eqb end lastKilometre)))) e in
-    let q = neither (ltb end from) (both (eqb left 0) (not (eqb end lastKilometre))) (p .1) in
+    let p = neither _ _ e in
+    let q = neither _ _ (p .1) in
     record {
       high = ltb-false lastKilometre end (p .0);
       low = ltb-false end from (q .0);
       last =
           λ z. eqb-true end lastKilometre
-          (not-false (eqb end lastKilometre) (both-rest (eqb left 0) (not (eqb end lastKilometre)) (eq-eqb left 0 z) (q .1)));
+          (not-false (eqb end lastKilometre) (both-rest _ _ (eq-eqb left 0 z) (q .1)));
     }
 
 pub end-holds : (left from end : ℕ) → EndFacts left from end → endBroken left from end ≡ false
@@ -109,7 +109,7 @@ map-facts b p =
       some = ltb-false (segmentsIn b) 1 (q .0);
       most = ltb-false mostElevations (segmentsIn b) (q .1);
       elevations = r .0;
-      whole = ltb-false (6 + runSize elevationPart (segmentsIn b) (drop 6 b)) (length b) (r .1 .0);
+      whole = ltb-false _ _ (r .1 .0);
     }
 
 pub map-holds : (b : List ℕ) → MapFacts b → AllHold (mapChecks b)

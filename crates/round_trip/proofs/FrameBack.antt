@@ -18,8 +18,9 @@ use Rattle.header.specs.Header.{headerTable, headerIn, dataIn, notPermitted, ra
 use Rattle.header.specs.declared.Header.{Header}
 use Rattle.header.proofs.HeaderLaws.{header-is}
 use Rattle.set_spec.specs.Segment.{segmentIn, ownChecks}
-use Rattle.writer.specs.Writing.{headerFor, heads, frameOf}
-use Rattle.writer.specs.declared.Given.{Given}
+use Rattle.writer_head.specs.Head.{headerFor, heads}
+use Rattle.writer.specs.Writing.{frameOf}
+use Rattle.writer_head.specs.declared.Given.{Given}
 use Rattle.writer.proofs.FrameLaws.{frame-length}
 use Rattle.round_trip.specs.Theorems.{Fits}
 

@@ -15,8 +15,8 @@ use Rattle.wire.proofs.CheckLaws.{decide-none, none-broken}
 use Rattle.set_spec.specs.Segment.{Segment, numbered, found, orNothing, headerNumbered, dataNumbered}
 use Rattle.set_spec.specs.Walk.{seen, allSeen, joined, bodyOf, endChecks, finish}
 use Rattle.set_spec.specs.Theorems.{accepted}
-use Rattle.writer.specs.Writing.{headerFor}
-use Rattle.writer.specs.declared.Given.{Given}
+use Rattle.writer_head.specs.Head.{headerFor}
+use Rattle.writer_head.specs.declared.Given.{Given}
 use Rattle.writer.proofs.CutLaws as cutLaws
 use Rattle.round_trip.specs.Theorems.{firstOf}
 use Rattle.round_trip.proofs.WalkBack.{segment, written}

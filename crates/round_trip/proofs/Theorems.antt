@@ -10,7 +10,7 @@ use Rattle.wire.proofs.WriteLaws.{accepted as accepted-write}
 use Rattle.set_spec.specs.Walk.{finish, setOf}
 use Rattle.set_spec.specs.Theorems.{accepted}
 use Rattle.writer.specs.Writing.{segmentsOf, framesFrom, framesOf, longest, writeChecks, writeOf}
-use Rattle.writer.specs.declared.Given.{Given}
+use Rattle.writer_head.specs.declared.Given.{Given}
 use Rattle.writer.proofs.CutLaws.{cut-some, segments-cut, segments-joined, count-most}
 use Rattle.round_trip.specs.Theorems.{Fits, headerBack, RoundTrip}
 use Rattle.round_trip.proofs.FrameBack.{Sound}

@@ -15,8 +15,9 @@ use Rattle.wire.proofs.CheckLaws.{decide-none, none-broken, all-hold-join}
 use Rattle.frame.specs.Session.{after}
 use Rattle.set_spec.specs.Segment.{Segment, segmentIn, ownChecks, agreeChecks, numbered, found}
 use Rattle.set_spec.specs.Walk.{firstOr, seen, turnChecks, walk}
-use Rattle.writer.specs.Writing.{headerFor, frameOf, framesFrom}
-use Rattle.writer.specs.declared.Given.{Given}
+use Rattle.writer_head.specs.Head.{headerFor}
+use Rattle.writer.specs.Writing.{frameOf, framesFrom}
+use Rattle.writer_head.specs.declared.Given.{Given}
 use Rattle.writer.proofs.FrameLaws.{frame-length}
 use Rattle.round_trip.proofs.FrameBack.{Sound, PartFits, segment-back, after-back, frame-holds}
 use Rattle.round_trip.proofs.PartLaws.{AllFit}

@@ -11,7 +11,7 @@ use Rattle.header.specs.declared.Header.{Header}
 use Rattle.set_spec.specs.Walk.{setOf}
 use Rattle.set_spec.specs.Theorems.{accepted}
 use Rattle.writer.specs.Writing.{segmentsOf, writeOf}
-use Rattle.writer.specs.declared.Given.{Given}
+use Rattle.writer_head.specs.declared.Given.{Given}
 
 -- every value given is one of its type: 8 bits for channel and type, 16 for sequence number and date, 32 for milliseconds
 pub record Fits (g : Given) : Type 0 where

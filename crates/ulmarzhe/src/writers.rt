@@ -16,7 +16,7 @@ use compare::CompareAnswer;
 use radial::MomentAnswer;
 use set::SetAnswer;
 use wire::WriteAnswer;
-use writer::Given;
+use writer_head::Given;
 
 // Sets and writers: the room that is lent is as large as the question says, and never larger than an answer needs.
 pub fn written(entry: usize, n: [u64; 6], body: &[u8], sheet: &mut [u8; SHEET]) -> Told {

@@ -12,7 +12,7 @@ use Rattle.wire.specs.Sizes.{odd}
 use Rattle.wire.specs.declared.Bytes.{Bytes}
 use Rattle.wire.proofs.CheckLaws.{decide-same}
 use Rattle.header.specs.Header.{notPermitted, timeChecks}
-use Rattle.writer.specs.declared.Given.{Given}
+use Rattle.writer_head.specs.declared.Given.{Given}
 use Rattle.writer.specs.Writing.{segmentsOf, framesOf, longest, writeOf}
 use Rattle.writer.proofs.CutLaws.{segments-joined, count-most}
 use Rattle.writer.proofs.FrameLaws.{frames-length}

@@ -7,8 +7,9 @@ use lib.ListN.{length, take, drop, length-append}
 use lib.Seq.{take-at, drop-at, drop-drop}
 use Rattle.wire.specs.Sizes.{bytes}
 use Rattle.wire.specs.declared.Bytes.{Bytes}
-use Rattle.writer.specs.declared.Given.{Given}
-use Rattle.writer.specs.Writing.{heads, frameOf, framesFrom}
+use Rattle.writer_head.specs.declared.Given.{Given}
+use Rattle.writer_head.specs.Head.{heads}
+use Rattle.writer.specs.Writing.{frameOf, framesFrom}
 use Rattle.writer.proofs.CutLaws.{joined}
 
 pub heads-length : (given : Given) (n k : ℕ) (size : Bytes) → length (heads given n k size) ≡ 28

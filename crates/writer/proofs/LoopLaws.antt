@@ -9,7 +9,7 @@ use lib.Seq.{take-at, drop-at, drop-drop, length-take-le}
 use Rattle.wire.specs.Checks.{pick}
 use Rattle.wire.specs.Writing.{filled}
 use Rattle.wire.proofs.ListLaws.{part-is}
-use Rattle.writer.specs.declared.Given.{Given}
+use Rattle.writer_head.specs.declared.Given.{Given}
 use Rattle.writer.specs.Writing.{cut, segmentsOf, frameOf, framesFrom, framesOf}
 use Rattle.writer.proofs.CutLaws.{More, cut-some, cut-more, cut-last, segments-cut}
 use Rattle.writer.proofs.FrameLaws.{frame-length}

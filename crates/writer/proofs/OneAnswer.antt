@@ -7,7 +7,7 @@ use Rattle.wire.specs.Writing.{tellWrite}
 use Rattle.wire.specs.declared.WriteAnswer.{WriteAnswer}
 use Rattle.wire.proofs.AnswerLaws.{only}
 use Rattle.wire.proofs.WriteLaws.{write-apart}
-use Rattle.writer.specs.declared.Given.{Given}
+use Rattle.writer_head.specs.declared.Given.{Given}
 use Rattle.writer.specs.Writing.{writeOf}
 
 pub write-message-only : (given : Given) (body out : List ℕ) (r₁ r₂ : WriteAnswer) (a₁ a₂ : List ℕ)

@@ -11,7 +11,7 @@ use Rattle.wire.specs.Sizes.{bytes}
 use Rattle.wire.specs.declared.Bytes.{Bytes}
 use Rattle.frame.specs.Session.{bodyIn, after}
 use Rattle.header.specs.Header.{headerIn}
-use Rattle.writer.specs.declared.Given.{Given}
+use Rattle.writer_head.specs.declared.Given.{Given}
 use Rattle.writer.specs.Writing.{framesOf, writeOf}
 
 -- "Request 129, channel 0, sequence 5, date 16,000, 1,000 ms"

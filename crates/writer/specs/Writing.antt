@@ -3,16 +3,15 @@ use Prim.Native.Nat.{ℕ, zero, suc, _+_, _-_}
 use mathlib.Core.List.{List, [], _∷_, _++_}
 use lib.Dec.{ltb, eqb}
 use lib.ListN.{length, take, drop}
-use Rattle.wire.specs.Tables.{render}
 use Rattle.wire.specs.Checks.{pick, Check, check}
 use Rattle.wire.specs.Answers.{Outcome}
 use Rattle.wire.specs.Writing.{written}
-use Rattle.wire.specs.Sizes.{bytes, halved, odd}
+use Rattle.wire.specs.Sizes.{bytes, odd}
 use Rattle.wire.specs.declared.Bytes.{Bytes}
-use Rattle.frame.specs.Session.{headTable, dataKind, sessionLimit}
-use Rattle.header.specs.Header.{headerTable, headerSize, notPermitted, radialType, timeChecks}
-use Rattle.header.specs.declared.Header.{Header}
-use Rattle.writer.specs.declared.Given.{Given}
+use Rattle.frame.specs.Session.{sessionLimit}
+use Rattle.header.specs.Header.{headerSize, notPermitted, radialType, timeChecks}
+use Rattle.writer_head.specs.declared.Given.{Given}
+use Rattle.writer_head.specs.Head.{heads}
 
 -- "a body is cut into data of 2,400 bytes each, the last one shorter or full. An empty body makes one segment."
 abbrev pub segmentData : Bytes
@@ -27,23 +26,6 @@ cut (suc cuts) body =
 -- "Type 31 makes one frame always."
 abbrev pub segmentsOf : ℕ → List ℕ → List (List ℕ)
 segmentsOf kind body = pick (eqb kind radialType) (body ∷ []) (cut (length body) body)
-
--- "every segment repeats the given channel, type, sequence number, date and milliseconds": the header of number k of n in a message of that size
-abbrev pub headerFor : Given → ℕ → ℕ → Bytes → Header
-headerFor given n k size = record {
-  size = halved size;
-  channel = given .channel;
-  kind = given .kind;
-  sequence = given .sequence;
-  date = given .date;
-  milliseconds = given .milliseconds;
-  segments = n;
-  number = k;
-}
-
--- "The session's second number is 0": what stands before the segment's data
-unfoldable pub heads : Given → ℕ → ℕ → Bytes → List ℕ
-heads given n k size = render (headTable dataKind 0 size) ++ render (headerTable (headerFor given n k size))
 
 -- the frame of a segment, whose data is `part`
 unfoldable pub frameOf : Given → ℕ → ℕ → List ℕ → List ℕ

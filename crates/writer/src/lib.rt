@@ -5,26 +5,14 @@ ghost use Prim.Native.Nat.{_+_, _≤_, _<_};
 ghost use lib.ListN.{length, drop};
 ghost use Rattle.wire.specs.Answers.{Promise};
 ghost use Rattle.wire.specs.Writing.{filled, tellWrite};
-ghost use Rattle.writer.specs.Writing.{segmentsOf, heads, frameOf, framesOf, longest, writeOf};
+ghost use Rattle.writer.specs.Writing.{segmentsOf, frameOf, framesOf, longest, writeOf};
 use wire::Bytes;
 use wire::WriteAnswer;
 use wire::refusal;
-
-// What every segment repeats. `kind` is the type of Table I, a word that the language keeps for itself.
-pub struct Given {
-    pub channel: u8,
-    pub kind: u8,
-    pub sequence: u16,
-    pub date: u16,
-    pub milliseconds: u32,
-}
-
-const DATA_KIND: u8 = 2;
+use writer_head::Given;
+use writer_head::HEADS;
 
 const HEADER: u32 = 16;
-
-// The bytes before a segment's data: the session's 12 and the header's 16.
-const HEADS: usize = 28;
 
 const SEGMENT_DATA: usize = 2400;
 
@@ -104,48 +92,8 @@ fn write_frame(given: Given, n: u16, k: u16, part: &[u8], out: &mut [u8])
     requires { ⌜ (length (now part) ≤ 307200) × (28 + length (now part) ≤ length (now out)) ⌝ }
     ensures { λ r. ⌜ now (out .exit) ≡ frameOf given n k (now (part .entry)) ++ drop (28 + length (now (part .entry))) (now (out .entry)) ⌝ }
 {
-    let head = heads_of(given, n, k, Bytes(HEADER + part.len() as u32));
+    let head = writer_head::heads_of(given, n, k, Bytes(HEADER + part.len() as u32));
     let end = HEADS + part.len();
     wire::copy(&head, &mut out[..HEADS]);
     wire::copy(part, &mut out[HEADS..end]);
-}
-
-// The bytes before the data of segment k of n, which is a message of `size` with its header.
-fn heads_of(given: Given, n: u16, k: u16, size: Bytes) -> [u8; 28]
-    ensures { λ r. ⌜ r ≡ heads given n k size ⌝ }
-{
-    let long = size.0;
-    let half = wire::to_halfwords(size);
-    let halfwords = half.0;
-    let time = given.milliseconds;
-    [
-        0,
-        0,
-        0,
-        DATA_KIND,
-        0,
-        0,
-        0,
-        0,
-        (long / 256 / 256 / 256 % 256) as u8,
-        (long / 256 / 256 % 256) as u8,
-        (long / 256 % 256) as u8,
-        (long % 256) as u8,
-        (halfwords / 256 % 256) as u8,
-        (halfwords % 256) as u8,
-        given.channel,
-        given.kind,
-        (given.sequence / 256 % 256) as u8,
-        (given.sequence % 256) as u8,
-        (given.date / 256 % 256) as u8,
-        (given.date % 256) as u8,
-        (time / 256 / 256 / 256 % 256) as u8,
-        (time / 256 / 256 % 256) as u8,
-        (time / 256 % 256) as u8,
-        (time % 256) as u8,
-        (n / 256 % 256) as u8,
-        (n % 256) as u8,
-        (k / 256 % 256) as u8,
-        (k % 256) as u8,
-    ]
 }

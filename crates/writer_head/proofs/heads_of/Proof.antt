@@ -2,10 +2,10 @@
 use mathlib.Core.Path.{_≡_}
 use Prim.Native.Nat.{_%_}
 use native.Mathlib.Omega.{arith}
-use Rattle.writer.specs.Writing.{heads}
+use Rattle.writer_head.specs.Head.{heads}
 use borrow.Author.Needs.{needs}
-use Rattle.writer.proofs.heads_of.Statement.{statement}
-use Rattle.writer.proofs.heads_of.Tie as tie
+use Rattle.writer_head.proofs.heads_of.Statement.{statement}
+use Rattle.writer_head.proofs.heads_of.Tie as tie
 
 to-halfwords-requires : tie.Need-to-halfwords-requires
 to-halfwords-requires c κs = search needs

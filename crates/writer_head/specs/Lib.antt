@@ -1,0 +1,2 @@
+-- What stands before a written segment's data.
+pub mod Head
