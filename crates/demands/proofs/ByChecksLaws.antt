@@ -1,5 +1,5 @@
 -- Generic laws of an answer by its checks. Assumes nothing.
-use Prim.Native.Nat.{ℕ, _≤_}
+use Prim.Native.Nat.{ℕ}
 use mathlib.Core.Path.{_≡_, refl, sym, ap, _∙_}
 use mathlib.Core.Bool.{Bool, true, false}
 use mathlib.Core.Option.{Option, none, some}
@@ -7,11 +7,11 @@ use mathlib.Core.Logic.{_⊎_, inl, inr, ⊎-elim}
 use mathlib.Core.List.{List, [], _∷_, _++_, append-assoc}
 use lib.Dec.{leb}
 use borrow.Author.Tests.{leb-true}
-use Rattle.wire.specs.Checks.{pick, both, Check, check, first, decide, AllHold, Blamed}
+use Rattle.wire.specs.Checks.{pick, both, Check, first, decide, AllHold, Blamed}
 use Rattle.wire.specs.Answers.{Answer, refused, given, rule, Outcome, outcome, Promise}
-use Rattle.wire.proofs.CheckLaws.{never, both-true, passed, stopped, decide-none, decide-some, all-hold, all-hold-join, none-broken, blame}
+use Rattle.wire.proofs.CheckLaws.{never, both-true, passed, decide-none, decide-some, all-hold, all-hold-join, blame}
 use Rattle.wire.proofs.AnswerLaws.{rule-given, rule-refused, outcome-answer, outcome-refused}
-use Rattle.demands.specs.Notions.{One, lastNumber, OfTheTable, ByChecks, Kept, KeptLent}
+use Rattle.demands.specs.Notions.{lastNumber, OfTheTable, ByChecks, Kept, KeptLent}
 
 -- ---- numbers of the table, by a test that is computed
 abbrev pub inside : List Check → Bool

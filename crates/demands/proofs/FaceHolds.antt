@@ -1,26 +1,23 @@
 -- Demand 1 for the C face. Assumes nothing.
 use Prim.Native.Nat.{ℕ}
-use mathlib.Core.Path.{_≡_, refl, sym, ap, _∙_}
+use mathlib.Core.Path.{_≡_, refl, ap, _∙_}
 use mathlib.Core.Option.{none, some}
 use mathlib.Core.List.{List}
 use Rattle.wire.specs.Checks.{Check}
-use Rattle.wire.specs.Answers.{Answer, refused, given, Outcome, Promise}
+use Rattle.wire.specs.Answers.{Answer, refused, given, Outcome}
 use Rattle.wire.specs.declared.Bytes.{Bytes}
 use Rattle.wire.specs.Writing.{tellWrite}
 use Rattle.frame.specs.Session.{Stream, end, frame, frameAt}
-use Rattle.header.specs.declared.Header.{Header}
 use Rattle.header.specs.Header.{headerOf}
-use Rattle.set_spec.specs.Walk.{SetSays, setOf}
+use Rattle.set_spec.specs.Walk.{setOf}
 use Rattle.salvage_spec.specs.Salvage.{salvageOf}
-use Rattle.radial_spec.specs.Description.{Moment, Description}
 use Rattle.radial_spec.specs.Refusal.{radialOf}
 use Rattle.radial_spec.specs.Lookups.{Asked, noSuch, lies, momentOf, blockOf}
 use Rattle.radial.specs.Told.{headShown, blockShown}
 use Rattle.gate_value.specs.Value.{Worth, belowThreshold, rangeFolded, worth}
-use Rattle.map_spec.specs.Reading.{Summary}
 use Rattle.compare_spec.specs.Comparing.{comparisonOf}
 use Rattle.c_lent.specs.declared.UlmWritten.{UlmWritten}
-use Rattle.c_lent.specs.Face.{Leaves, writtenFace}
+use Rattle.c_lent.specs.Face.{writtenFace}
 use Rattle.c_frame.specs.declared.UlmFrame.{UlmFrame}
 use Rattle.c_frame.specs.declared.UlmHeader.{UlmHeader}
 use Rattle.c_set.specs.declared.UlmSet.{UlmSet}
@@ -43,7 +40,7 @@ use Rattle.c_request.specs.Face.{requestFace}
 use Rattle.c_censor.specs.Face.{censorFace}
 use Rattle.c_map.specs.Face.{mapFace, mapCodeFace}
 use Rattle.c_compare.specs.Face.{comparisonFace}
-use Rattle.demands.specs.Notions.{One, OfTheTable, ByChecks, KeptLent, KeptBoth}
+use Rattle.demands.specs.Notions.{OfTheTable, KeptLent, KeptBoth}
 use Rattle.demands.specs.Orders.{salvageChecks}
 use Rattle.demands.specs.Face.{Shown, ShownLent, FaceOfC, blankFrame, blankHeader, blankSet, blankWritten, blankRadial, blankBlock, blankGates}
 use Rattle.demands.specs.Face.{blankGate, blankRequest, blankCensor, blankMap, blankMapCode, blankComparison, blankSalvage}

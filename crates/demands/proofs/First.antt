@@ -38,7 +38,7 @@ use Rattle.writer.proofs.OneAnswer.{write-message-only}
 use Rattle.request.specs.Request.{requestTable, requestChecks, requestOf, requestWritten}
 use Rattle.request.specs.Told.{tellRequest}
 use Rattle.request.proofs.OneAnswer.{read-request-only, write-request-only}
-use Rattle.censor.specs.Censor.{bodyOf, count, fields, bodyChecks, listOf, listChecks, censorOf, censorWritten, regionsChecks}
+use Rattle.censor.specs.Censor.{bodyOf, count, fields, bodyChecks, listOf, listChecks, censorOf, censorWritten}
 use Rattle.censor.specs.Told.{shown as zonesShown}
 use Rattle.censor.proofs.OneAnswer.{write-censor-only}
 use Rattle.map_spec.specs.Map.{codeAt}

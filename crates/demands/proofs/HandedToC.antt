@@ -1,11 +1,11 @@
 -- What a C caller has of an accepted radial is the description. Assumes nothing.
-use Prim.Native.Nat.{ℕ, zero, suc, _+_, _-_}
+use Prim.Native.Nat.{ℕ, suc, _+_, _-_}
 use native.Mathlib.Omega.{arith}
 use mathlib.Core.Path.{_≡_, refl, sym, ap, _∙_}
 use mathlib.Core.List.{List, [], _∷_, _++_, map, append-assoc}
 use lib.ListN.{length, getD, take, length-append}
 use lib.Seq.{getD-append-seam}
-use Rattle.wire.specs.Answers.{Answer, refused, given}
+use Rattle.wire.specs.Answers.{Answer, given}
 use Rattle.radial_spec.specs.Description.{constants, Moment, Description, blockCount, RVOL, RELV, RRAD}
 use Rattle.radial_spec.specs.Refusal.{radialOf}
 use Rattle.radial_spec.specs.Lookups.{onward, Asked, noSuch, lies, blocks, constantLying, momentLying, blockOf}

@@ -3,20 +3,19 @@ use Prim.Native.Nat.{ℕ, zero, suc, _+_, _-_}
 use mathlib.Core.Path.{_≡_, refl}
 use mathlib.Core.Bool.{Bool, true, false}
 use mathlib.Core.List.{List, [], _∷_, _++_}
-use lib.Dec.{ltb, leb, eqb}
+use lib.Dec.{eqb}
 use lib.ListN.{length, drop}
-use Rattle.wire.specs.Checks.{pick, either, Check, check}
-use Rattle.wire.specs.Answers.{Answer, refused, given}
+use Rattle.wire.specs.Checks.{pick}
 use Rattle.frame.specs.Session.{after, frameChecks}
 use Rattle.set_spec.specs.Segment.{Segment, segmentIn}
 use Rattle.set_spec.specs.Walk.{turnChecks, endChecks}
-use Rattle.radial_spec.specs.Description.{Moment, gates, constants, firstPlace}
+use Rattle.radial_spec.specs.Description.{constants}
 use Rattle.radial_spec.specs.Refusal.{pointer, part, nameIn, momentSays, momentsChecks, sizeIn, countIn, endAt, radialChecks}
-use Rattle.censor.specs.Censor.{regionsChecks, region, fieldChecks as censorFields}
-use Rattle.map_spec.specs.Map.{azimuths, mostZones}
-use Rattle.map_spec.specs.Reading.{Part, value, after as afterField, fieldChecks, zoneChecks, zonesChecks, runSize, runChecks, azimuthPart, elevationPart, headChecks, leftoverChecks, mapChecks}
+use Rattle.censor.specs.Censor.{regionsChecks}
+use Rattle.map_spec.specs.Map.{azimuths}
+use Rattle.map_spec.specs.Reading.{Part, value, after as afterField, zonesChecks, runChecks, azimuthPart, elevationPart, headChecks, leftoverChecks, mapChecks}
 use Rattle.map_spec.specs.Reading.{segmentsIn}
-use Rattle.demands.specs.Orders.{streamChecks, turnsChecks, setChecks}
+use Rattle.demands.specs.Orders.{streamChecks, turnsChecks}
 use Rattle.demands.proofs.ByChecksLaws.{inside, inside-join}
 
 pub stream-inside : (stream : List ℕ) (place : ℕ) → inside (streamChecks stream place) ≡ true

@@ -5,15 +5,15 @@ use mathlib.Core.Bool.{Bool, true, false}
 use mathlib.Core.List.{List, [], _∷_}
 use native.Mathlib.Omega.{arith}
 use lib.Dec.{eqb}
-use lib.ListN.{length, take, drop, length-drop, length-take}
-use lib.Seq.{take-take, take-nil, drop-drop, drop-nil}
-use borrow.Author.Tests.{ltb-false, eqb-true}
+use lib.ListN.{length, take, drop, length-drop}
+use lib.Seq.{take-take, drop-drop}
+use borrow.Author.Tests.{ltb-false}
 use denote.Ref.{RefT, now}
-use Rattle.wire.specs.Checks.{pick, AllHold}
-use Rattle.wire.specs.Answers.{Answer, refused, given, rule}
+use Rattle.wire.specs.Checks.{pick}
+use Rattle.wire.specs.Answers.{Answer, given, rule}
 use Rattle.wire.proofs.CheckLaws.{never, all-hold}
 use Rattle.wire.proofs.AnswerLaws.{rule-given}
-use Rattle.frame.specs.Session.{Stream, end, frame, frameChecks, frameIn, frameAt}
+use Rattle.frame.specs.Session.{end, frame, frameChecks, frameIn, frameAt}
 use Rattle.frame.specs.declared.Frame.{Frame}
 use Rattle.header.specs.Header.{headerIn, headerChecks, headerOf}
 use Rattle.header.specs.declared.Header.{Header}
@@ -21,7 +21,7 @@ use Rattle.radial_spec.specs.Description.{Moment, gateBytes}
 use Rattle.radial_spec.specs.Lookups.{onward, momentOf, Part, gatesIn, gatesOf, bytesIn}
 use Rattle.radial_spec.proofs.Naming.{found-lies}
 use Rattle.radial_gates.specs.Told.{partOf, LiesAt}
-use Rattle.demands.specs.Wall.{Walked, onTheWall, Wall}
+use Rattle.demands.specs.Wall.{onTheWall, Wall}
 
 -- a part of a part
 cut : (p n k : ℕ) (l : List ℕ) → p + n ≤ k → take n (drop p (take k l)) ≡ take n (drop p l)

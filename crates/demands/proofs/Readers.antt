@@ -1,27 +1,26 @@
 -- Each reader answers by its checks. Assumes nothing.
 use Prim.Native.Nat.{ℕ, zero, suc}
-use mathlib.Core.Path.{_≡_, refl, sym, ap, subst, _∙_}
+use mathlib.Core.Path.{_≡_, refl, ap, subst}
 use mathlib.Core.Bool.{Bool, true, false}
-use mathlib.Core.Option.{Option, none, some}
+use mathlib.Core.Option.{some}
 use mathlib.Core.List.{List, [], _∷_, _++_, map, append-nil}
 use lib.Dec.{leb, eqb}
 use lib.ListN.{length, getD, drop}
 use Rattle.wire.specs.Checks.{pick, Check, check, decide}
-use Rattle.wire.specs.Answers.{Answer, refused, given, rule, Outcome, refusal, outcome}
+use Rattle.wire.specs.Answers.{Answer, refused, given, rule, outcome}
 use Rattle.wire.proofs.CheckLaws.{never, decide-map}
-use Rattle.frame.specs.Session.{Stream, end, frame, frameChecks, frameIn, frameAt, after}
+use Rattle.frame.specs.Session.{end, frame, frameChecks, frameIn, frameAt, after}
 use Rattle.set_spec.specs.Segment.{Segment, segmentIn}
-use Rattle.set_spec.specs.Walk.{SetSays, walk, finish, setOf, turnChecks, endChecks, bodyOf}
+use Rattle.set_spec.specs.Walk.{walk, finish, setOf, turnChecks, endChecks}
 use Rattle.radial_spec.specs.Description.{Moment, Description, gates}
 use Rattle.radial_spec.specs.Refusal.{description, radialChecks, radialOf}
 use Rattle.radial_spec.specs.Lookups.{onward, momentNamed, momentOf, Asked, noSuch, lies, blocks, blockOf}
-use Rattle.radial.specs.declared.MomentHead.{MomentHead}
-use Rattle.radial.specs.Told.{headOf, headShown, Told, toldOf, blockShown}
+use Rattle.radial.specs.Told.{headOf, headShown, toldOf, blockShown}
 use Rattle.gate_value.specs.Value.{Worth, valueChecks, worthOf, valueOf, gateIn, gateOf}
 use Rattle.demands.specs.Notions.{ByChecks}
 use Rattle.demands.specs.Orders.{streamChecks, turnsChecks, setChecks, missing, momentChecks, codeChecks, gateChecks}
-use Rattle.demands.proofs.ByChecksLaws.{inside, by-first, by-rule, by-same, by-then, by-outcome, outcome-untouched}
-use Rattle.demands.proofs.Inside.{stream-inside, turns-inside, radial-inside}
+use Rattle.demands.proofs.ByChecksLaws.{by-first, by-rule, by-same, by-then, by-outcome, outcome-untouched}
+use Rattle.demands.proofs.Inside.{radial-inside}
 
 pub by-stream : (stream : List ℕ) (place : ℕ) → ByChecks (streamChecks stream place) (frameAt stream place)
 unfolding frameAt

@@ -1,16 +1,14 @@
 -- Demand 2, from the round trip of `replay`. Assumes nothing.
 use Prim.Native.Nat.{ℕ}
-use mathlib.Core.Path.{_≡_, refl, sym, ap, _∙_}
+use mathlib.Core.Path.{_≡_, sym, ap, _∙_}
 use mathlib.Core.List.{List}
 use lib.ListN.{length, take}
-use Rattle.wire.specs.Answers.{Answer, Outcome, Promise}
+use Rattle.wire.specs.Answers.{Outcome}
 use Rattle.wire.specs.Sizes.{bytes}
 use Rattle.set_spec.specs.Walk.{SetSays, setOf}
 use Rattle.set_spec.specs.Theorems.{accepted}
 use Rattle.set.specs.declared.SetAnswer.the-variants.{Set}
-use Rattle.set.specs.Told.{tellSet}
 use Rattle.set.proofs.OneAnswer.{set-apart}
-use Rattle.writer.specs.Writing.{writeOf}
 use Rattle.round_trip.specs.Theorems.{headerBack}
 use Rattle.round_trip.proofs.Theorems.{round-trip}
 use Rattle.demands.specs.Demand2.{Demand2}

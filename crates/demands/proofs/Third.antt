@@ -1,24 +1,19 @@
 -- Demand 3, from the theorems of `description`, `radial`, `lookup` and `gate`. Assumes nothing.
 use Prim.Native.Nat.{ℕ}
-use mathlib.Core.Path.{_≡_, refl, sym, ap, subst, _∙_}
-use mathlib.Core.List.{List, []}
-use lib.ListN.{take}
-use denote.Ref.{RefT, now}
+use mathlib.Core.Path.{_≡_, refl, sym, ap, _∙_}
+use mathlib.Core.List.{List}
+use denote.Ref.{now}
 use Rattle.wire.specs.Answers.{Answer, refused, given}
-use Rattle.radial_spec.specs.Description.{Moment, Description}
-use Rattle.radial_spec.specs.Refusal.{radialOf}
-use Rattle.radial_spec.specs.Lookups.{momentOf, Asked, blockOf, Part, gatesOf, bytesIn}
-use Rattle.radial_spec.specs.Theorems.{SameAnswers}
+use Rattle.radial_spec.specs.Lookups.{Part, gatesOf, bytesIn}
 use Rattle.radial_spec.proofs.Accepted.{exactly, unique}
 use Rattle.radial_spec.proofs.Naming.{named-exactly, unnamed}
-use Rattle.radial.specs.Told.{shown, tellMoment, headShown, tellBlock, blockShown}
+use Rattle.radial.specs.Told.{shown, headShown, blockShown}
 use Rattle.radial.proofs.HandedLaws.{handed-exactly}
-use Rattle.radial_gates.specs.Told.{partOf, LiesAt}
+use Rattle.radial_gates.specs.Told.{partOf}
 use Rattle.radial.proofs.OneAnswer.{moment-only, block-only}
-use Rattle.gate_value.specs.Told.{tellGate}
 use Rattle.gate_value.proofs.OneAnswer.{gate-value-only}
 use Rattle.gate_value.proofs.GateLaws.{gate-unnamed}
-use Rattle.demands.specs.Demand3.{SameFromEach, Unaltered, Demand3}
+use Rattle.demands.specs.Demand3.{Unaltered, Demand3}
 
 -- the bytes of the part are the same, where it is given, and none where it is refused
 same-bytes : (b b′ : List ℕ) (a : Answer Part) → ((p : Part) → a ≡ given p → bytesIn b′ p ≡ bytesIn b p) → bytesIn b (partOf a) ≡ bytesIn b′ (partOf a)

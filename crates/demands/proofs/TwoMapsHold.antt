@@ -11,7 +11,7 @@ use Rattle.wire.specs.Writing.{filled}
 use Rattle.wire.proofs.CheckLaws.{all-hold-append}
 use Rattle.wire.proofs.AnswerLaws.{kept}
 use Rattle.map_spec.specs.Map.{Zone, FilterMap}
-use Rattle.map_spec.specs.Reading.{mapChecks, mapIn, mapOf}
+use Rattle.map_spec.specs.Reading.{mapChecks, mapIn}
 use Rattle.map_spec.proofs.Theorems.{accepted-exactly}
 use Rattle.compare_spec.specs.Differences.{Difference, differences, swapped as swappedRun}
 use Rattle.compare_spec.specs.Comparing.{Comparison, halfwords, mostHalfwords, roomChecks, comparisonOf}

@@ -7,7 +7,7 @@ use mathlib.Core.List.{List, [], _∷_, _++_, map}
 use lib.ListN.{length, drop, replicate}
 use Rattle.wire.specs.Answers.{Answer, refused, given, Outcome}
 use Rattle.wire.specs.declared.Bytes.{Bytes}
-use Rattle.frame.specs.Session.{Stream, end, bodyIn, frameAt}
+use Rattle.frame.specs.Session.{Stream, end, frameAt}
 use Rattle.header.specs.declared.Header.{Header}
 use Rattle.header.specs.Header.{headerOf}
 use Rattle.set_spec.specs.Walk.{SetSays, setOf}

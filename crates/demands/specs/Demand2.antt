@@ -2,7 +2,7 @@
 use Prim.Native.Nat.{ℕ, _≤_}
 use mathlib.Core.Path.{_≡_}
 use mathlib.Core.List.{List}
-use lib.ListN.{length, take, drop}
+use lib.ListN.{length, take}
 use Rattle.wire.specs.Answers.{Promise}
 use Rattle.wire.specs.Sizes.{bytes}
 use Rattle.wire.specs.Writing.{tellWrite, filled}

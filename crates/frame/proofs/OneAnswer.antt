@@ -2,12 +2,11 @@
 use Prim.Native.Nat.{ℕ}
 use mathlib.Core.Path.{_≡_, refl}
 use mathlib.Core.List.{List}
-use Rattle.wire.specs.Answers.{Answer, refused, given}
 use Rattle.wire.proofs.CheckLaws.{never}
 use Rattle.wire.proofs.AnswerLaws.{only-answer}
 use Rattle.frame.specs.declared.FrameAnswer.{FrameAnswer}
 use Rattle.frame.specs.declared.FrameAnswer.the-variants.{End, Read, Refused}
-use Rattle.frame.specs.Session.{Stream, end, frame, frameAt}
+use Rattle.frame.specs.Session.{frame, frameAt}
 use Rattle.frame.specs.Told.{tellFrame}
 
 pub frame-apart : (a b : FrameAnswer) → tellFrame a ≡ tellFrame b → a ≡ b

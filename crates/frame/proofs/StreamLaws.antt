@@ -1,5 +1,5 @@
 -- Laws of a stream: what is left at a place, and that a written head is read back. Assumes nothing.
-use Prim.Native.Nat.{ℕ, _^_, _<_}
+use Prim.Native.Nat.{ℕ, _<_}
 use mathlib.Core.Path.{_≡_}
 use mathlib.Core.List.{List, _++_}
 use native.Mathlib.Omega.{arith}
@@ -8,7 +8,7 @@ use Rattle.wire.specs.Tables.{render, Fit, Spells}
 use Rattle.wire.specs.declared.Bytes.{Bytes}
 use Rattle.wire.proofs.TableLaws.{reads-back}
 use Rattle.wire.specs.Answers.{Answer, refused, rule}
-use Rattle.frame.specs.Session.{headTable, Stream, frame, frameChecks, frameIn, frameAt}
+use Rattle.frame.specs.Session.{headTable, Stream, frame, frameChecks, frameIn}
 
 -- a place past the length is refusal 1
 pub past-end : (s : List ℕ) (p : ℕ) → length s < p → _≡_ {A = Answer Stream} (refused 1) (rule (frameChecks (drop p s)) (frame (frameIn (drop p s) p)))

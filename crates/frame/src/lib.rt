@@ -2,8 +2,8 @@
 ghost use mathlib.Core.Path.{_≡_};
 ghost use Prim.Native.Nat.{_+_, _^_, _<_};
 ghost use lib.ListN.{length};
-ghost use Rattle.wire.specs.Answers.{Answer, refused, given, rule};
-ghost use Rattle.frame.specs.Session.{Stream, frame, frameChecks, frameIn, frameAt};
+ghost use Rattle.wire.specs.Answers.{rule};
+ghost use Rattle.frame.specs.Session.{frame, frameChecks, frameIn, frameAt};
 ghost use Rattle.frame.specs.Told.{tellFrame};
 use wire::Bytes;
 use wire::refusal;

@@ -1,19 +1,17 @@
 -- One rounded subtraction and one rounded division of finite numbers, the divisor above 0, give no NaN. Assumes nothing.
 use Prim.Native.Nat.{ℕ, zero, suc, _+_, _-_, _*_, _/_, _%_, _^_, compare}
-use mathlib.Core.Path.{_≡_, refl, sym, ap, _∙_}
+use mathlib.Core.Path.{_≡_, refl}
 use mathlib.Core.Bool.{Bool, true, false, not, cond, _&&_, Bool·beq}
-use mathlib.Core.List.{List, [], _∷_}
 use native.Mathlib.Nat.{zero-mul}
 use lib.Dec.{ltb, eqb, eqb·suc-zero}
 use lib.IntN.{ℤ, pos}
 use lib.Ieee.{Float, nan, inf, fin, binary32, unlike, up, down, low, prec, emax, size, nearest, odd, units, round, neg, sum, add, sub, div, lt, ofInt, ofBits, ofFields, isNan}
 use lib.Ieee.Scale.{finite}
 use borrow.Author.Tests.{not-false}
-use Rattle.wire.specs.Checks.{pick, AllHold}
-use Rattle.wire.specs.Answers.{given}
+use Rattle.wire.specs.Checks.{pick}
 use Rattle.wire.proofs.CheckLaws.{never, all-hold}
 use Rattle.wire.proofs.AnswerLaws.{rule-given}
-use Rattle.gate_value.specs.Value.{float, valueChecks, Worth, belowThreshold, rangeFolded, worth, scaled, worthOf, valueOf}
+use Rattle.gate_value.specs.Value.{float, valueChecks, belowThreshold, rangeFolded, worth, scaled, worthOf, valueOf}
 use Rattle.gate_value.specs.Theorems.{NeverNan}
 
 odd-no-nan : (d : ℕ) (s : Bool) (q k l : ℕ) → isNan (odd d s q k l) ≡ false

@@ -2,12 +2,11 @@
 use Prim.Native.Nat.{ℕ}
 use mathlib.Core.Path.{_≡_, refl}
 use mathlib.Core.List.{List}
-use Rattle.wire.specs.Answers.{Answer}
 use Rattle.wire.proofs.CheckLaws.{never}
 use Rattle.wire.proofs.AnswerLaws.{only-answer}
 use Rattle.gate_value.specs.declared.GateAnswer.{GateAnswer}
 use Rattle.gate_value.specs.declared.GateAnswer.the-variants.{Value, BelowThreshold, RangeFolded, Refused}
-use Rattle.gate_value.specs.Value.{Worth, valueOf, gateOf}
+use Rattle.gate_value.specs.Value.{valueOf, gateOf}
 use Rattle.gate_value.specs.Told.{tellGate}
 
 pub gate-apart : (a b : GateAnswer) → tellGate a ≡ tellGate b → a ≡ b

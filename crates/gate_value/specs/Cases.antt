@@ -2,7 +2,7 @@
 use Prim.Native.Nat.{ℕ}
 use mathlib.Core.Path.{_≡_}
 use mathlib.Core.List.{List, [], _∷_}
-use Rattle.wire.specs.Answers.{Answer, given}
+use Rattle.wire.specs.Answers.{given}
 use Rattle.gate_value.specs.Value.{float, Worth, belowThreshold, worth, valueOf}
 
 pub record Case : Type 0 where

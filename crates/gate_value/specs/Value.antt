@@ -8,7 +8,7 @@ use lib.ListN.{getD}
 use lib.Ieee.{Float, binary32, sub, div, lt, ofInt, ofBits}
 use lib.Ieee.Scale.{finite}
 use Rattle.wire.specs.Checks.{pick, Check, check}
-use Rattle.wire.specs.Answers.{Answer, refused, given, rule}
+use Rattle.wire.specs.Answers.{Answer, refused, rule}
 use Rattle.radial_spec.specs.Description.{Moment, gates}
 use Rattle.radial_spec.specs.Lookups.{onward, momentOf}
 

@@ -8,7 +8,7 @@ use lib.Dec.{ltb, leb, eqb}
 use lib.ListN.{length}
 use borrow.Author.Tests.{le-ltb, lt-leb, eq-eqb, ne-eqb, eqb-true, eqb-false, ltb-false}
 use Rattle.wire.specs.Numbers.{num}
-use Rattle.wire.specs.Checks.{pick, Check, check, decide, someBroken, among}
+use Rattle.wire.specs.Checks.{pick, check, decide, someBroken}
 use Rattle.wire.specs.Answers.{refused, given}
 use Rattle.wire.specs.Tables.{render, Fit, Spells}
 use Rattle.wire.specs.declared.Halfwords.{Halfwords}

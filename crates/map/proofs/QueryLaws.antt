@@ -1,7 +1,7 @@
 -- The walk of a query past the zones of a checked azimuth. Assumes nothing.
 use Prim.Native.Nat.{ℕ, zero, suc, _+_, _*_, _-_, _≤_, _<_}
 use native.Mathlib.Omega.{arith}
-use mathlib.Core.Path.{_≡_, refl, sym, ap, _∙_, subst}
+use mathlib.Core.Path.{_≡_, sym, ap, _∙_, subst}
 use mathlib.Core.List.{List, _∷_}
 use lib.ListN.{length, drop}
 use borrow.Author.Tests.{le-leb, lt-leb}

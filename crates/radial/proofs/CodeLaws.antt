@@ -11,7 +11,7 @@ use Rattle.wire.specs.Answers.{Answer, refused, given}
 use Rattle.wire.proofs.NumberLaws.{cut-is, num-drop, nums-length, nums-at}
 use Rattle.radial_spec.specs.Description.{mostGates, wordSizes, Member, Moment, gates, momentEnd}
 use Rattle.radial_spec.specs.Refusal.{momentAt}
-use Rattle.radial_spec.specs.Lookups.{Coded, onward, momentOf, codedIn, codedOf}
+use Rattle.radial_spec.specs.Lookups.{onward, momentOf, codedIn, codedOf}
 use Rattle.radial_check.proofs.PartLaws.{there}
 use Rattle.radial.specs.Steps.{placeShown, MomentThere, WordThere, codeIn}
 use Rattle.radial.proofs.FindLaws.{lies-at, no-place}

@@ -13,11 +13,11 @@ use Rattle.wire.specs.Checks.{pick}
 use Rattle.wire.specs.Answers.{Answer, refused, given, numberOf}
 use Rattle.wire.proofs.CheckLaws.{never}
 use Rattle.radial_spec.specs.Description.{constants, mostGates, wordSizes, Member, Moment, Description, gates, momentEnd}
-use Rattle.radial_spec.specs.Refusal.{countIn, pointer, part, nameIn, momentAt, momentsAt, description, radialOf}
+use Rattle.radial_spec.specs.Refusal.{countIn, pointer, part, nameIn, momentAt, momentsAt, radialOf}
 use Rattle.radial_spec.specs.Lookups.{momentNamed, momentOf}
 use Rattle.radial_spec.proofs.Naming.{found-at, found-lies}
 use Rattle.radial.specs.Steps.{placeFrom, placeIn, placeShown, placeAsked}
-use Rattle.radial_spec.proofs.Held.{Held, held, refused-from, accepted-is}
+use Rattle.radial_spec.proofs.Held.{held, refused-from, accepted-is}
 
 -- what the n pointers from byte q on point at is in the body, after the header
 abbrev Points : List ℕ → ℕ → ℕ → Type 0

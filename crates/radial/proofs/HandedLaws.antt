@@ -1,22 +1,17 @@
 -- The reader's struct tells an acceptance from a refusal, and with the lent body is the description. Assumes nothing.
-use Prim.Native.Nat.{ℕ, zero, suc, _+_, _-_, _/_, _≤_}
+use Prim.Native.Nat.{ℕ, zero, suc, _+_, _-_, _/_}
 use native.Mathlib.Omega.{arith}
 use mathlib.Core.Path.{_≡_, refl, sym, ap, _∙_}
-use mathlib.Core.Bool.{Bool, true, false}
-use mathlib.Core.Option.{some}
-use mathlib.Core.List.{List, [], _∷_, _++_, map}
-use lib.Dec.{lit≤}
+use mathlib.Core.List.{List, _∷_, map}
 use lib.ListN.{length, take, drop, replicate}
 use lib.Seq.{take-at}
 use borrow.Author.Tests.{ne-eqb}
 use Rattle.wire.specs.Numbers.{num, nums}
-use Rattle.wire.specs.Checks.{Check, first, pick}
+use Rattle.wire.specs.Checks.{first}
 use Rattle.wire.specs.Answers.{Answer, refused, given}
-use Rattle.wire.proofs.CheckLaws.{never}
-use Rattle.wire.proofs.AnswerLaws.{rule-given, rule-refused}
 use Rattle.wire.proofs.NumberLaws.{nums-length}
 use Rattle.radial_spec.specs.Description.{constants, constantHead, Description, blockCount, mostMoments}
-use Rattle.radial_spec.specs.Refusal.{sizeIn, countIn, pointer, part, blockSays, blockAt, momentAt, momentsAt, momentSays, nameIn, description, momentsChecks, radialChecks, endAt, radialOf}
+use Rattle.radial_spec.specs.Refusal.{sizeIn, countIn, pointer, blockSays, blockAt, momentAt, momentsAt, description, radialOf}
 use Rattle.radial_spec.proofs.Accepted.{exactly}
 use Rattle.radial_spec.proofs.Held.{refused-from, accepted-is}
 use Rattle.radial.specs.declared.MomentHead.{MomentHead}

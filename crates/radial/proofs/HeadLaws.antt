@@ -5,26 +5,20 @@ use native.Mathlib.Omega.{arith}
 use native.Mathlib.Numerals.{add-one}
 use mathlib.Core.Path.{_≡_, refl, sym, ap, _∙_}
 use mathlib.Core.List.{List, [], _∷_, _++_, map, append-assoc}
-use lib.ListN.{length, drop, set, replicate}
+use lib.ListN.{length, set, replicate}
 use lib.Seq.{set-at}
-use borrow.Author.Tests.{le-ltb, ltb-false}
 use Rattle.wire.specs.Numbers.{nums}
-use Rattle.wire.specs.Checks.{AllHold}
 use Rattle.wire.specs.Answers.{given}
-use Rattle.wire.proofs.CheckLaws.{all-hold}
-use Rattle.wire.proofs.AnswerLaws.{rule-given}
 use Rattle.wire.proofs.NumberLaws.{nums-length}
-use Rattle.radial_spec.specs.Description.{constants, Moment, Description, mostMoments}
-use Rattle.radial_spec.specs.Refusal.{sizeIn, countIn, pointer, part, nameIn, blockSays, momentSays, blockAt, momentAt, momentsAt, description, constantsChecks, momentsChecks, endAt, radialChecks, radialOf}
+use Rattle.radial_spec.specs.Description.{constants, Moment, mostMoments}
+use Rattle.radial_spec.specs.Refusal.{countIn, pointer, part, blockSays, blockAt, momentAt, momentsAt, description, radialOf}
 use Rattle.radial_spec.proofs.Accepted.{moments-length}
-use Rattle.radial_heading.specs.declared.Header.{Header}
 use Rattle.radial_heading.specs.declared.Heading.{Heading}
 use Rattle.radial.specs.declared.Span.{Span}
 use Rattle.radial.specs.declared.MomentHead.{MomentHead}
-use Rattle.radial.specs.declared.Radial.{Radial}
 use Rattle.radial.specs.Told.{spanOf, headOf, noHead, headsOf, shown}
-use Rattle.radial_heading.specs.Told.{headerOf, headingShown}
-use Rattle.radial.specs.Steps.{headAt, spanAt}
+use Rattle.radial_heading.specs.Told.{headingShown}
+use Rattle.radial.specs.Steps.{spanAt}
 use Rattle.radial_spec.proofs.Held.{BlockHeld, Held, held}
 
 -- ---- the heads in their places

@@ -1,5 +1,4 @@
 // The gates of a moment: that part of the lent body which holds exactly its gate words. Nothing is copied.
-ghost use mathlib.Core.Path.{_≡_};
 ghost use Prim.Native.Nat.{_+_, _≤_};
 ghost use lib.ListN.{length};
 ghost use Rattle.wire.specs.Numbers.{num};

@@ -1,17 +1,16 @@
 -- The loop of the first pass: what is left of the walk is the walk from the start. Assumes nothing.
 use Prim.Native.Nat.{ℕ, zero, suc, _+_, _-_, _≤_, _<_}
 use mathlib.Core.Path.{_≡_, refl, sym, ap, subst, _∙_}
-use mathlib.Core.Bool.{Bool, true, false}
-use mathlib.Core.Option.{Option, none, some}
+use mathlib.Core.Bool.{Bool, false}
 use mathlib.Core.List.{List, [], _∷_, _++_}
 use native.Mathlib.Omega.{arith}
-use lib.ListN.{length, getD, take, drop, replicate, length-drop, length-replicate, getD-replicate}
+use lib.ListN.{length, getD, drop, replicate, length-drop, length-replicate, getD-replicate}
 use Rattle.wire.specs.Numbers.{num}
 use Rattle.wire.specs.Checks.{first}
-use Rattle.wire.specs.Answers.{Answer, refused, given}
+use Rattle.wire.specs.Answers.{refused}
 use Rattle.header.specs.declared.Header.{Header}
 use Rattle.header.specs.Header.{storedIn, headerIn, mostSegments}
-use Rattle.set_spec.specs.Segment.{Segment, segmentIn, numbered, found, headerNumbered, dataNumbered}
+use Rattle.set_spec.specs.Segment.{Segment, segmentIn, numbered}
 use Rattle.set_spec.specs.Walk.{walk}
 use Rattle.set_spec.proofs.WalkLaws.{walk-ends, walk-stops, walk-goes}
 use Rattle.set.specs.declared.Heads.{Heads}

@@ -1,5 +1,5 @@
 -- One frame's turn: what its checks say, and what the arrays tell after it. Assumes nothing.
-use Prim.Native.Nat.{ℕ, zero, suc, _+_, _-_, _≤_, _<_}
+use Prim.Native.Nat.{ℕ, suc, _+_, _-_, _≤_, _<_}
 use mathlib.Core.Path.{_≡_, refl, sym, ap, subst, _∙_}
 use mathlib.Core.Bool.{Bool, true, false, not}
 use mathlib.Core.Option.{Option, none, some}
@@ -9,11 +9,11 @@ use lib.Dec.{eqb}
 use lib.ListN.{length, getD, set, take, drop, length-set}
 use lib.Seq.{getD-set-same, getD-set-other}
 use borrow.Author.Tests.{eqb-true, eqb-false, ne-eqb}
-use Rattle.wire.specs.Checks.{pick, Check, check, first, someBroken, AllHold}
+use Rattle.wire.specs.Checks.{pick, check, first, someBroken}
 use Rattle.wire.proofs.CheckLaws.{all-hold, all-hold-append}
-use Rattle.frame.specs.Session.{headSize, sessionLimit, bodyIn, after, frameChecks}
+use Rattle.frame.specs.Session.{sessionLimit, bodyIn, after, frameChecks}
 use Rattle.header.specs.declared.Header.{Header}
-use Rattle.header.specs.Header.{headerIn, headerSize, mostSegments, headerChecks}
+use Rattle.header.specs.Header.{mostSegments, headerChecks}
 use Rattle.set_spec.specs.Segment.{Segment, segmentIn, notData, ownChecks, agreeChecks, numbered, found, orNothing, headerNumbered, dataNumbered}
 use Rattle.set_spec.specs.Walk.{firstOr, seen, metChecks, turnChecks, count}
 use Rattle.set_spec.proofs.OrderLaws.{first-append-none, first-append-some, first-same-some, first-same-none}

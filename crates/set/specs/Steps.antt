@@ -6,13 +6,13 @@ use mathlib.Core.Option.{none, some}
 use mathlib.Core.List.{List, [], _∷_, _++_}
 use lib.Dec.{eqb}
 use lib.ListN.{length, getD, take, drop, replicate}
-use Rattle.wire.specs.Checks.{pick, both, Check, first}
-use Rattle.wire.specs.Answers.{Answer, refused, given}
+use Rattle.wire.specs.Checks.{pick, both, first}
+use Rattle.wire.specs.Answers.{refused, given}
 use Rattle.frame.specs.Session.{sessionLimit, after}
 use Rattle.header.specs.declared.Header.{Header}
 use Rattle.header.specs.Header.{mostSegments}
 use Rattle.set_spec.specs.Segment.{Segment, segmentIn, ownChecks, numbered, found, headerNumbered, dataNumbered}
-use Rattle.set_spec.specs.Walk.{firstOr, seen, turnChecks, walk, count}
+use Rattle.set_spec.specs.Walk.{firstOr, turnChecks, walk, count}
 use Rattle.set.specs.declared.Heads.{Heads}
 use Rattle.set.specs.declared.Turn.{Turn}
 use Rattle.set.specs.declared.Turn.the-variants.{Next, Refused as Stopped}

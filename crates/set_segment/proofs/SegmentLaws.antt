@@ -9,10 +9,10 @@ use Rattle.wire.specs.Checks.{first}
 use Rattle.wire.specs.Answers.{refused, given}
 use Rattle.wire.proofs.CheckLaws.{decide-none, decide-some}
 use Rattle.frame.specs.declared.Frame.{Frame}
-use Rattle.frame.specs.Session.{headSize, dataKind, sizeIn, bodyIn}
+use Rattle.frame.specs.Session.{headSize, dataKind, bodyIn}
 use Rattle.header.specs.declared.Header.{Header}
 use Rattle.header.specs.Header.{headerSize, headerOf}
-use Rattle.set_spec.specs.Segment.{Placed, placedIn, ownChecks, segmentAt}
+use Rattle.set_spec.specs.Segment.{placedIn, ownChecks, segmentAt}
 use Rattle.set_spec.proofs.FrameFacts.{FrameLies, header-given, header-refused, own-header}
 
 -- a check that refuses it

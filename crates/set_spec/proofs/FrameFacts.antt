@@ -1,24 +1,24 @@
 -- What an accepted frame and an accepted header say. Assumes nothing.
-use Prim.Native.Nat.{ℕ, _+_, _-_, _≤_, _<_}
+use Prim.Native.Nat.{ℕ, _+_, _-_, _≤_}
 use mathlib.Core.Path.{_≡_, refl, sym, ap, subst, _∙_}
-use mathlib.Core.Bool.{Bool, true, false, not}
-use mathlib.Core.Option.{Option, none, some}
-use mathlib.Core.List.{List, [], _∷_, _++_}
+use mathlib.Core.Bool.{Bool, true, false}
+use mathlib.Core.Option.{none, some}
+use mathlib.Core.List.{List, _∷_}
 use native.Mathlib.Omega.{arith}
 use lib.Dec.{ltb, eqb}
 use lib.ListN.{length, take, drop, length-drop, drop-of-length-le}
 use lib.Seq.{drop-drop}
-use borrow.Author.Tests.{ltb-false, eqb-true, eqb-false, not-false, eq-eqb, ne-eqb}
-use Rattle.wire.specs.Checks.{pick, Check, check, first, AllHold}
-use Rattle.wire.specs.Answers.{Answer, refused, given, rule}
+use borrow.Author.Tests.{ltb-false, eqb-true, eq-eqb, ne-eqb}
+use Rattle.wire.specs.Checks.{pick, check, first, AllHold}
+use Rattle.wire.specs.Answers.{refused, given, rule}
 use Rattle.wire.proofs.CheckLaws.{never, all-hold}
 use Rattle.wire.proofs.AnswerLaws.{rule-given, rule-refused}
 use Rattle.frame.specs.declared.Frame.{Frame}
-use Rattle.frame.specs.Session.{headSize, sessionLimit, dataKind, kindIn, sizeIn, bodyIn, after, frameChecks, Stream, end, frame, frameIn, frameAt}
+use Rattle.frame.specs.Session.{headSize, sessionLimit, dataKind, kindIn, sizeIn, bodyIn, after, frameChecks, end, frame, frameIn, frameAt}
 use Rattle.header.specs.declared.Header.{Header}
-use Rattle.header.specs.Header.{headerSize, headerIn, dataIn, mostSegments, headerChecks, headerOf}
+use Rattle.header.specs.Header.{headerSize, headerIn, mostSegments, headerChecks, headerOf}
 use Rattle.set_spec.specs.Segment.{notData, ownChecks}
-use Rattle.set_spec.proofs.OrderLaws.{first-append-none, first-append-some, drop-take}
+use Rattle.set_spec.proofs.OrderLaws.{first-append-none, first-append-some}
 
 -- ---- a frame
 pub record Framed (rest : List ℕ) : Type 0 where

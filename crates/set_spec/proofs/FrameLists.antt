@@ -3,16 +3,16 @@ use Prim.Native.Nat.{ℕ, zero, suc, _+_, _≤_, _<_}
 use mathlib.Core.Path.{_≡_, refl, sym, ap, subst, _∙_}
 use mathlib.Core.Logic.{_⊎_, ⊎-elim}
 use mathlib.Core.Bool.{Bool, true, false}
-use mathlib.Core.Option.{Option, none, some}
+use mathlib.Core.Option.{none, some}
 use mathlib.Core.List.{List, [], _∷_, _++_, map, flatten, append-assoc, append-nil, List·Memᴰ, List·Memᴰ·head, List·Memᴰ·tail, List·Memᴰ·cases-cons, List·Memᴰ·not-nil}
 use native.Mathlib.Omega.{arith}
 use lib.Dec.{eqb}
 use lib.ListN.{length, length-append}
 use borrow.Author.Tests.{eqb-true, eqb-false}
 use Rattle.wire.specs.Checks.{first, AllHold}
-use Rattle.wire.specs.Answers.{Answer, refused, given}
+use Rattle.wire.specs.Answers.{given}
 use Rattle.wire.proofs.CheckLaws.{all-hold, none-broken, all-hold-append, all-hold-join}
-use Rattle.frame.specs.Session.{headSize, sizeIn, after, frameChecks}
+use Rattle.frame.specs.Session.{headSize, sizeIn, after}
 use Rattle.set_spec.specs.Segment.{Segment, segmentIn, ownChecks}
 use Rattle.set_spec.specs.Walk.{metChecks, turnChecks, walk}
 use Rattle.set_spec.specs.Whole.{headerFrom, Passes}

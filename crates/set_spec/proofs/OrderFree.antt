@@ -12,7 +12,7 @@ use Rattle.wire.proofs.CheckLaws.{never, all-hold-append, all-hold-join}
 use Rattle.header.specs.declared.Header.{Header}
 use Rattle.set_spec.specs.Segment.{Segment, segmentIn, agreeChecks, numbered, found, orNothing, dataNumbered}
 use Rattle.set_spec.specs.Walk.{firstOr, seen, metChecks, count, allSeen, joined}
-use Rattle.set_spec.specs.Whole.{headerFrom, numberFrom, dataFrom, Agree, Distinct, Joined, start, next}
+use Rattle.set_spec.specs.Whole.{headerFrom, numberFrom, Agree, Distinct, Joined, start, next}
 use Rattle.set_spec.proofs.NumberedLaws.{numbered-other, first-more}
 use Rattle.set_spec.proofs.FrameLists.{each-cons, AllMet}
 

@@ -1,8 +1,8 @@
 -- A frame's bytes read alone and with more bytes after them, and a frame cut off the front of what is left. Assumes nothing.
-use Prim.Native.Nat.{ℕ, _+_, _≤_, _<_}
-use mathlib.Core.Path.{_≡_, refl, sym, ap, subst, _∙_}
-use mathlib.Core.Bool.{Bool, false, not}
-use mathlib.Core.List.{List, [], _∷_, _++_}
+use Prim.Native.Nat.{ℕ, _+_}
+use mathlib.Core.Path.{_≡_, sym, ap, subst, _∙_}
+use mathlib.Core.Bool.{false, not}
+use mathlib.Core.List.{List, _∷_, _++_}
 use native.Mathlib.Omega.{arith}
 use lib.Dec.{ltb, eqb}
 use lib.ListN.{length, take, drop, length-append, length-drop, take-append-drop}
@@ -13,8 +13,8 @@ use Rattle.wire.proofs.CheckLaws.{all-hold-append, all-hold-join}
 use Rattle.wire.proofs.NumberLaws.{num-append, num-take}
 use Rattle.frame.specs.Session.{headSize, lastKind, dataKind, sessionLimit, kindIn, sizeIn, bodyIn, after, frameChecks}
 use Rattle.header.specs.Header.{headerIn, dataIn, headerChecks}
-use Rattle.set_spec.specs.Segment.{Segment, segmentIn, notData, ownChecks}
-use Rattle.set_spec.proofs.FrameFacts.{Framed, framed}
+use Rattle.set_spec.specs.Segment.{segmentIn, notData, ownChecks}
+use Rattle.set_spec.proofs.FrameFacts.{Framed}
 
 -- a frame's own checks, and its parts
 pub own-parts : (rest : List ℕ) → AllHold (ownChecks rest) → AllHold (frameChecks rest) × (notData rest ≡ false) × AllHold (headerChecks (bodyIn rest))

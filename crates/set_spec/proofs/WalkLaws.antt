@@ -1,13 +1,13 @@
 -- One turn of the walk, by what its checks say. Assumes nothing.
 use Prim.Native.Nat.{ℕ, zero, suc, _≤_, _<_}
-use mathlib.Core.Path.{_≡_, refl, sym, _∙_}
-use mathlib.Core.Option.{Option, none, some}
+use mathlib.Core.Path.{_≡_, refl}
+use mathlib.Core.Option.{none, some}
 use mathlib.Core.List.{List, [], _∷_, _++_}
 use native.Mathlib.Omega.{arith}
 use lib.ListN.{length}
 use borrow.Author.Tests.{eq-eqb, ne-eqb}
 use Rattle.wire.specs.Checks.{first, decide}
-use Rattle.wire.specs.Answers.{Answer, refused, given}
+use Rattle.wire.specs.Answers.{refused, given}
 use Rattle.wire.proofs.CheckLaws.{never, passed, decide-none, decide-some}
 use Rattle.frame.specs.Session.{after}
 use Rattle.set_spec.specs.Segment.{Segment, segmentIn}

@@ -1,8 +1,7 @@
 -- Floats by their 32 bits: a pattern that is a NaN's reads as the one NaN, which 0 / 0 is too. Assumes nothing.
 use Prim.Native.Nat.{ℕ, _%_, _<_, _≤_}
 use mathlib.Core.Path.{_≡_, refl, sym, _∙_}
-use mathlib.Core.Bool.{Bool, true, false, not}
-use lib.Dec.{T, ltb}
+use mathlib.Core.Bool.{true, false}
 use lib.Ieee as Ieee
 use lib.Ieee.{Float, nan, inf, fin, binary32, ofBits, nanBits, isNan, div}
 use lib.Ieee.Bits.{nanBits-above, nanBits-is}

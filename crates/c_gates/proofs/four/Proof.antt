@@ -1,5 +1,4 @@
 use Rattle.c_gates.proofs.GatesLaws.{four-is}
-use native.Mathlib.Omega.{arith}
 use borrow.Author.Needs.{needs}
 use Rattle.c_gates.proofs.four.Statement.{statement}
 use Rattle.c_gates.proofs.four.Tie as tie

@@ -2,8 +2,7 @@ use Rattle.c_gates.proofs.GatesLaws.{name-back}
 use Rattle.c_gates.specs.Face.{worthFace}
 use Rattle.gate_value.specs.Value.{gateOf}
 use Prim.Native.Nat.{ℕ}
-use mathlib.Core.List.{List}
-use mathlib.Core.Path.{ap, sym, _∙_}
+use mathlib.Core.Path.{ap, _∙_}
 use denote.Ref.{now}
 use borrow.Author.Needs.{needs}
 use Rattle.c_gates.proofs.gate.Statement.{statement}

@@ -1,7 +1,7 @@
 use Rattle.c_radial.proofs.RadialLaws.{block-constant, block-moment, block-none, block-refused}
 use Rattle.radial.specs.Told.{tellBlock}
 use Rattle.radial_spec.specs.Lookups.{blockOf}
-use mathlib.Core.Path.{_≡_, refl, ap, sym, _∙_}
+use mathlib.Core.Path.{ap, sym, _∙_}
 use denote.Ref.{now}
 use borrow.Author.Needs.{needs}
 use Rattle.c_radial.proofs.block.Statement.{statement}

@@ -1,13 +1,7 @@
 use Rattle.frame.proofs.StreamLaws.{past-end}
 use Rattle.wire.proofs.ListLaws.{part-is}
-use Rattle.frame.specs.Session.{Stream, frame, frameChecks, frameIn, frameAt}
-use Rattle.wire.specs.Answers.{Answer, rule}
+use Rattle.frame.specs.Session.{frame, frameAt}
 use borrow.Author.Tests.{eq-eqb, ne-eqb}
-use native.Mathlib.Omega.{arith}
-use lib.ListN.{length, drop}
-use Prim.Native.Nat.{ℕ}
-use mathlib.Core.List.{List}
-use mathlib.Core.Path.{_≡_, ap, _∙_}
 use denote.Ref.{now}
 use borrow.Author.Needs.{needs}
 use Rattle.frame.proofs.frame_at.Statement.{statement}

@@ -1,6 +1,6 @@
 use lib.ListN.{length}
 use denote.Ref.{now}
-use mathlib.Core.Path.{_≡_, sym, _∙_}
+use mathlib.Core.Path.{sym, _∙_}
 use native.Mathlib.Omega.{arith}
 use Rattle.wire.proofs.NumberLaws.{fetched-whole}
 use Rattle.header.proofs.HeaderLaws.{stored-whole, nothing-stored}

@@ -8,10 +8,9 @@ use Rattle.wire.specs.Checks.{pick}
 use native.Mathlib.Omega.{arith}
 use lib.ListN.{length, drop}
 use lib.Dec.{ltb}
-use mathlib.Core.List.{List}
-use mathlib.Core.Path.{_≡_, refl, sym, ap, _∙_}
+use mathlib.Core.Path.{_≡_, refl, sym, _∙_}
 use denote.Ref.{now}
-use Prim.Native.Nat.{ℕ, _+_, _*_, _≤_}
+use Prim.Native.Nat.{_*_, _≤_}
 use borrow.Author.Needs.{needs}
 use Rattle.map.proofs.check_body.Statement.{statement}
 use Rattle.map.proofs.check_body.Tie as tie

@@ -1,18 +1,15 @@
 use Rattle.map.proofs.StepLaws.{first-stops, first-ends, second-stops, second-passes, run-fits, none-found}
 use Rattle.map_check.specs.Told.{runStep}
-use Rattle.map.specs.Steps.{Finds}
-use Rattle.map_check.specs.declared.Step.the-variants.{Next, Stop}
-use Rattle.map_check.specs.declared.Step.{Step}
-use Rattle.map.specs.declared.Found.{Found}
+use Rattle.map_check.specs.declared.Step.the-variants.{Next}
 use Rattle.map_spec.proofs.Accepted.{azimuth-long}
-use Rattle.map_spec.specs.Reading.{runSize, azimuthPart}
+use Rattle.map_spec.specs.Reading.{azimuthPart}
 use Rattle.wire.proofs.ListLaws.{part-is}
 use lib.ListN.{length, drop, length-drop}
 use native.Mathlib.Omega.{arith}
 use mathlib.Core.List.{List}
 use mathlib.Core.Path.{_≡_, sym, ap, _∙_}
 use denote.Ref.{now}
-use Prim.Native.Nat.{ℕ, _+_, _-_, _≤_}
+use Prim.Native.Nat.{ℕ, _-_, _≤_}
 use borrow.Author.Needs.{needs}
 use Rattle.map.proofs.find_azimuth.Statement.{statement}
 use Rattle.map.proofs.find_azimuth.Tie as tie

@@ -9,7 +9,7 @@ use Rattle.wire.proofs.ListLaws.{part-is}
 use lib.ListN.{length, take, drop, length-drop}
 use native.Mathlib.Omega.{arith}
 use mathlib.Core.List.{List}
-use mathlib.Core.Path.{_≡_, sym, ap, _∙_, subst}
+use mathlib.Core.Path.{_≡_, ap, _∙_, subst}
 use denote.Ref.{now}
 use Prim.Native.Nat.{ℕ, _+_, _*_, _-_, _≤_, _<_}
 use borrow.Author.Needs.{needs}

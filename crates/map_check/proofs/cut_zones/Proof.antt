@@ -1,7 +1,7 @@
 use denote.Ref.{now}
 use lib.ListN.{length}
 use mathlib.Core.Path.{refl, sym, _∙_}
-use Prim.Native.Nat.{ℕ, _*_, _/_}
+use Prim.Native.Nat.{_*_, _/_}
 use Rattle.map_check.proofs.RisingLaws.{cut-high, cut-code, cut-short}
 use borrow.Author.Needs.{needs}
 use Rattle.map_check.proofs.cut_zones.Statement.{statement}

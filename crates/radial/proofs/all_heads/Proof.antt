@@ -1,9 +1,9 @@
-use Prim.Native.Nat.{ℕ, _+_, _-_, _*_}
+use Prim.Native.Nat.{ℕ, _-_}
 use native.Mathlib.Omega.{arith}
 use mathlib.Core.Path.{ap, _∙_}
 use denote.Ref.{now}
 use Rattle.radial.specs.Steps.{headAt}
-use Rattle.radial_spec.proofs.Held.{Held, held}
+use Rattle.radial_spec.proofs.Held.{held}
 use Rattle.radial.proofs.HeadLaws.{Filling, fill-begins, fill-turns, fill-ends}
 use borrow.Author.Needs.{needs}
 use Rattle.radial.proofs.all_heads.Statement.{statement}

@@ -1,4 +1,3 @@
-use Prim.Native.Nat.{ℕ}
 use native.Mathlib.Omega.{arith}
 use mathlib.Core.Path.{_≡_, sym}
 use mathlib.Core.Option.{some}
@@ -6,7 +5,6 @@ use denote.Ref.{now}
 use Rattle.wire.specs.Answers.{given}
 use Rattle.wire.proofs.NumberLaws.{number-is}
 use Rattle.radial_spec.specs.Refusal.{pointer}
-use Rattle.radial.specs.declared.Span.{Span}
 use Rattle.radial.proofs.PartLaws.{span-cut}
 use Rattle.radial.specs.Steps.{constantTold}
 use borrow.Author.Needs.{needs}

@@ -1,6 +1,5 @@
 use Rattle.radial.proofs.PartLaws.{span-cut}
 use denote.Ref.{now}
-use Prim.Native.Nat.{ℕ}
 use borrow.Author.Needs.{needs}
 use Rattle.radial.proofs.span_of.Statement.{statement}
 use Rattle.radial.proofs.span_of.Tie as tie

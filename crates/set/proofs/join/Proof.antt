@@ -3,7 +3,7 @@ use native.Mathlib.Omega.{arith}
 use lib.ListN.{length, drop}
 use mathlib.Core.List.{_++_}
 use mathlib.Core.Path.{_≡_, refl}
-use Prim.Native.Nat.{ℕ, _-_, _≤_}
+use Prim.Native.Nat.{_-_, _≤_}
 use Rattle.set.specs.Steps.{partsLong, parts}
 use Rattle.set.proofs.ArrayLaws.{long-more, long-next, join-more, join-long, joined-is}
 use borrow.Author.Needs.{needs}

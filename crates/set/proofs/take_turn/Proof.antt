@@ -2,7 +2,7 @@ use Rattle.set.proofs.TurnLaws.{number-low, number-high, turn-refused, 
 use Rattle.set_segment.specs.Told.{tellSegment}
 use Rattle.set.specs.Steps.{SegmentLies}
 use Rattle.set.proofs.SegmentLaws.{segment-refused, segment-lies}
-use mathlib.Core.Path.{_≡_, sym, ap, _∙_}
+use mathlib.Core.Path.{sym, ap, _∙_}
 use denote.Ref.{now}
 use borrow.Author.Needs.{needs}
 use Rattle.set.proofs.take_turn.Statement.{statement}

@@ -4,7 +4,7 @@ use Rattle.header.specs.Told.{tellHeader}
 use lib.ListN.{drop}
 use native.Mathlib.Omega.{arith}
 use Rattle.frame.specs.Told.{tellFrame}
-use mathlib.Core.Path.{_≡_, sym, ap, _∙_}
+use mathlib.Core.Path.{sym, ap, _∙_}
 use denote.Ref.{now}
 use borrow.Author.Needs.{needs}
 use Rattle.set_segment.proofs.segment_at.Statement.{statement}

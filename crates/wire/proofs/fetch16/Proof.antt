@@ -1,5 +1,5 @@
 use mathlib.Core.Path.{sym, _∙_}
-use Rattle.wire.proofs.NumberLaws.{fetched-whole, fetched-short, num-one}
+use Rattle.wire.proofs.NumberLaws.{fetched-whole, fetched-short}
 use borrow.Author.Needs.{needs}
 use Rattle.wire.proofs.fetch16.Statement.{statement}
 use Rattle.wire.proofs.fetch16.Tie as tie
