@@ -1,1 +1,1 @@
-// What differs between two clutter filter maps: definitions and theorems, and no code. What compares two maps stands in the crate `compare`.
+// What differs between two clutter filter maps: definitions and theorems, and no code. The code is in `compare`.

@@ -1,4 +1,4 @@
--- K1's lone segment, from the theorems of `message` and `segments`. Assumes nothing.
+-- K1's lone segment, from the theorems of `header` and `set_spec`. Assumes nothing.
 use Prim.Native.Nat.{ℕ}
 use mathlib.Core.Path.{_≡_, sym, ap, _∙_}
 use mathlib.Core.List.{List}

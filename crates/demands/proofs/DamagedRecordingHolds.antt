@@ -1,4 +1,4 @@
--- K10's salvage, from the theorems of `recording`. Assumes nothing.
+-- K10's salvage, from the theorems of `salvage_spec`. Assumes nothing.
 use Prim.Native.Nat.{ℕ, suc, _+_, _*_, _≤_}
 use native.Mathlib.Omega.{arith}
 use mathlib.Core.Path.{_≡_, refl, sym, ap, subst, _∙_}

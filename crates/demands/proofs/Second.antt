@@ -1,4 +1,4 @@
--- Demand 2, from the round trip of `replay`. Assumes nothing.
+-- Demand 2, from the round trip of `round_trip`. Assumes nothing.
 use Prim.Native.Nat.{ℕ}
 use mathlib.Core.Path.{_≡_, sym, ap, _∙_}
 use mathlib.Core.List.{List}

@@ -1,4 +1,4 @@
--- Demand 3, from the theorems of `description`, `radial`, `lookup` and `gate`. Assumes nothing.
+-- Demand 3, from the theorems of `radial_spec`, `radial`, `radial_gates` and `gate_value`. Assumes nothing.
 use Prim.Native.Nat.{ℕ}
 use mathlib.Core.Path.{_≡_, refl, sym, ap, _∙_}
 use mathlib.Core.List.{List}

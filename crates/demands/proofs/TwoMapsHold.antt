@@ -1,4 +1,4 @@
--- K2's comparison, from the theorems of `differences`. Assumes nothing.
+-- K2's comparison, from the theorems of `compare_spec`. Assumes nothing.
 use Prim.Native.Nat.{ℕ, _*_, _≤_, _<_}
 use native.Mathlib.Omega.{arith}
 use mathlib.Core.Path.{_≡_, refl, sym, ap, subst, _∙_}

@@ -1,1 +1,1 @@
-// Message 15, the clutter filter map: definitions and theorems, and no code. What reads a map stands in the crate `filter`.
+// Message 15, the clutter filter map: definitions and theorems, and no code. The code is in `map_check` and `map`.

@@ -1,1 +1,1 @@
-// What is kept and what is skipped of a damaged recording. Specifications and theorems; no code.
+// What is kept and what is skipped of a damaged recording. Definitions and theorems, and no code. The code is in `salvage_find` and `salvage`.
