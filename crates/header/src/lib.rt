@@ -28,13 +28,13 @@ pub enum HeaderAnswer {
     Refused(u8),
 }
 
-const HEADER: usize = 16;
+pub const HEADER: usize = 16;
 
 const MOST_BYTES: usize = 131068;
 
-const RADIAL: u8 = 31;
+pub const RADIAL: u8 = 31;
 
-const MOST_SEGMENTS: u16 = 128;
+pub const MOST_SEGMENTS: u16 = 128;
 
 const SEGMENT_SIZE: u32 = 1208;
 

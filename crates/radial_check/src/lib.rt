@@ -12,7 +12,7 @@ ghost use Rattle.radial_check.specs.Steps.{tellStart, tellFound, tellGot
 use wire::refusal;
 
 // "The header takes bytes 0 to 67", and the first block begins there or later.
-const HEADER_SIZE: usize = 68;
+pub const HEADER_SIZE: usize = 68;
 
 const FIRST_PLACE: usize = 68;
 

@@ -5,8 +5,7 @@ ghost use lib.ListN.{length};
 ghost use Rattle.radial_spec.specs.Description.{headerSize};
 ghost use Rattle.radial_spec.specs.Refusal.{countIn, description, radialOf};
 ghost use Rattle.radial_heading.specs.Told.{headerOf, noHeader, headingShown};
-
-const HEADER_SIZE: usize = 68;
+use radial_check::HEADER_SIZE;
 
 // The header's values, as stored. Angles by their 32 bits.
 pub struct Header {

@@ -24,7 +24,7 @@ pub enum SetAnswer {
     Refused(u8),
 }
 
-const MOST_SEGMENTS: usize = 128;
+const MOST_SEGMENTS: usize = header::MOST_SEGMENTS as usize;
 
 // The header of the set's first frame, and that of segment 1.
 struct Heads {

@@ -4,11 +4,10 @@ ghost use Rattle.set_spec.specs.Segment.{segmentAt};
 ghost use Rattle.set_segment.specs.Told.{tellSegment};
 use frame::DATA;
 use frame::FrameAnswer;
+use header::HEADER;
 use header::Header;
 use header::HeaderAnswer;
 use wire::refusal;
-
-const HEADER: usize = 16;
 
 // A segment in the buffer: its header, where its data begins, and where its frame ends.
 pub enum SegmentAnswer {

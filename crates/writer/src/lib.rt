@@ -6,21 +6,20 @@ ghost use lib.ListN.{length, drop};
 ghost use Rattle.wire.specs.Answers.{Promise};
 ghost use Rattle.wire.specs.Writing.{filled, tellWrite};
 ghost use Rattle.writer.specs.Writing.{segmentsOf, frameOf, framesOf, longest, writeOf};
+use header::RADIAL;
 use wire::Bytes;
 use wire::WriteAnswer;
 use wire::refusal;
 use writer_head::Given;
 use writer_head::HEADS;
 
-const HEADER: u32 = 16;
+const HEADER: u32 = header::HEADER as u32;
 
 const SEGMENT_DATA: usize = 2400;
 
 const LONGEST_BODY: usize = 307200;
 
 const LONGEST_RADIAL: usize = 131052;
-
-const RADIAL: u8 = 31;
 
 // The body as frames from the start of the output, and their length. Where it is refused nothing is written.
 pub fn write_message(given: Given, body: &[u8], out: &mut [u8]) -> WriteAnswer

@@ -12,7 +12,7 @@ pub struct Given {
     pub milliseconds: u32,
 }
 
-const DATA_KIND: u8 = 2;
+const DATA_KIND: u8 = frame::DATA as u8;
 
 pub const HEADS: usize = 28;
 
