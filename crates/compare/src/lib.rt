@@ -21,7 +21,7 @@ ghost use Rattle.compare.specs.Steps.{mostCounted, sheet, onto, oneIf, z
 const SIZE: usize = 6;
 
 // Those that as many differences take as two maps can have: 39 in each of 360 azimuths of 5 elevation segments.
-const MOST: usize = 421200;
+pub const MOST: usize = 421200;
 
 // How many numbers a halfword has.
 const HALFWORD: u32 = 65536;

@@ -18,6 +18,9 @@ use wire::refusal;
 // Room for as many moments as the count allows.
 pub const ROOM: usize = 6;
 
+// The bits of a gate's word that takes two bytes.
+pub const WIDE_WORD: u8 = 16;
+
 // Where a constant block lies in the body.
 pub struct Span {
     pub place: u32,
@@ -286,7 +289,7 @@ fn code_in(body: &[u8], place: usize, word: u8, gate: usize) -> u16
     requires { ⌜ WordThere (now body) place word gate ⌝ }
     ensures { λ r. ⌜ r ≡ codeIn (now (body .entry)) place word gate ⌝ }
 {
-    if word == 16 {
+    if word == WIDE_WORD {
         let at = place + (28 + gate * 2);
         let end = at + 2;
         return wire::fetch16(&body[at..end], 0);
