@@ -3,7 +3,7 @@
 #   make show                   proves and builds the program, and shows the sample recording by it
 #   make program                proves and builds the program: build/ulmarzhe
 #   make lib                    proves crate ulm and writes build/libulm.a and build/ulm.h
-#   make install PREFIX=DIR     puts archive, header and a pkg-config file under DIR
+#   make install PREFIX=DIR     puts program, manual, archive, header and a pkg-config file under DIR
 #   make check                  the tests in C and Rust, against ARCHIVE, and those of the program
 #   make fuzz SECONDS=60 SEED=7 the differential test for as long as asked
 #   make memcheck               the differential test under valgrind
@@ -31,10 +31,14 @@ show: program
 	$(PROGRAM) picture examples/sample.rec REF > build/sample.pgm
 	@echo 'build/sample.pgm is the picture of REF'
 
+# A C main over the crate ulmarzhe_run, since the language's own has no exit status. `rt` says which archive of its kit is to be linked
+# beside that crate's.
 program:
 	rt check ulmarzhe
-	mkdir -p build
-	cp target/bin/ulmarzhe $(PROGRAM)
+	mkdir -p build/obj
+	rt staticlib ulmarzhe_run >build/obj/said || { cat build/obj/said; exit 1; }
+	$(CC) $(FLAGS) -O2 program/main.c target/staticlib/libulmarzhe_run.a \
+	    "$$(sed -n 's/.*; link \(.*\) beside it$$/\1/p' build/obj/said)" $(LINK) -o $(PROGRAM)
 
 test:
 	bash .ci/run
@@ -45,8 +49,11 @@ lib:
 	cp target/staticlib/libulm.a build/libulm.a
 	cp include/ulm.h build/ulm.h
 
-install: $(ARCHIVE)
-	install -d '$(DESTDIR)$(PREFIX)/lib/pkgconfig' '$(DESTDIR)$(PREFIX)/include'
+install: $(ARCHIVE) $(PROGRAM)
+	install -d '$(DESTDIR)$(PREFIX)/lib/pkgconfig' '$(DESTDIR)$(PREFIX)/include' '$(DESTDIR)$(PREFIX)/bin' \
+	    '$(DESTDIR)$(PREFIX)/share/man/man1'
+	install -m 755 $(PROGRAM) '$(DESTDIR)$(PREFIX)/bin/ulmarzhe'
+	install -m 644 program/ulmarzhe.1 '$(DESTDIR)$(PREFIX)/share/man/man1/ulmarzhe.1'
 	install -m 644 $(ARCHIVE) '$(DESTDIR)$(PREFIX)/lib/libulm.a'
 	install -m 644 include/ulm.h '$(DESTDIR)$(PREFIX)/include/ulm.h'
 	sed -e 's|@PREFIX@|$(PREFIX)|' -e 's|@VERSION@|$(VERSION)|' include/ulm.pc.in \

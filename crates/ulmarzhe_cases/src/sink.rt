@@ -1,0 +1,121 @@
+// Where an answer's text goes: it is compared with the text that was expected as it is produced, or written out where none was.
+use crate::told::Told;
+use ulmarzhe_text::output;
+use ulmarzhe_text::output::Output;
+use ulmarzhe_text::page;
+use ulmarzhe_text::page::PAGE;
+use ulmarzhe_text::page::SHEET;
+use ulmarzhe_text::part::part;
+use ulmarzhe_text::part::sum;
+use ulmarzhe_text::words;
+
+// `asks`: the text is written to `out`; else `same`: all of it was met so far, and `done`: how much of the expected text that is.
+pub struct Sink {
+    pub asks: bool,
+    pub same: bool,
+    pub done: usize,
+    pub out: Output,
+}
+
+pub fn begin(asks: bool, out: Output) -> Sink {
+    Sink {
+        asks,
+        same: true,
+        done: 0,
+        out,
+    }
+}
+
+// How far the page is filled.
+fn at(s: Sink) -> usize {
+    let out = s.out;
+    out.at
+}
+
+fn fill(s: Sink, at: usize) -> Sink {
+    let mut s = s;
+    s.out = output::fill(s.out, at);
+    s
+}
+
+// Whether the expected text was met, all of it.
+pub fn is_met(s: Sink, expected: &[u8]) -> bool {
+    if !s.same {
+        return false;
+    }
+    s.done == expected.len()
+}
+
+pub fn say(s: Sink, sheet: &mut [u8; SHEET], t: Told) -> Sink {
+    let list =
+        b"no #;touched;end;frame # # # # #;header # # # # # # # #;set # # # # # # # # x;wrote x;radial x~ # # # x~ # # # # # x~ # # #; | # # x~; | # # x~ x~ # # # # # # # x~ x~;gates x;below;folded;value x~;request #;censor # x;map # # #;code #;compare # # # x;salvaged # # x";
+    let values = t.values;
+    fill(
+        s,
+        page::fill_in(sheet, at(s), words::pick(list, t.which), &values),
+    )
+}
+
+pub fn end_line(s: Sink, sheet: &mut [u8; SHEET]) -> Sink {
+    fill(s, page::put_byte(sheet, at(s), b'\n'))
+}
+
+// As many bytes of the room behind the page, in hexadecimal.
+pub fn say_bytes(s: Sink, sheet: &mut [u8; SHEET], expected: &[u8], length: usize) -> Sink {
+    let mut s = s;
+    let mut i = 0;
+    while i < length {
+        if SHEET - PAGE <= i {
+            return s;
+        }
+        let b = sheet[PAGE + i];
+        s = say_octet(s, sheet, expected, b);
+        i += 1;
+    }
+    s
+}
+
+// Two numbers more.
+pub fn say_pair(s: Sink, sheet: &mut [u8; SHEET], expected: &[u8], a: u64, b: u64) -> Sink {
+    let s = settle(s, PAGE / 2, sheet, expected);
+    fill(s, page::fill_in(sheet, at(s), b" # #", &[a, b]))
+}
+
+fn say_octet(s: Sink, sheet: &mut [u8; SHEET], expected: &[u8], b: u8) -> Sink {
+    let s = settle(s, PAGE - 2, sheet, expected);
+    fill(s, page::put_octet(sheet, at(s), b))
+}
+
+// Where the page is filled beyond a place it is emptied: written out, or compared with the expected text from where it was met.
+pub fn settle(s: Sink, most: usize, sheet: &[u8; SHEET], expected: &[u8]) -> Sink {
+    let end = at(s);
+    if end <= most {
+        return s;
+    }
+    let mut s = s;
+    if s.asks {
+        s.out = output::flush(s.out, most, sheet);
+        return s;
+    }
+    let rest = part(expected, s.done, expected.len());
+    if s.same {
+        s.same = begins(rest, part(sheet, 0, end));
+    }
+    s.done = sum(s.done, end);
+    fill(s, 0)
+}
+
+// Whether a text begins with another.
+fn begins(s: &[u8], start: &[u8]) -> bool {
+    if s.len() < start.len() {
+        return false;
+    }
+    let mut i = 0;
+    while i < start.len() {
+        if s[i] != start[i] {
+            return false;
+        }
+        i += 1;
+    }
+    true
+}

@@ -1,0 +1,55 @@
+// What the command line names: files, and numbers.
+use crate::words;
+use crate::words::Number;
+
+const STREAMS: usize = 3;
+
+// Where a standard stream is closed, /dev/null takes its number, open for reading alone: what is written there fails, and no other file
+// is taken for the stream.
+pub fn hold_streams() {
+    let mut k = 0;
+    while k < STREAMS {
+        let fd = os::open_read(b"/dev/null");
+        if libc::STDERR_FILENO < fd {
+            libc::close(fd);
+            return;
+        }
+        k += 1;
+    }
+}
+
+// The file that an argument names, open for reading, or -1 once it is said why it is not.
+pub fn open_named(i: usize) -> i32 {
+    let mut path = io::buffer();
+    let length = os::arg(i, &mut path);
+    if os::errno() != 0 {
+        os::fail(b"file name");
+        return -1;
+    }
+    open(&path[..length])
+}
+
+fn open(path: &[u8]) -> i32 {
+    let fd = os::open_read(path);
+    if fd < 0 {
+        os::fail(path);
+        return -1;
+    }
+    let mut none = [0u8; 1];
+    if !can_read(fd, &mut none) {
+        os::fail(path);
+        return -1;
+    }
+    fd
+}
+
+// A directory can be opened. That it cannot be read is said where nothing is asked of it.
+fn can_read(fd: i32, none: &mut [u8]) -> bool {
+    0 <= libc::read(fd, &mut none[0..0])
+}
+
+pub fn read_number(i: usize) -> Number {
+    let mut word = [0u8; 32];
+    let length = os::arg(i, &mut word);
+    words::read_decimal(&word[..length])
+}

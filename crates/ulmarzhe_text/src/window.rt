@@ -1,0 +1,94 @@
+// A file of any length, read by windows: what is looked at lies whole in the window, or is too long for it.
+use crate::part::sum;
+
+pub const WINDOW: usize = 2359296;
+
+// As much is read at a time as stays near the processor.
+const AT_ONCE: usize = 262144;
+
+// What is looked at begins at `from` in the window, whose first byte is the file's at `base`; the window is filled up to `fill`.
+// `ended`: nothing is left to read; `failed`: it could not be read.
+pub struct Reading {
+    pub fd: i32,
+    pub base: u64,
+    pub from: usize,
+    pub fill: usize,
+    pub ended: bool,
+    pub failed: bool,
+}
+
+pub fn begin(fd: i32, base: u64) -> Reading {
+    Reading {
+        fd,
+        base,
+        from: 0,
+        fill: 0,
+        ended: false,
+        failed: false,
+    }
+}
+
+// The place in the file of what is looked at.
+pub fn place_of(r: Reading) -> u64 {
+    std::num::wrapping_add_u64(r.base, r.from as u64)
+}
+
+// What was begun is moved to the window's start, and more is read after it.
+pub fn read_more(r: Reading, window: &mut [u8; WINDOW]) -> Reading {
+    let fill = move_down(window, r.from, r.fill);
+    let got = read_at(r.fd, window, fill);
+    Reading {
+        fd: r.fd,
+        base: place_of(r),
+        from: 0,
+        fill: sum(fill, io::count(got, window)),
+        ended: got <= 0,
+        failed: got < 0,
+    }
+}
+
+fn move_down(window: &mut [u8; WINDOW], from: usize, fill: usize) -> usize {
+    let mut i = 0;
+    let mut next = from;
+    while next < fill {
+        if WINDOW <= next {
+            return i;
+        }
+        window[i] = window[next];
+        i += 1;
+        next += 1;
+    }
+    i
+}
+
+fn read_at(fd: i32, window: &mut [u8], at: usize) -> isize {
+    if window.len() < at {
+        return 0;
+    }
+    if AT_ONCE < window.len() - at {
+        let end = at + AT_ONCE;
+        return libc::read(fd, &mut window[at..end]);
+    }
+    libc::read(fd, &mut window[at..])
+}
+
+// What is looked at begins at another place.
+pub fn look_at(r: Reading, from: usize) -> Reading {
+    let mut r = r;
+    r.from = from;
+    r
+}
+
+// All of a file, as far as the window holds it.
+pub fn read_all(r: Reading, window: &mut [u8; WINDOW]) -> Reading {
+    let mut r = r;
+    let mut turns = u64::MAX;
+    while 0 < turns {
+        r = read_more(r, window);
+        if r.ended {
+            return r;
+        }
+        turns -= 1;
+    }
+    r
+}
