@@ -15,17 +15,17 @@ def fail(why):
     sys.exit(1)
 
 
-def run(*words, program=PROGRAM, given=b"", out=subprocess.PIPE, **how):
-    """What the program writes on standard output and on standard error."""
+def run(*words, status=0, program=PROGRAM, given=b"", out=subprocess.PIPE, **how):
+    """What the program writes on standard output and on standard error, where it ends with that status."""
     command = [program, *map(str, words)]
     done = subprocess.run(command, input=given, stdout=out, stderr=subprocess.PIPE, check=False, **how)
-    if done.returncode != 0:
-        fail(f"{words}: status {done.returncode}")
+    if done.returncode != status:
+        fail(f"{words}: status {done.returncode}, and not {status}; {done.stderr!r}")
     return done.stdout, done.stderr
 
 
-def want(words, out, err=b""):
-    got = run(*words)
+def want(words, out, err=b"", status=0):
+    got = run(*words, status=status)
     if got[0] != out:
         fail(f"{words}: wrote something else than expected")
     if got[1] != err:

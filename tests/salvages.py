@@ -16,7 +16,7 @@ from asked import DAMAGED, PROGRAM, ROOT, SAMPLE, altered, fail, frame, run, wan
 
 ACCOUNT = (ROOT / "tests/golden/salvage").read_bytes()
 # How much of a file the program reads at a time, and the bytes of the longest frame.
-PIECE = int(re.search(r"AT_ONCE: usize = (\d+);", (ROOT / "crates/ulmarzhe/src/window.rt").read_text())[1])
+PIECE = int(re.search(r"AT_ONCE: usize = (\d+);", (ROOT / "crates/ulmarzhe_text/src/window.rt").read_text())[1])
 LONGEST = 131080
 # Where a piece that is read ends, and where the longest frame no longer ends in it.
 EDGES = (PIECE - LONGEST, PIECE, 2 * PIECE - LONGEST, 2 * PIECE)
@@ -133,7 +133,7 @@ def many_runs(scratch):
         f"last salvage {28 * count} {count} {asked} {answer}{runs[:-1]}2\n"
         f"fewer salvage {28 * count} {count} {asked} {answer}{runs.rsplit(' ', 2)[0]}\n"
     )
-    want(("cases", cases), b"all same\noutput same\nruns same\nmore same\nlast differs\nfewer differs\n")
+    want(("cases", cases), b"all same\noutput same\nruns same\nmore same\nlast differs\nfewer differs\n", status=1)
     return "30,000 runs of a recording, and 12,000 of an answer"
 
 
@@ -172,7 +172,7 @@ def refused(scratch):
         ((damaged, fifo, "over"), special), ((damaged, folder, "over"), b"Is a directory"),
     ]
     for words, why in commands:
-        out, err = run("salvage", *words)
+        out, err = run("salvage", *words, status=2)
         if out or not err.endswith(why + b"\n") or err.count(b"\n") != 1:
             fail(f"{words}: {out!r} on standard output, {err!r} on standard error")
         if seen(folder) != before:
@@ -194,7 +194,7 @@ def not_allowed(scratch):
         path.chmod(mode)
     user = {"user": 65534} if os.geteuid() == 0 else {}
     for over in ((), ("over",)):
-        out, err = run("salvage", damaged, folder / "clean", *over, program=program, **user)
+        out, err = run("salvage", damaged, folder / "clean", *over, status=2, program=program, **user)
         if out or not err.endswith(b": Permission denied\n") or err.count(b"\n") != 1 or list(folder.iterdir()):
             fail(f"salvage in a closed folder: {out!r} on standard output, {err!r} on standard error")
     return "a folder where nothing may be made"
@@ -224,7 +224,7 @@ def failing(scratch):
             if over:
                 clean.write_bytes(b"older")
             before = seen(folder)
-            out, err = run("salvage", path, clean, *over, **how)
+            out, err = run("salvage", path, clean, *over, status=2, **how)
             if out or err != why + b"\n":
                 fail(f"salvage of {path}: {out!r} on standard output, {err!r} on standard error")
             if seen(folder) != before:
@@ -254,7 +254,7 @@ def interrupted(scratch):
     with running(clean) as salvage:
         clean.write_bytes(b"other")
         out, err = salvage.communicate(DAMAGED.read_bytes())
-    if out != ACCOUNT or not err.endswith(b"clean: File exists\n"):
+    if salvage.returncode != 2 or out != ACCOUNT or not err.endswith(b"clean: File exists\n"):
         fail(f"salvage: overtaken, {out!r} on standard output, {err!r} on standard error")
     if list(folder.iterdir()) != [clean] or clean.read_bytes() != b"other":
         fail("salvage: a file that was made while it ran was written over, or a part is left")
