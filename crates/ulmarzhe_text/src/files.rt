@@ -4,12 +4,12 @@ use crate::words::Number;
 
 const STREAMS: usize = 3;
 
-// Where a standard stream is closed, /dev/null takes its number, open for reading alone: what is written there fails, and no other file
-// is taken for the stream.
+// Where a standard stream is closed, the root folder takes its number: it can be neither read nor written, and no other file is taken for
+// the stream.
 pub fn hold_streams() {
     let mut k = 0;
     while k < STREAMS {
-        let fd = os::open_read(b"/dev/null");
+        let fd = os::open_read(b"/");
         if libc::STDERR_FILENO < fd {
             libc::close(fd);
             return;
