@@ -85,8 +85,8 @@ def table(scratch, made):
 
 
 def done_words(rows):
-    """Of each command words by which it is done."""
-    return [(command, *words[0]) for command, status, words in rows if status == 0]
+    """Of each command words by which it is done, and for each answer that it has."""
+    return [(command, *words[0]) for command, status, words in rows if status < 2]
 
 
 def without_output(rows):

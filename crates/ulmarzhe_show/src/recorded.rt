@@ -226,11 +226,19 @@ fn stop(w: Walk, mode: u8, n: u8, sheet: &mut [u8; SHEET]) -> Walk {
     }
     if mode == ROWS {
         let out = output::flush(w.out, 0, sheet);
-        let told = listing::list_stop(sheet, out, place, n);
-        page::send(libc::STDERR_FILENO, sheet, told.at);
-        w.out = output::fill(told, 0);
+        w.out = tell_stop(out, place, n, sheet);
         return w;
     }
     w.out = listing::list_stop(sheet, w.out, place, n);
     w
+}
+
+// The damaged place on standard error, once what was drawn is written.
+fn tell_stop(out: Output, place: u64, n: u8, sheet: &mut [u8; SHEET]) -> Output {
+    if output::has_failed(out) {
+        return out;
+    }
+    let told = listing::list_stop(sheet, out, place, n);
+    page::send(libc::STDERR_FILENO, sheet, told.at);
+    output::fill(told, 0)
 }

@@ -61,9 +61,10 @@ pub fn write(o: Output, bytes: &[u8]) -> Output {
     tell_failure(o)
 }
 
+// What is on the page is given up.
 fn tell_failure(o: Output) -> Output {
     os::fail(b"standard output");
-    fail(o)
+    fail(fill(o, 0))
 }
 
 // Writes out all that is left, and answers how the command ended.
