@@ -92,19 +92,18 @@ def done_words(rows):
 def without_output(rows):
     """A full device, and an output that is closed, alone or with all else: none is done, and a salvage leaves nothing, not either
     where the input that it reads is closed."""
-    for words in done_words(rows):
+    asked = done_words(rows)
+    for words in asked:
         if words[0] == "salvage":
             words = (*words[:2], words[2].with_name("none.rec"))
+            want_status(("salvage", "/dev/stdin", words[2]), 2, preexec_fn=lambda: os.close(0))
         with open("/dev/full", "wb") as full:
             want_status(words, 2, out=full)
         for streams in ((1,), (0, 1), (0, 1, 2)):
             want_status(words, 2, preexec_fn=lambda streams=streams: [os.close(stream) for stream in streams])
-        if words[0] == "salvage":
-            piped = ("salvage", "/dev/stdin", words[2])
-            want_status(piped, 2, preexec_fn=lambda: os.close(0))
         if words[0] == "salvage" and list(words[2].parent.glob("none.rec*")):
-            fail("salvage: without an output it left a clean recording")
-    return 4 * len(done_words(rows)) + 1
+            fail("salvage: without an output or an input it left a clean recording")
+    return 4 * len(asked) + 1
 
 
 def not_readable(scratch, rows):

@@ -107,15 +107,5 @@ pub fn settle(s: Sink, most: usize, sheet: &[u8; SHEET], expected: &[u8]) -> Sin
 
 // Whether a text begins with another.
 fn begins(s: &[u8], start: &[u8]) -> bool {
-    if s.len() < start.len() {
-        return false;
-    }
-    let mut i = 0;
-    while i < start.len() {
-        if s[i] != start[i] {
-            return false;
-        }
-        i += 1;
-    }
-    true
+    words::same(part(s, 0, start.len()), start)
 }
