@@ -59,6 +59,10 @@ cut-is w n b p k r h i e =
 pub num-append : (w : ℕ) (b t : List ℕ) (p : ℕ) → p + w ≤ length b → num w (b ++ t) p ≡ num w b p
 num-append w b t p h = num-same w (b ++ t) b p p (λ i k. List·getD-append b t 0 (p + i) (omega arith))
 
+-- what is left of bytes is bytes
+pub octets-drop : (n : ℕ) (b : List ℕ) → Octets b → Octets (drop n b)
+octets-drop n b o i = rw (getD-drop n b i 0) (o (n + i))
+
 pub num-fits : (w : ℕ) (b : List ℕ) (p : ℕ) → Octets b → num w b p < 256 ^ w
 unfolding num
 num-fits zero b p o = rw pow-zero (omega arith)

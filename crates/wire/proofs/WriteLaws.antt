@@ -2,16 +2,15 @@
 use Prim.Native.Nat.{ℕ}
 use mathlib.Core.Path.{_≡_, ap, _∙_}
 use mathlib.Core.List.{List, [], _∷_, _++_}
-use lib.Dec.{ltb}
 use lib.ListN.{length, take, drop}
 use lib.Seq.{take-at}
-use Rattle.wire.specs.Checks.{Check, check, AllHold}
+use Rattle.wire.specs.Checks.{Check, AllHold}
 use Rattle.wire.specs.Answers.{given}
 use Rattle.wire.specs.Sizes.{bytes}
 use Rattle.wire.specs.declared.Bytes.{Bytes}
 use Rattle.wire.specs.declared.WriteAnswer.{WriteAnswer}
 use Rattle.wire.specs.declared.WriteAnswer.the-variants.{Written, Refused}
-use Rattle.wire.specs.Writing.{filled, written, tellWrite}
+use Rattle.wire.specs.Writing.{filled, roomCheck, written, tellWrite}
 use Rattle.wire.proofs.CheckLaws.{never, all-hold, all-hold-append}
 use Rattle.wire.proofs.AnswerLaws.{outcome-given}
 
@@ -19,7 +18,7 @@ use Rattle.wire.proofs.AnswerLaws.{outcome-given}
 pub accepted : (ks : List Check) (body out : List ℕ) (size : Bytes) → written ks body out .answer ≡ given size
     → AllHold ks × (take (size .0) (written ks body out .output) ≡ body)
 accepted ks body out size e =
-    let room = check 13 (ltb (length out) (length body)) ∷ [] in
+    let room = roomCheck (length out) body ∷ [] in
     let o = outcome-given (ks ++ room) out (bytes (length body)) (filled body out) size e in
     let l : length body ≡ size .0 = ap (λ (b : Bytes). b .0) (o .1) in (
       all-hold-append ks room (all-hold (ks ++ room) (o .0)) .0,

@@ -2,36 +2,44 @@
 use Prim.Native.Nat.{ℕ}
 use mathlib.Core.Path.{_≡_}
 use mathlib.Core.List.{List}
-use Rattle.wire.specs.Checks.{Check, decide}
+use Rattle.wire.specs.Checks.{CheckOf, decide}
 
--- "Each ends with an answer or with one refusal number of document 01"
-pub data Answer (A : Type 0) : Type 0 where
-  refused : ℕ → Answer A
-  given : A → Answer A
+-- "Each ends with an answer or with one refusal number of document 01". N is what a refusal carries, as in a check
+pub data AnswerOf (N A : Type 0) : Type 0 where
+  refused : N → AnswerOf N A
+  given : A → AnswerOf N A
+
+abbrev pub Answer : Type 0 → Type 0
+Answer A = AnswerOf ℕ A
 
 -- the number of a refusal; 0 where there is none
 abbrev pub numberOf : {A : Type 0} → Answer A → ℕ
 numberOf (refused n) = n
 numberOf (given v) = 0
 
+-- a refusal stays; of what was given, what f answers
+abbrev pub onward : {N A B : Type 0} → AnswerOf N A → (A → AnswerOf N B) → AnswerOf N B
+onward (refused n) f = refused n
+onward (given v) f = f v
+
 -- the answer by a list of checks: the first broken one's number, or v
-abbrev pub rule : {A : Type 0} → List Check → A → Answer A
+abbrev pub rule : {N A : Type 0} → List (CheckOf N) → A → AnswerOf N A
 rule ks v = decide ks refused (given v)
 
--- an answer, and what then stands in the lent output
-pub record Outcome (A : Type 0) : Type 0 where
+-- an answer, and what then stands in what was lent to be written: O is one output or a pair of two
+pub record Outcome (O A : Type 0) : Type 0 where
   pub answer : Answer A
-  pub output : List ℕ
+  pub output : O
 
 -- "A refusal changes no lent byte"
-abbrev pub refusal : {A : Type 0} → List ℕ → ℕ → Outcome A
+abbrev pub refusal : {O A : Type 0} → O → ℕ → Outcome O A
 refusal out n = record { answer = refused n; output = out }
 
 -- the outcome by a list of checks: refused, with the output as it was, or v with the output `after`
-abbrev pub outcome : {A : Type 0} → List Check → List ℕ → A → List ℕ → Outcome A
+abbrev pub outcome : {O A : Type 0} → List (CheckOf ℕ) → O → A → O → Outcome O A
 outcome ks out v after = decide ks (refusal out) (record { answer = given v; output = after })
 
 -- the promise of an entry that answers r, which `tell` puts into the paper's number and values, and leaves `after` in the lent output
-pub record Promise {R A : Type 0} (tell : R → Answer A) (right : Outcome A) (r : R) (after : List ℕ) : Type 0 where
+pub record Promise {R O A : Type 0} (tell : R → Answer A) (right : Outcome O A) (r : R) (after : O) : Type 0 where
   pub answers : tell r ≡ right .answer
   pub leaves : after ≡ right .output

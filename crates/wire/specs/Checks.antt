@@ -5,6 +5,7 @@ use mathlib.Core.Bool.{Bool, true, false}
 use mathlib.Core.Option.{Option, none, some}
 use mathlib.Core.List.{List, [], _∷_, _++_}
 use lib.Dec.{eqb}
+use Rattle.wire.specs.Properties.{Each}
 
 abbrev pub pick {ℓ} : {X : Type ℓ} → Bool → X → X → X
 pick true x y = x
@@ -21,39 +22,41 @@ abbrev pub among : ℕ → List ℕ → Bool
 among x [] = false
 among x (y ∷ ys) = either (eqb x y) (among x ys)
 
--- a check: the number of refusal, and whether its rule is broken
-pub record Check : Type 0 where
-  pub number : ℕ
+-- a check: its number of refusal, and whether its rule is broken. N is what a refusal carries: the number alone, or a record that has it
+pub record CheckOf (N : Type 0) : Type 0 where
+  pub number : N
   pub broken : Bool
 
-abbrev pub check : ℕ → Bool → Check
+abbrev pub Check : Type 0
+Check = CheckOf ℕ
+
+abbrev pub check : {N : Type 0} → N → Bool → CheckOf N
 check n t = record { number = n; broken = t }
 
 -- the number of the first broken check, if any is broken
-abbrev pub first : List Check → Option ℕ
+abbrev pub first : {N : Type 0} → List (CheckOf N) → Option N
 first [] = none
 first (k ∷ ks) = pick (k .broken) (some (k .number)) (first ks)
 
 -- what follows from it: a refusal with that number, or what is accepted
-abbrev pub decide {ℓ} : {X : Type ℓ} → List Check → (ℕ → X) → X → X
+abbrev pub decide {ℓ} : {N : Type 0} {X : Type ℓ} → List (CheckOf N) → (N → X) → X → X
 decide [] refused accepted = accepted
 decide (k ∷ ks) refused accepted = pick (k .broken) (refused (k .number)) (decide ks refused accepted)
 
 -- some check of the list is broken
-abbrev pub someBroken : List Check → Bool
+abbrev pub someBroken : {N : Type 0} → List (CheckOf N) → Bool
 someBroken [] = false
 someBroken (k ∷ ks) = either (k .broken) (someBroken ks)
 
 -- every check of the list holds
-abbrev pub AllHold : List Check → Type 0
-AllHold [] = Unit {0}
-AllHold (k ∷ ks) = (k .broken ≡ false) × AllHold ks
+abbrev pub AllHold : {N : Type 0} → List (CheckOf N) → Type 0
+AllHold {N} ks = Each (λ (k : CheckOf N). k .broken ≡ false) ks
 
 -- the check that a refusal with the number n names: it is broken, and every check before it holds
-pub record Blamed (ks : List Check) (n : ℕ) : Type 0 where
-  pub before : List Check
-  pub blamed : Check
-  pub after : List Check
+pub record Blamed {N : Type 0} (ks : List (CheckOf N)) (n : N) : Type 0 where
+  pub before : List (CheckOf N)
+  pub blamed : CheckOf N
+  pub after : List (CheckOf N)
   pub listed : ks ≡ before ++ (blamed ∷ after)
   pub hold : AllHold before
   pub broken : blamed .broken ≡ true

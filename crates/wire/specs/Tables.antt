@@ -3,6 +3,7 @@ use Prim.Native.Nat.{ℕ, _+_, _^_, _<_}
 use mathlib.Core.Path.{_≡_}
 use mathlib.Core.List.{List, [], _∷_, _++_}
 use lib.ListN.{length, take, drop}
+use Rattle.wire.specs.Properties.{Each}
 use Rattle.wire.specs.Numbers.{num, be}
 
 -- a field: its width in bytes, and its value
@@ -25,8 +26,7 @@ total (f ∷ fs) = f .wide + total fs
 
 -- every value is small enough for its width
 abbrev pub Fit : List Field → Type 0
-Fit [] = Unit {0}
-Fit (f ∷ fs) = (f .value < 256 ^ f .wide) × Fit fs
+Fit fs = Each (λ (f : Field). f .value < 256 ^ f .wide) fs
 
 -- the bytes of b from p on, read as numbers, are the values of the table
 abbrev pub Spells : List ℕ → ℕ → List Field → Type 0

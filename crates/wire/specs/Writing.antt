@@ -15,12 +15,24 @@ abbrev pub filled : List ℕ → List ℕ → List ℕ
 filled body out = body ++ drop (length body) out
 
 -- the outcome of a call that writes `body`
-abbrev pub wrote : List ℕ → List ℕ → Outcome Bytes
+abbrev pub wrote : List ℕ → List ℕ → Outcome (List ℕ) Bytes
 wrote body out = record { answer = given (bytes (length body)); output = filled body out }
 
--- a writer's checks, "then 13": "output too small for the whole answer"
-abbrev pub written : List Check → List ℕ → List ℕ → Outcome Bytes
-written ks body out = outcome (ks ++ (check 13 (ltb (length out) (length body)) ∷ [])) out (bytes (length body)) (filled body out)
+-- 13: "output too small for the whole answer", by the output's length
+abbrev pub roomCheck : ℕ → List ℕ → Check
+roomCheck room whole = check 13 (ltb room (length whole))
+
+-- the checks of an entry that writes: any list of checks, "then 13"
+abbrev pub thenRoom : List Check → List ℕ → ℕ → List Check
+thenRoom ks whole room = ks ++ (roomCheck room whole ∷ [])
+
+-- what comes of them: v reported and the whole answer written, or a refusal and nothing written
+abbrev pub wroteAll : {A : Type 0} → List Check → A → List ℕ → List ℕ → Outcome (List ℕ) A
+wroteAll ks v whole out = outcome (thenRoom ks whole (length out)) out v (filled whole out)
+
+-- a writer reports the length of what it wrote
+abbrev pub written : List Check → List ℕ → List ℕ → Outcome (List ℕ) Bytes
+written ks body out = wroteAll ks (bytes (length body)) body out
 
 -- one part onto another of the same length; parts of different lengths are left alone
 unfoldable pub copied : List ℕ → List ℕ → List ℕ
