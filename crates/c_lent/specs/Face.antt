@@ -1,13 +1,11 @@
 -- What a C caller is told and promised of memory that it lends to be written. "On a refusal every other field is 0."
-use Prim.Native.Nat.{ℕ}
 use mathlib.Core.Path.{_≡_}
-use mathlib.Core.List.{List}
 use Rattle.wire.specs.Answers.{Answer, refused, given, Outcome}
 use Rattle.wire.specs.declared.Bytes.{Bytes}
 use Rattle.c_lent.specs.declared.UlmWritten.{UlmWritten}
 
--- the struct is that of the answer, and the output holds what the outcome says
-pub record Leaves {R A : Type 0} (face : Answer A → R) (right : Outcome A) (r : R) (after : List ℕ) : Type 0 where
+-- the struct is that of the answer, and what was lent holds what the outcome says
+pub record Leaves {R O A : Type 0} (face : Answer A → R) (right : Outcome O A) (r : R) (after : O) : Type 0 where
   pub answers : r ≡ face (right .answer)
   pub leaves : after ≡ right .output
 
