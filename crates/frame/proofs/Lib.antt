@@ -1,3 +1,4 @@
 -- What the crates above cite of frames.
 pub mod StreamLaws
-pub mod OneAnswer
+pub mod Theorems
+pub mod Welds

@@ -1,3 +1,4 @@
 -- The session frame of document 01.
 pub mod Session
 pub mod Told
+pub mod Theorems

@@ -17,6 +17,7 @@ use Rattle.wire.proofs.FiniteLaws.{below, same, same-is}
 use Rattle.wire.proofs.NumberLaws.{fetched-whole}
 use Rattle.wire.proofs.TableLaws.{reads-back}
 use Rattle.header.specs.declared.Header.{Header}
+use Rattle.header.specs.declared.Stored.{Stored}
 use Rattle.header.specs.Header.{headerTable, headerSize, storedIn, reportedNumber, withNumber, asReported, headerIn, headerOf, sizeChecks, notPermitted, segmentChecks, timeChecks, valueChecks, headerChecks, radialType}
 use Rattle.header.specs.Steps.{storedOr0, refusalOf, reportedFrom}
 
@@ -117,19 +118,14 @@ stored-whole b e = simp e
 
 -- and its number is there to be fetched
 reported-whole : (b : List ℕ) → ltb (length b) headerSize ≡ false → reportedFrom b (storedIn b) ≡ asReported (storedIn b)
-unfolding storedIn
+unfolding headerIn storedIn
 reported-whole b l =
     let long : headerSize ≤ length b = ltb-false (length b) headerSize l in
-    ap (λ (k : ℕ). withNumber (storedIn b) (reportedNumber (num 2 b 12) k)) (fetched-whole 2 b 14 (omega arith))
+    ap (λ (k : ℕ). withNumber (headerIn b) (reportedNumber (num 2 b 12) k)) (fetched-whole 2 b 14 (omega arith))
 
-short-refused : (h : Header) (long : ℕ) → ltb long headerSize ≡ true → refusalOf h long ≡ 4
+short-refused : (s : Stored) (long : ℕ) → ltb long headerSize ≡ true → refusalOf s long ≡ 4
 unfolding refusalOf
-short-refused h long l = simp l
-
--- of no bytes it is the same, stored or reported
-pub nothing-stored : storedIn [] ≡ headerIn []
-unfolding headerIn storedIn num
-nothing-stored = refl
+short-refused s long l = simp l
 
 told-short : (b : List ℕ) → ltb (length b) headerSize ≡ true
     → headerOf b ≡ pick (eqb (refusalOf (storedOr0 b) (length b)) 0) (given (asReported (storedOr0 b))) (refused (refusalOf (storedOr0 b) (length b)))
@@ -151,12 +147,12 @@ header-told b = go (ltb (length b) headerSize) refl
     go true e = told-short b e
     go false e = rw (stored-whole b e) (told-whole b)
 
--- the values h that were looked at, and their number n
-module _ (b : List ℕ) (h : Header) (n : ℕ) (looked : h ≡ storedOr0 b) (told : n ≡ refusalOf h (length b)) where
+-- the values s that were looked at, and their number n
+module _ (b : List ℕ) (s : Stored) (n : ℕ) (looked : s ≡ storedOr0 b) (told : n ≡ refusalOf s (length b)) where
   number-told : n ≡ refusalOf (storedOr0 b) (length b)
   number-told = told ∙ simp looked
 
-  pub header-read : (r : Header) → r ≡ reportedFrom b h → n ≡ 0 → headerOf b ≡ given r
+  pub header-read : (r : Header) → r ≡ reportedFrom b s → n ≡ 0 → headerOf b ≡ given r
   header-read r q e = go (ltb (length b) headerSize) refl
     where
       zero : refusalOf (storedOr0 b) (length b) ≡ 0
@@ -165,8 +161,8 @@ module _ (b : List ℕ) (h : Header) (n : ℕ) (looked : h ≡ storedOr0 b) (tol
       go : (t : Bool) → ltb (length b) headerSize ≡ t → headerOf b ≡ given r
       go true l = never (cc (sym (short-refused (storedOr0 b) (length b) l) ∙ zero))
       go false l =
-          let same : reportedFrom b h ≡ asReported (storedOr0 b) =
-          ap (λ (x : Header). reportedFrom b x) (looked ∙ stored-whole b l) ∙ reported-whole b l ∙ ap asReported (sym (stored-whole b l))
+          let same : reportedFrom b s ≡ asReported (storedOr0 b) =
+          ap (λ (x : Stored). reportedFrom b x) (looked ∙ stored-whole b l) ∙ reported-whole b l ∙ ap asReported (sym (stored-whole b l))
           in
           header-told b ∙ simp zero (ap given (sym (q ∙ same)))
 
@@ -179,11 +175,11 @@ module _ (b : List ℕ) (h : Header) (n : ℕ) (looked : h ≡ storedOr0 b) (tol
 pub header-reads-back : (h : Header) (rest : List ℕ) → Fit (headerTable h) → Spells (render (headerTable h) ++ rest) 0 (headerTable h)
 header-reads-back h rest fit = reads-back (headerTable h) rest fit
 
-stored-is : (h : Header) (rest : List ℕ) → Fit (headerTable h) → storedIn (render (headerTable h) ++ rest) ≡ h
-unfolding storedIn
-stored-is h rest fit =
+pub header-is : (h : Header) (rest : List ℕ) → Fit (headerTable h) → 1 ≤ h .number → h .number ≤ h .segments → headerIn (render (headerTable h) ++ rest) ≡ h
+unfolding headerIn storedIn
+header-is h rest fit low high =
     let s = header-reads-back h rest fit in
-    λ i. record {
+    (λ i. record {
       size = record { 0 = s .0 i };
       channel = s .1 .0 i;
       kind = s .1 .1 .0 i;
@@ -191,9 +187,5 @@ stored-is h rest fit =
       date = s .1 .1 .1 .1 .0 i;
       milliseconds = s .1 .1 .1 .1 .1 .0 i;
       segments = s .1 .1 .1 .1 .1 .1 .0 i;
-      number = s .1 .1 .1 .1 .1 .1 .1 .0 i;
-    }
-
-pub header-is : (h : Header) (rest : List ℕ) → Fit (headerTable h) → 1 ≤ h .number → h .number ≤ h .segments → headerIn (render (headerTable h) ++ rest) ≡ h
-unfolding headerIn
-header-is h rest fit low high = ap asReported (stored-is h rest fit) ∙ ap (λ (k : ℕ). withNumber h k) (number-kept (h .segments) (h .number) low high)
+      number = reportedNumber (s .1 .1 .1 .1 .1 .1 .0 i) (s .1 .1 .1 .1 .1 .1 .1 .0 i);
+    }) ∙ ap (λ (k : ℕ). withNumber h k) (number-kept (h .segments) (h .number) low high)

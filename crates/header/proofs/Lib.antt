@@ -1,4 +1,5 @@
 -- What the crates above cite of headers.
 pub mod HeaderLaws
-pub mod OneAnswer
 pub mod LoneLaws
+pub mod Theorems
+pub mod Welds

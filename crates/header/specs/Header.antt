@@ -11,6 +11,7 @@ use Rattle.wire.specs.Answers.{Answer, rule}
 use Rattle.wire.specs.Sizes.{bytes, halfwords, halved, odd}
 use Rattle.wire.specs.declared.Halfwords.{Halfwords}
 use Rattle.header.specs.declared.Header.{Header}
+use Rattle.header.specs.declared.Stored.{Stored}
 
 -- "16 bytes, in order: size in halfwords with the header included (2 bytes), channel (1), type (1), sequence number (2), date (2),
 -- milliseconds of the day (4), number of segments N (2), segment number (2)."
@@ -30,7 +31,7 @@ abbrev pub headerSize : ℕ
 headerSize = 16
 
 -- the values that a message begins with, as stored
-unfoldable pub storedIn : List ℕ → Header
+unfoldable pub storedIn : List ℕ → Stored
 storedIn b = record {
   size = halfwords (num 2 b 0);
   channel = num 1 b 2;
@@ -46,6 +47,20 @@ storedIn b = record {
 abbrev pub reportedNumber : ℕ → ℕ → ℕ
 reportedNumber n k = pick (eqb n 1) 1 k
 
+-- all other values count, and are reported, as stored
+abbrev pub asReported : Stored → Header
+asReported s = record {
+  size = s .size;
+  channel = s .channel;
+  kind = s .kind;
+  sequence = s .sequence;
+  date = s .date;
+  milliseconds = s .milliseconds;
+  segments = s .segments;
+  number = reportedNumber (s .segments) (s .number);
+}
+
+-- the header h with the number k
 abbrev pub withNumber : Header → ℕ → Header
 withNumber h k = record {
   size = h .size;
@@ -57,10 +72,6 @@ withNumber h k = record {
   segments = h .segments;
   number = k;
 }
-
--- all other values count, and are reported, as stored
-abbrev pub asReported : Header → Header
-asReported h = withNumber h (reportedNumber (h .segments) (h .number))
 
 -- the header that a message begins with
 unfoldable pub headerIn : List ℕ → Header
@@ -110,12 +121,18 @@ noSegments n = ltb n 1
 abbrev pub tooManySegments : ℕ → Bool
 tooManySegments n = ltb mostSegments n
 
+abbrev pub countChecks : ℕ → List Check
+countChecks n = check 7 (noSegments n) ∷ check 7 (tooManySegments n) ∷ []
+
 -- "the segment number is 1 to N."
 abbrev pub numberTooLow : ℕ → Bool
 numberTooLow k = ltb k 1
 
 abbrev pub numberTooHigh : ℕ → ℕ → Bool
 numberTooHigh n k = ltb n k
+
+abbrev pub numberChecks : ℕ → ℕ → List Check
+numberChecks n k = check 7 (numberTooLow k) ∷ check 7 (numberTooHigh n k) ∷ []
 
 -- "Type 31 has N = 1."
 abbrev pub radialCut : ℕ → ℕ → Bool
@@ -128,15 +145,11 @@ segmentSize = halfwords 1208
 abbrev pub segmentTooLarge : Halfwords → ℕ → Bool
 segmentTooLarge size kind = both (not (eqb kind radialType)) (ltb (segmentSize .0) (size .0))
 
+abbrev pub kindChecks : Halfwords → ℕ → ℕ → List Check
+kindChecks size kind n = check 7 (radialCut kind n) ∷ check 7 (segmentTooLarge size kind) ∷ []
+
 abbrev pub segmentChecks : Halfwords → ℕ → ℕ → ℕ → List Check
-segmentChecks size kind n k =
-    check 7 (noSegments n)
-    ∷ check 7 (tooManySegments n)
-    ∷ check 7 (numberTooLow k)
-    ∷ check 7 (numberTooHigh n k)
-    ∷ check 7 (radialCut kind n)
-    ∷ check 7 (segmentTooLarge size kind)
-    ∷ []
+segmentChecks size kind n k = countChecks n ++ (numberChecks n k ++ kindChecks size kind n)
 
 -- "Date is at least 1; milliseconds at most 86,399,999."
 abbrev pub dateTooLow : ℕ → Bool

@@ -6,16 +6,17 @@ use lib.ListN.{length}
 use Rattle.wire.specs.Numbers.{fetched}
 use Rattle.wire.specs.Checks.{pick, check, decide}
 use Rattle.header.specs.declared.Header.{Header}
+use Rattle.header.specs.declared.Stored.{Stored}
 use Rattle.header.specs.Header.{headerSize, storedIn, reportedNumber, withNumber, asReported, valueChecks}
 
 -- the values of a message before they are checked: those of no bytes where the message is too short for a header
-unfoldable pub storedOr0 : List ℕ → Header
+unfoldable pub storedOr0 : List ℕ → Stored
 storedOr0 b = pick (ltb (length b) headerSize) (storedIn []) (storedIn b)
 
--- the number of refusal of a message of `long` bytes that has the stored values h, or 0
-unfoldable pub refusalOf : Header → ℕ → ℕ
-refusalOf h long = decide (check 4 (ltb long headerSize) ∷ valueChecks (asReported h) long) (λ (n : ℕ). n) 0
+-- the number of refusal of a message of `long` bytes that has the stored values s, or 0
+unfoldable pub refusalOf : Stored → ℕ → ℕ
+refusalOf s long = decide (check 4 (ltb long headerSize) ∷ valueChecks (asReported s) long) (λ (n : ℕ). n) 0
 
--- the header h with the number that the message b reports
-abbrev pub reportedFrom : List ℕ → Header → Header
-reportedFrom b h = withNumber h (reportedNumber (h .segments) (fetched 2 b 14))
+-- what is reported of the stored values s, with the number that the message b reports
+abbrev pub reportedFrom : List ℕ → Stored → Header
+reportedFrom b s = withNumber (asReported s) (reportedNumber (s .segments) (fetched 2 b 14))

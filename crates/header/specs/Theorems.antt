@@ -1,17 +1,37 @@
--- "no header or set answer then depends on its two bytes" (K1): what is said of a message of one segment, and of its header.
+-- What is proved of the header's rules: that what is read is what the table says, and what K1 asks of a message of one segment.
 use Prim.Native.Nat.{ℕ, _+_, _≤_, _<_}
 use mathlib.Core.Path.{_≡_}
-use mathlib.Core.List.{List}
+use mathlib.Core.Logic.{_⊎_, _↔_}
+use mathlib.Core.List.{List, _∷_, _++_}
+use lib.Dec.{ltb}
 use lib.ListN.{length, getD}
-use Rattle.header.specs.Header.{storedIn, headerOf}
-
--- a message whose N is 1
-abbrev pub Lone : List ℕ → Type 0
-Lone b = storedIn b .segments ≡ 1
+use Rattle.wire.specs.Numbers.{num, Octets}
+use Rattle.wire.specs.Tables.{render, Holds}
+use Rattle.wire.specs.Checks.{Check, check, AllHold}
+use Rattle.wire.specs.Answers.{refused, given}
+use Rattle.header.specs.declared.Header.{Header}
+use Rattle.header.specs.declared.Stored.{Stored}
+use Rattle.header.specs.Header.{headerTable, headerSize, storedIn, withNumber, headerIn, sizeChecks, notPermitted, countChecks, kindChecks, timeChecks, headerOf}
 
 -- where the two bytes of the segment number begin
 abbrev pub numberPlace : ℕ
 numberPlace = 14
+
+-- "What is read is what the interface document defines, as document 01 condenses it": the table of the header h stands at the start of b
+pub record Stands (b : List ℕ) (h : Header) : Type 0 where
+  -- with the stored number in it, whatever that is: of a lone segment 1 is reported
+  pub table : Holds b 0 (render (headerTable (withNumber h (num 2 b numberPlace))))
+  -- and as it is reported where N is not 1
+  pub others : (h .segments ≡ 1 → ⊥) → Holds b 0 (render (headerTable h))
+
+abbrev pub HeaderStands : Type 0
+HeaderStands = (b : List ℕ) (h : Header) → Octets b → headerOf b ≡ given h → Stands b h
+
+-- ---- K1: "Where N is 1, any segment number is accepted and reported as 1; no header or set answer then depends on its two bytes."
+
+-- a message whose N is 1
+abbrev pub Lone : List ℕ → Type 0
+Lone b = storedIn b .segments ≡ 1
 
 -- as many bytes, and the same but for the two that begin at `place`
 pub record ButTwoBytes (place : ℕ) (b b′ : List ℕ) : Type 0 where
@@ -22,3 +42,21 @@ pub record ButTwoBytes (place : ℕ) (b b′ : List ℕ) : Type 0 where
 -- of a message of one segment the answer does not depend on the two bytes of its number
 abbrev pub LoneHeader : Type 0
 LoneHeader = (b b′ : List ℕ) → Lone b → ButTwoBytes numberPlace b b′ → headerOf b ≡ headerOf b′
+
+-- the checks of a message of `long` bytes with the stored values s before those of the segment number: 4, the size's, the type's, N's own
+abbrev pub beforeNumber : Stored → ℕ → List Check
+beforeNumber s long = check 4 (ltb long headerSize) ∷ sizeChecks (s .size) long ++ (check 6 (notPermitted (s .kind)) ∷ countChecks (s .segments))
+
+-- and after those: of 31 and of 1,208, of date and time
+abbrev pub afterNumber : Stored → List Check
+afterNumber s = kindChecks (s .size) (s .kind) (s .segments) ++ timeChecks (s .date) (s .milliseconds)
+
+-- "any segment number is accepted": a message of one segment is, exactly if all other checks hold
+abbrev pub LoneByOtherChecks : Type 0
+LoneByOtherChecks = (b : List ℕ) → Lone b
+    → (headerOf b ≡ given (headerIn b)) ↔ AllHold (beforeNumber (storedIn b) (length b) ++ afterNumber (storedIn b))
+
+-- "number 7 loses that cause for N = 1 only": of another N a stored number that is 0 or above N is 7
+abbrev pub NumberOutside : Type 0
+NumberOutside = (b : List ℕ) → (Lone b → ⊥) → AllHold (beforeNumber (storedIn b) (length b))
+    → (storedIn b .number ≡ 0) ⊎ (storedIn b .segments < storedIn b .number) → headerOf b ≡ refused 7

@@ -4,14 +4,14 @@ ghost use mathlib.Core.List.{[]};
 ghost use Prim.Native.Nat.{_≤_};
 ghost use Rattle.wire.specs.Numbers.{fetched};
 ghost use Rattle.wire.specs.Checks.{someBroken};
-ghost use Rattle.header.specs.Header.{headerSize, headerIn, headerOf, reportedNumber, notPermitted, sizeChecks, segmentChecks, timeChecks};
+ghost use Rattle.header.specs.Header.{headerSize, storedIn, headerIn, headerOf, reportedNumber, notPermitted, sizeChecks, segmentChecks, timeChecks};
 ghost use Rattle.header.specs.Steps.{storedOr0, reportedFrom, refusalOf};
 ghost use Rattle.header.specs.Told.{tellHeader};
 use wire::Bytes;
 use wire::Halfwords;
 use wire::refusal;
 
-// The values of a header. `kind` is the type of Table I, a word that the language keeps for itself.
+// What is reported of a message whose header was checked. `kind` is the type of Table I, a word that the language keeps for itself.
 pub struct Header {
     pub size: Halfwords,
     pub channel: u8,
@@ -21,6 +21,18 @@ pub struct Header {
     pub milliseconds: u32,
     pub segments: u16,
     pub number: u16,
+}
+
+// The values that a message begins with, as stored: not yet checked, and with a number that means nothing where N is 1.
+pub struct Stored {
+    size: Halfwords,
+    channel: u8,
+    kind: u8,
+    sequence: u16,
+    date: u16,
+    milliseconds: u32,
+    segments: u16,
+    number: u16,
 }
 
 pub enum HeaderAnswer {
@@ -44,20 +56,20 @@ const LAST_MILLISECOND: u32 = 86399999;
 pub fn read_header(message: &[u8]) -> HeaderAnswer
     ensures { λ r. ⌜ tellHeader r ≡ headerOf (now (message .entry)) ⌝ }
 {
-    let h = stored(message);
-    let number = check_header(h, message.len());
+    let s = stored_in(message);
+    let number = check_header(s, message.len());
     if number != 0 {
         return HeaderAnswer::Refused(number);
     }
-    HeaderAnswer::Read(reported(message, h))
+    HeaderAnswer::Read(reported(message, s))
 }
 
-// The values that a message begins with, not yet checked: those of no bytes where the message is too short for a header.
-pub fn stored(message: &[u8]) -> Header
+// The values that a message begins with: those of no bytes where the message is too short for a header.
+pub fn stored_in(message: &[u8]) -> Stored
     ensures { λ r. ⌜ r ≡ storedOr0 (now (message .entry)) ⌝ }
 {
     if message.len() < HEADER {
-        return no_header();
+        return nothing_stored();
     }
     let size = wire::fetch16(message, 0) as u32;
     let channel = wire::fetch8(message, 2);
@@ -67,7 +79,7 @@ pub fn stored(message: &[u8]) -> Header
     let milliseconds = wire::fetch32(message, 8);
     let segments = wire::fetch16(message, 12);
     let number = wire::fetch16(message, 14);
-    Header {
+    Stored {
         size: Halfwords(size),
         channel,
         kind,
@@ -79,7 +91,25 @@ pub fn stored(message: &[u8]) -> Header
     }
 }
 
-// The header that no bytes spell.
+// Of no bytes it is the same, stored or reported.
+fn nothing_stored() -> Stored
+    ensures { λ r. ⌜ r ≡ storedIn [] ⌝ }
+{
+    let h = no_header();
+    let size = h.size;
+    Stored {
+        size,
+        channel: h.channel,
+        kind: h.kind,
+        sequence: h.sequence,
+        date: h.date,
+        milliseconds: h.milliseconds,
+        segments: h.segments,
+        number: h.number,
+    }
+}
+
+// The header that no bytes spell: what stands where none was read yet.
 pub fn no_header() -> Header
     ensures { λ r. ⌜ r ≡ headerIn [] ⌝ }
 {
@@ -95,25 +125,25 @@ pub fn no_header() -> Header
     }
 }
 
-// The header h with the number that the message reports.
-pub fn reported(message: &[u8], h: Header) -> Header
-    ensures { λ r. ⌜ r ≡ reportedFrom (now (message .entry)) h ⌝ }
+// What is reported of the stored values s, with the number that the message reports.
+pub fn reported(message: &[u8], s: Stored) -> Header
+    ensures { λ r. ⌜ r ≡ reportedFrom (now (message .entry)) s ⌝ }
 {
-    let size = h.size;
-    let number = number_in(message, h.segments);
+    let size = s.size;
+    let number = number_in(message, s.segments);
     Header {
         size,
-        channel: h.channel,
-        kind: h.kind,
-        sequence: h.sequence,
-        date: h.date,
-        milliseconds: h.milliseconds,
-        segments: h.segments,
+        channel: s.channel,
+        kind: s.kind,
+        sequence: s.sequence,
+        date: s.date,
+        milliseconds: s.milliseconds,
+        segments: s.segments,
         number,
     }
 }
 
-// Of one segment the two bytes are not looked at. They are fetched here once more, and not taken from a header, so that the compiler
+// Of one segment the two bytes are not looked at. They are fetched here once more, and not taken from what is stored, so that the compiler
 // makes a branch of it: it is quicker where most messages are of one segment.
 fn number_in(message: &[u8], segments: u16) -> u16
     ensures { λ r. ⌜ r ≡ reportedNumber segments (fetched 2 (now (message .entry)) 14) ⌝ }
@@ -126,22 +156,22 @@ fn number_in(message: &[u8], segments: u16) -> u16
 
 // The number of refusal of a message of `long` bytes that has these stored values, or 0. It takes the values and not the bytes, so that it is
 // small enough to be put in line wherever a header is read.
-pub fn check_header(h: Header, long: usize) -> u8
-    ensures { λ r. ⌜ r ≡ refusalOf h long ⌝ }
+pub fn check_header(s: Stored, long: usize) -> u8
+    ensures { λ r. ⌜ r ≡ refusalOf s long ⌝ }
 {
     if long < HEADER {
         return refusal::MESSAGE_SHORT;
     }
-    if breaks_size(h.size, long) {
+    if breaks_size(s.size, long) {
         return refusal::SIZE;
     }
-    if breaks_type(h.kind) {
+    if breaks_type(s.kind) {
         return refusal::TYPE;
     }
-    if breaks_segment(h.size, h.kind, h.segments, h.number) {
+    if breaks_segment(s.size, s.kind, s.segments, s.number) {
         return refusal::SEGMENT;
     }
-    if breaks_time(h.date, h.milliseconds) {
+    if breaks_time(s.date, s.milliseconds) {
         return refusal::DATE_OR_TIME;
     }
     0

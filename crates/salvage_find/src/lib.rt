@@ -27,7 +27,7 @@ pub fn whole_at(buf: &[u8], place: usize) -> usize
             let start = f.start;
             let next = f.next;
             let message = &buf[start..next];
-            if header::check_header(header::stored(message), message.len()) != 0 {
+            if header::check_header(header::stored_in(message), message.len()) != 0 {
                 return 0;
             }
             next - place

@@ -1,6 +1,6 @@
 use Rattle.frame.proofs.StreamLaws.{past-end}
 use Rattle.wire.proofs.ListLaws.{part-is}
-use Rattle.frame.specs.Session.{frame, frameAt}
+use Rattle.frame.specs.Session.{frameAt}
 use borrow.Author.Tests.{eq-eqb, ne-eqb}
 use denote.Ref.{now}
 use borrow.Author.Needs.{needs}

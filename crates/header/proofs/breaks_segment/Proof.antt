@@ -2,7 +2,6 @@ use mathlib.Core.Path.{sym}
 use Rattle.wire.proofs.CheckLaws.{either-true, either-false}
 use Rattle.header.proofs.HeaderLaws.{lone-segment, small-alone}
 use borrow.Author.Tests.{lt-ltb, le-ltb, ne-eqb}
-use borrow.Author.Needs.{needs}
 use Rattle.header.proofs.breaks_segment.Statement.{statement}
 use Rattle.header.proofs.breaks_segment.Tie as tie
 use Rattle.header.proofs.breaks_segment.Reads as reads

@@ -1,6 +1,5 @@
 use Rattle.wire.proofs.CheckLaws.{either-false}
 use borrow.Author.Tests.{lt-ltb, le-ltb}
-use borrow.Author.Needs.{needs}
 use Rattle.header.proofs.breaks_time.Statement.{statement}
 use Rattle.header.proofs.breaks_time.Tie as tie
 use Rattle.header.proofs.breaks_time.Reads as reads

@@ -1,7 +1,6 @@
 use mathlib.Core.Path.{refl}
 use Rattle.header.specs.Header.{storedIn, headerIn}
 use Rattle.wire.specs.Numbers.{num}
-use borrow.Author.Needs.{needs}
 use Rattle.header.proofs.no_header.Statement.{statement}
 use Rattle.header.proofs.no_header.Tie as tie
 use Rattle.header.proofs.no_header.Reads as reads

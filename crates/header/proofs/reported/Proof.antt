@@ -1,6 +1,6 @@
 use mathlib.Core.Path.{ap}
 use Prim.Native.Nat.{ℕ}
-use Rattle.header.specs.Header.{withNumber}
+use Rattle.header.specs.Header.{asReported, withNumber}
 use borrow.Author.Needs.{needs}
 use Rattle.header.proofs.reported.Statement.{statement}
 use Rattle.header.proofs.reported.Tie as tie
@@ -12,7 +12,7 @@ number-in-requires : tie.Need-number-in-requires
 number-in-requires c κs = search needs
 
 returns : tie.Need-returns
-returns c = ap (λ (k : ℕ). withNumber (c .before .before .before .args .h) k) (c .number-in .ensures)
+returns c = ap (λ (k : ℕ). withNumber (asReported (c .before .before .before .args .s)) k) (c .number-in .ensures)
 
 pub reported-spec : {M : Type 1} → statement M
 reported-spec = tie.close (tie.spec number-in-requires returns)

@@ -3,26 +3,26 @@ use denote.Ref.{now}
 use mathlib.Core.Path.{sym, _∙_}
 use native.Mathlib.Omega.{arith}
 use Rattle.wire.proofs.NumberLaws.{fetched-whole}
-use Rattle.header.proofs.HeaderLaws.{stored-whole, nothing-stored}
+use Rattle.header.proofs.HeaderLaws.{stored-whole}
 use Rattle.header.specs.Header.{headerSize, storedIn}
 use Rattle.header.specs.Steps.{storedOr0}
 use borrow.Author.Tests.{lt-ltb, le-ltb}
 use borrow.Author.Needs.{needs}
-use Rattle.header.proofs.stored.Statement.{statement}
-use Rattle.header.proofs.stored.Tie as tie
-use Rattle.header.proofs.stored.Reads as reads
-use Rattle.header.proofs.stored.Lts as lts
-use Rattle.header.proofs.no_header.Reads as no-header-reads
+use Rattle.header.proofs.stored_in.Statement.{statement}
+use Rattle.header.proofs.stored_in.Tie as tie
+use Rattle.header.proofs.stored_in.Reads as reads
+use Rattle.header.proofs.stored_in.Lts as lts
+use Rattle.header.proofs.nothing_stored.Reads as nothing-stored-reads
 use Rattle.wire.proofs.fetch16.Reads as fetch16-reads
 use Rattle.wire.proofs.fetch32.Reads as fetch32-reads
 use Rattle.wire.proofs.fetch8.Reads as fetch8-reads
 
-no-header-requires : tie.Need-no-header-requires
-no-header-requires c κs = search needs
+nothing-stored-requires : tie.Need-nothing-stored-requires
+nothing-stored-requires c κs = search needs
 
 returns : tie.Need-returns
 unfolding storedOr0
-returns c = simp (lt-ltb _ _ (c .before .if1 .taken)) (c .no-header .ensures ∙ sym nothing-stored)
+returns c = simp (lt-ltb _ _ (c .before .if1 .taken)) (c .nothing-stored .ensures)
 
 fetch16-requires : tie.Need-fetch16-requires
 fetch16-requires c κs = search needs
@@ -66,11 +66,11 @@ returns-2 c =
       number = (c .fetch165 .ensures ∙ fetched-whole 2 b 14 (omega arith)) i;
     }) ∙ sym (stored-whole b (le-ltb (length b) headerSize (c .before .before .before .before .before .before .before .before .if1 .left)))
 
-pub stored-spec : {M : Type 1} → statement M
-stored-spec =
+pub stored-in-spec : {M : Type 1} → statement M
+stored-in-spec =
     tie.close
     (tie.spec
-    no-header-requires
+    nothing-stored-requires
     returns
     fetch16-requires
     cast-size
