@@ -1,7 +1,8 @@
 // Salvages as C receives them.
 ghost use mathlib.Core.Path.{_≡_};
+ghost use Rattle.c_lent.specs.Face.{Leaves};
 ghost use Rattle.salvage_spec.specs.Salvage.{salvageOf};
-ghost use Rattle.c_salvage.specs.Face.{LeavesBoth};
+ghost use Rattle.c_salvage.specs.Face.{salvageFace};
 use salvage::SalvageAnswer;
 
 #[repr(C)]
@@ -13,7 +14,7 @@ pub struct UlmSalvage {
 }
 
 pub fn salvage(buf: &[u8], out: &mut [u8], runs: &mut [u64]) -> UlmSalvage
-    ensures { λ r. ⌜ LeavesBoth (salvageOf (now (buf .entry)) (now (out .entry)) (now (runs .entry))) r (now (out .exit)) (now (runs .exit)) ⌝ }
+    ensures { λ r. ⌜ Leaves salvageFace (salvageOf (now (buf .entry)) (now (out .entry)) (now (runs .entry))) r (now (out .exit), now (runs .exit)) ⌝ }
 {
     match salvage::salvage(buf, out, runs) {
         SalvageAnswer::Salvaged(kept, long, count) => salvage_with(0, kept, long, count),

@@ -12,6 +12,7 @@ use lib.Seq.{drop-drop}
 use borrow.Author.Tests.{eqb-true, eqb-false}
 use Rattle.wire.specs.Numbers.{fetched}
 use Rattle.wire.specs.Checks.{AllHold}
+use Rattle.wire.specs.Sheets.{Sheet, sheet}
 use Rattle.wire.proofs.ListLaws.{part-is as part-from}
 use Rattle.map_spec.specs.Map.{azimuths, Zone, zonesAt, codeFrom}
 use Rattle.map_spec.specs.Reading.{value, runSize, azimuthPart, segmentsIn, mapIn}
@@ -22,8 +23,8 @@ use Rattle.map_spec.proofs.Places.{asked-there, asked-holds, asked-zones}
 use Rattle.map_spec.proofs.PartLaws.{fetched-value}
 use Rattle.compare_spec.specs.Differences.{Difference, stretches, azimuthDifferences, inOrder}
 use Rattle.compare_spec.proofs.Most.{runs-few}
-use Rattle.compare.specs.Steps.{Sheet, mostCounted, sheet, onto, zonesDifferences, elevationsDifferences, Same, Has}
-use Rattle.compare.proofs.SheetLaws.{onto-append, onto-count}
+use Rattle.compare.specs.Steps.{mostCounted, listing, zonesDifferences, elevationsDifferences, Same, Has}
+use Rattle.compare.proofs.SheetLaws.{listing-append, listing-long}
 use Rattle.compare.proofs.TurnLaws.{none-listed}
 use Rattle.compare.proofs.SameBytes.{azimuth-same, size-same, same-beyond}
 
@@ -147,7 +148,7 @@ module _ (old new : List ℕ) where
     pub atOld : i ≡ placeOf elevation azimuth old
     pub atNew : j ≡ placeOf elevation azimuth new
     pub few : count ≤ index elevation azimuth * 512
-    pub same : sheet count out ≡ onto (done elevation azimuth) (sheet 0 out₀)
+    pub same : sheet (6 * count) out ≡ listing (done elevation azimuth) (sheet 0 out₀)
 
   -- the azimuths counted through
   abbrev pub Reached : ℕ → List ℕ → ℕ → List ℕ → ℕ → ℕ → ℕ → Type 0
@@ -164,7 +165,7 @@ module _ (old new : List ℕ) where
           atOld = ap (λ (k : ℕ). 6 + k) (sym (run-none azimuthPart (drop 6 old)));
           atNew = ap (λ (k : ℕ). 6 + k) (sym (run-none azimuthPart (drop 6 new)));
           few = omega arith;
-          same = ap (λ (ds : List Difference). onto ds (sheet 0 out₀)) (sym none);
+          same = ap (λ (ds : List Difference). listing ds (sheet 0 out₀)) (sym none);
         }
       where
         none : done 1 0 ≡ []
@@ -203,25 +204,25 @@ module _ (old new : List ℕ) where
           (place-zones new elevations hasNew elevation azimuth j (g .from) more (g .around) (g .atNew))
 
       module _ (out′ : List ℕ) (count′ i′ j′ : ℕ)
-          (listed : sheet count′ out′ ≡ onto (zonesDifferences elevation azimuth (drop i old) (drop j new)) (sheet count out))
+          (listed : sheet (6 * count′) out′ ≡ listing (zonesDifferences elevation azimuth (drop i old) (drop j new)) (sheet (6 * count) out))
           (iIs : i′ ≡ i + (2 + 4 * fetched 2 (drop i old) 0)) (jIs : j′ ≡ j + (2 + 4 * fetched 2 (drop j new) 0))
         where
           few-more : count′ ≤ (index elevation azimuth + 1) * 512
           few-more =
               let ds = zonesDifferences elevation azimuth (drop i old) (drop j new) in
-              let c : count′ ≡ count + length ds = ap (λ (t : Sheet). t .count) listed ∙ onto-count ds (sheet count out) in
+              let c : 6 * count′ ≡ 6 * count + 6 * length ds = ap (λ (t : Sheet). t .long) listed ∙ listing-long ds (sheet (6 * count) out) in
               let l : length ds ≤ 512
               = runs-few elevation azimuth (codeFrom 0 (azimuthPart .read (drop i old))) (codeFrom 0 (azimuthPart .read (drop j new))) 0 1 511 in
               omega (arith, c, l, g .few)
 
-          next-same : sheet count′ out′ ≡ onto (done elevation (azimuth + 1)) (sheet 0 out₀)
+          next-same : sheet (6 * count′) out′ ≡ listing (done elevation (azimuth + 1)) (sheet 0 out₀)
           next-same =
               let ds = one elevation azimuth in
               listed
-              ∙ ap (λ (l : List Difference). onto l (sheet count out)) codes-are
-              ∙ ap (λ (t : Sheet). onto ds t) (g .same)
-              ∙ sym (onto-append (done elevation azimuth) ds (sheet 0 out₀))
-              ∙ ap (λ (l : List Difference). onto l (sheet 0 out₀)) (sym (done-next elevation azimuth))
+              ∙ ap (λ (l : List Difference). listing l (sheet (6 * count) out)) codes-are
+              ∙ ap (λ (t : Sheet). listing ds t) (g .same)
+              ∙ sym (listing-append (done elevation azimuth) ds (sheet 0 out₀))
+              ∙ ap (λ (l : List Difference). listing l (sheet 0 out₀)) (sym (done-next elevation azimuth))
 
           old-next : i′ ≡ 6 + runSize azimuthPart (index elevation azimuth + 1) (drop 6 old)
           old-next = iIs ∙ next-place old elevations hasOld elevation azimuth i (g .from) more (g .around) (g .atOld)
@@ -256,8 +257,8 @@ module _ (old new : List ℕ) where
                 few = omega (arith, few-more, f);
                 same =
                     next-same
-                    ∙ ap (λ (k : ℕ). onto (done elevation k) (sheet 0 out₀)) e
-                    ∙ ap (λ (l : List Difference). onto l (sheet 0 out₀)) (sym (done-segment elevation (g .from)));
+                    ∙ ap (λ (k : ℕ). listing (done elevation k) (sheet 0 out₀)) e
+                    ∙ ap (λ (l : List Difference). listing l (sheet 0 out₀)) (sym (done-segment elevation (g .from)));
               }
 
     pub reached-start : Reached elevations out₀ 0 out₀ 6 6 0
@@ -272,7 +273,7 @@ module _ (old new : List ℕ) where
       reached-more = omega arith
 
       pub reached-next : (out′ : List ℕ) (count′ i′ j′ : ℕ)
-          → sheet count′ out′ ≡ onto (zonesDifferences (1 + k / 360) (k % 360) (drop i old) (drop j new)) (sheet count out)
+          → sheet (6 * count′) out′ ≡ listing (zonesDifferences (1 + k / 360) (k % 360) (drop i old) (drop j new)) (sheet (6 * count) out)
           → i′ ≡ i + (2 + 4 * fetched 2 (drop i old) 0) → j′ ≡ j + (2 + 4 * fetched 2 (drop j new) 0) → Reached elevations out₀ (k + 1) out′ i′ j′ count′
       reached-next out′ count′ i′ j′ listed iIs jIs = go (eqb (k % 360 + 1) 360) refl
         where
@@ -322,13 +323,13 @@ module _ (old new : List ℕ) where
         (reached-past n (k + 1) out (i + p) (j + p) count (same - p) next (omega arith) rest (omega (arith, all, inside)))
 
     pub going-done : (out : List ℕ) (elevation azimuth i j count : ℕ) → Going elevations out₀ out elevation azimuth i j count → elevations < elevation
-        → sheet count out ≡ onto (elevationsDifferences elevations old new) (sheet 0 out₀)
+        → sheet (6 * count) out ≡ listing (elevationsDifferences elevations old new) (sheet 0 out₀)
     going-done out elevation azimuth i j count g h =
         let e : elevation ≡ elevations + 1 = omega (arith, g .most) in
         g .same
-        ∙ ap (λ (k : ℕ). onto (done elevation k) (sheet 0 out₀)) (g .past h)
-        ∙ ap (λ (k : ℕ). onto (done k 0) (sheet 0 out₀)) e
-        ∙ ap (λ (l : List Difference). onto l (sheet 0 out₀)) (done-all elevations)
+        ∙ ap (λ (k : ℕ). listing (done elevation k) (sheet 0 out₀)) (g .past h)
+        ∙ ap (λ (k : ℕ). listing (done k 0) (sheet 0 out₀)) e
+        ∙ ap (λ (l : List Difference). listing l (sheet 0 out₀)) (done-all elevations)
 
 -- ---- the part of a slice from a place on, as it is lent
 pub checked-part : (b : List ℕ) (at : ℕ) → AllHold (azimuthPart .checks (drop at b)) → AllHold (azimuthPart .checks (take (length b - at) (drop at b)))
@@ -348,11 +349,11 @@ parts-same n old new i j s k h =
     ap (λ (x : List ℕ). getD x k 0) (sym (part-from old i)) ∙ s k h ∙ ap (λ (x : List ℕ). getD x k 0) (part-from new j)
 
 pub parts-listed : (elevation azimuth : ℕ) (old new : List ℕ) (i j : ℕ) (s : Sheet)
-    → onto (zonesDifferences elevation azimuth (take (length old - i) (drop i old)) (take (length new - j) (drop j new))) s
-    ≡ onto (zonesDifferences elevation azimuth (drop i old) (drop j new)) s
+    → listing (zonesDifferences elevation azimuth (take (length old - i) (drop i old)) (take (length new - j) (drop j new))) s
+    ≡ listing (zonesDifferences elevation azimuth (drop i old) (drop j new)) s
 parts-listed elevation azimuth old new i j s =
-    ap (λ (x : List ℕ). onto (zonesDifferences elevation azimuth x (take (length new - j) (drop j new))) s) (part-from old i)
-    ∙ ap (λ (x : List ℕ). onto (zonesDifferences elevation azimuth (drop i old) x) s) (part-from new j)
+    ap (λ (x : List ℕ). listing (zonesDifferences elevation azimuth x (take (length new - j) (drop j new))) s) (part-from old i)
+    ∙ ap (λ (x : List ℕ). listing (zonesDifferences elevation azimuth (drop i old) x) s) (part-from new j)
 
 -- ---- an azimuth more of a run, by a fetch in the part that is lent
 pub run-on : (b : List ℕ) (count at size same : ℕ) → same ≤ length b → at ≤ same → at ≡ runSize azimuthPart count b

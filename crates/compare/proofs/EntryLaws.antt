@@ -1,52 +1,29 @@
 -- Two checked bodies: the comparison's outcome by what the walks leave. Assumes nothing.
-use Prim.Native.Nat.{ℕ, suc, _+_, _*_, _≤_, _<_}
+use Prim.Native.Nat.{ℕ, _*_, _≤_, _<_}
+use native.Mathlib.Nat.{zero-add}
 use native.Mathlib.Omega.{arith}
-use mathlib.Core.Path.{_≡_, refl, sym, ap, _∙_}
-use mathlib.Core.List.{List, [], _∷_, _++_, append-assoc}
+use mathlib.Core.Path.{_≡_, sym, ap, _∙_}
+use mathlib.Core.List.{List, map}
 use lib.Dec.{ltb}
-use lib.ListN.{length, take, drop, length-append, length-drop}
-use lib.Seq.{drop-drop, take-at, drop-at}
+use lib.ListN.{length, drop}
 use Rattle.wire.specs.Numbers.{Octets}
 use Rattle.wire.specs.Checks.{pick, AllHold}
 use Rattle.wire.specs.Answers.{refused, given, refusal}
 use Rattle.wire.specs.Writing.{filled}
+use Rattle.wire.specs.Sheets.{Sheet, sheet}
 use Rattle.wire.proofs.CheckLaws.{all-hold, decide-some}
 use Rattle.wire.proofs.AnswerLaws.{rule-given, rule-refused}
+use Rattle.wire.proofs.SheetLaws.{onto-long, onto-filled}
 use Rattle.map_spec.specs.Reading.{elevationPart, segmentsIn, mapChecks, mapIn, mapOf, Summary, summary, summaryOf}
 use Rattle.map_spec.proofs.Accepted.{accepted-range}
 use Rattle.map_spec.proofs.Runs.{run-count}
 use Rattle.compare_spec.specs.Differences.{Difference, differences, presentInBoth}
-use Rattle.compare_spec.specs.Comparing.{Comparison, comparison, halfwords, mostHalfwords, comparisonOf}
+use Rattle.compare_spec.specs.Comparing.{Comparison, comparison, sixOf, halfwords, mostHalfwords, comparisonOf}
 use Rattle.compare_spec.proofs.Maps.{lesser-both}
 use Rattle.compare_spec.proofs.Most.{halfwords-length}
 use Rattle.compare_spec.proofs.Theorems.{room-for-all}
 use Rattle.compare_spec.proofs.InTurn.{map-given, in-order}
-use Rattle.compare.specs.Steps.{Sheet, sheet, onto, elevationsDifferences, listOf, Has, Counts, Checked}
-use Rattle.compare.proofs.SheetLaws.{lay-room, onto-count}
-
--- ---- differences that all have room stand one after the other
-onto-behind : (ds : List Difference) (count : ℕ) (before rest : List ℕ) → length before ≡ 6 * count → 6 * length ds ≤ length rest
-    → onto ds (sheet count (before ++ rest)) .out ≡ before ++ (halfwords ds ++ drop (6 * length ds) rest)
-unfolding halfwords
-onto-behind [] count before rest e h = refl
-onto-behind (d ∷ ds) count before rest e h =
-    let six = halfwords (d ∷ []) in
-    let l = halfwords-length (d ∷ []) in
-    let r : 6 * count + 6 ≤ length (before ++ rest) = omega (arith, e, h, length-append before rest) in
-    let k : length (before ++ six) ≡ 6 * suc count = omega (arith, e, l, length-append before six) in
-    let s : take (6 * count) (before ++ rest) ++ (six ++ drop 6 (drop (6 * count) (before ++ rest))) ≡ (before ++ six) ++ drop 6 rest =
-    ap (λ (x : List ℕ). x ++ (six ++ drop 6 (drop (6 * count) (before ++ rest)))) (take-at before rest (6 * count) e)
-    ∙ ap (λ (x : List ℕ). before ++ (six ++ drop 6 x)) (drop-at before rest (6 * count) e)
-    ∙ sym (append-assoc before six (drop 6 rest)) in
-    let n : 6 + 6 * length ds ≡ 6 * suc (length ds) = omega arith in
-    ap (λ (t : Sheet). onto ds t .out) (lay-room d count (before ++ rest) r ∙ ap (λ (x : List ℕ). sheet (suc count) x) s)
-    ∙ onto-behind ds (suc count) (before ++ six) (drop 6 rest) k (omega (arith, h, length-drop 6 rest))
-    ∙ append-assoc before six (halfwords ds ++ drop (6 * length ds) (drop 6 rest))
-    ∙ ap (λ (x : List ℕ). before ++ (six ++ (halfwords ds ++ x))) (drop-drop (6 * length ds) 6 rest ∙ ap (λ (m : ℕ). drop m rest) n)
-
-pub onto-filled : (ds : List Difference) (out : List ℕ) → 6 * length ds ≤ length out → onto ds (sheet 0 out) .out ≡ filled (halfwords ds) out
-onto-filled ds out h =
-    onto-behind ds 0 [] out refl h ∙ ap (λ (n : ℕ). halfwords ds ++ drop n out) (sym (halfwords-length ds))
+use Rattle.compare.specs.Steps.{listing, elevationsDifferences, listOf, Has, Counts, Checked}
 
 -- ---- elevation segments present in both
 segments-are : (b : List ℕ) → length (mapIn b .elevations) ≡ segmentsIn b
@@ -74,19 +51,18 @@ module _ (elevations : ℕ) (old new : List ℕ) (c : Checked elevations old new
   all-are = ap (λ (k : ℕ). elevationsDifferences k old new) (c .present)
 
   -- as a walk counts them
-  module _ (count : ℕ) (before after : List ℕ) (walked : sheet count after ≡ onto (elevationsDifferences elevations old new) (sheet 0 before)) where
+  module _ (count : ℕ) (before after : List ℕ) (walked : sheet (6 * count) after ≡ listing (elevationsDifferences elevations old new) (sheet 0 before)) where
+    all-walked : sheet (6 * count) after ≡ listing (differences (mapIn old) (mapIn new)) (sheet 0 before)
+    all-walked = walked ∙ ap (λ (ds : List Difference). listing ds (sheet 0 before)) all-are
+
     pub counted : 6 * count ≡ length (listOf old new)
-    counted =
-        let n = ap (λ (t : Sheet). t .count) walked ∙ onto-count (elevationsDifferences elevations old new) (sheet 0 before) in
-        let e = ap (λ (ds : List Difference). length ds) all-are in
-        omega (arith, n, e, halfwords-length (differences (mapIn old) (mapIn new)))
+    unfolding halfwords
+    counted = ap (λ (t : Sheet). t .long) all-walked ∙ onto-long (map sixOf (differences (mapIn old) (mapIn new))) (sheet 0 before) ∙ zero-add (length (listOf old new))
 
     -- and lists them where all have room
     pub listed : length (listOf old new) ≤ length before → after ≡ filled (listOf old new) before
-    listed h =
-        ap (λ (t : Sheet). t .out) walked
-        ∙ ap (λ (ds : List Difference). onto ds (sheet 0 before) .out) all-are
-        ∙ onto-filled (differences (mapIn old) (mapIn new)) before (omega (arith, h, halfwords-length (differences (mapIn old) (mapIn new))))
+    unfolding halfwords
+    listed h = ap (λ (t : Sheet). t .out) (all-walked ∙ onto-filled (map sixOf (differences (mapIn old) (mapIn new))) before h)
 
   pub room-most : Octets old → Octets new → length (listOf old new) ≤ mostHalfwords
   room-most o p = room-for-all (mapIn old) (mapIn new) (accepted-range old o (c .inOld)) (accepted-range new p (c .inNew))

@@ -1,5 +1,5 @@
 -- The walk over the zones of both azimuths, turn by turn. Assumes nothing.
-use Prim.Native.Nat.{ℕ, _+_, _-_, _≤_, _<_}
+use Prim.Native.Nat.{ℕ, _+_, _*_, _-_, _≤_, _<_}
 use native.Mathlib.Omega.{arith}
 use mathlib.Core.Path.{_≡_, refl, sym, ap, _∙_, subst}
 use mathlib.Core.Bool.{Bool, true, false, not, _&&_, _||_}
@@ -8,6 +8,7 @@ use lib.Dec.{ltb, eqb}
 use lib.ListN.{length}
 use borrow.Author.Tests.{eqb-true, eqb-false, not-true}
 use Rattle.wire.specs.Checks.{pick, both, AllHold}
+use Rattle.wire.specs.Sheets.{Sheet, sheet}
 use Rattle.wire.proofs.CheckLaws.{never, both-true}
 use Rattle.map_spec.specs.Map.{Zone, codeFrom}
 use Rattle.map_spec.specs.Reading.{azimuthPart}
@@ -15,8 +16,8 @@ use Rattle.map.proofs.QueryLaws.{zoneAt}
 use Rattle.compare_spec.specs.Differences.{Difference, stay, stretch, stretches}
 use Rattle.compare_spec.proofs.Maps.{lesser-both, both-lesser}
 use Rattle.compare_spec.proofs.Most.{stretch-few}
-use Rattle.compare.specs.Steps.{Sheet, sheet, onto, oneIf, zonesDifferences}
-use Rattle.compare.proofs.SheetLaws.{onto-append, onto-count}
+use Rattle.compare.specs.Steps.{listing, oneIf, zonesDifferences}
+use Rattle.compare.proofs.SheetLaws.{listing-append, listing-long}
 use Rattle.compare.proofs.StretchLaws.{same-stay, part-stays, part-ends, from-first, stretches-last, stretches-none}
 use Rattle.compare.proofs.ZoneWalk.{Facing, facing-first, facing-low, facing-high, facing-code, facing-past}
 
@@ -32,14 +33,14 @@ pub record Walking (old new : List ℕ) (elevation azimuth count : ℕ) (out₀ 
   pub isNew : is ≡ codes new first
   pub atOld : Facing old i next
   pub atNew : Facing new j next
-  pub same : onto (stretches elevation azimuth (codes old) (codes new) first next (512 - next)) (sheet listed out)
-      ≡ onto (zonesDifferences elevation azimuth old new) (sheet count out₀)
+  pub same : listing (stretches elevation azimuth (codes old) (codes new) first next (512 - next)) (sheet (6 * listed) out)
+      ≡ listing (zonesDifferences elevation azimuth old new) (sheet (6 * count) out₀)
 
 -- azimuths that have the same zones
 pub none-listed : (old new : List ℕ) (elevation azimuth count : ℕ) (out : List ℕ) → azimuthPart .read old ≡ azimuthPart .read new
-    → sheet count out ≡ onto (zonesDifferences elevation azimuth old new) (sheet count out)
+    → sheet (6 * count) out ≡ listing (zonesDifferences elevation azimuth old new) (sheet (6 * count) out)
 none-listed old new elevation azimuth count out e =
-    ap (λ (ds : List Difference). onto ds (sheet count out))
+    ap (λ (ds : List Difference). listing ds (sheet (6 * count) out))
     (sym
     (ap (λ (zs : List Zone). stretches elevation azimuth (codeFrom 0 zs) (codes new) 0 1 511) e ∙ stretches-none elevation azimuth (codes new) 0 1 511))
 
@@ -87,7 +88,7 @@ module _ (old new : List ℕ) (checkedOld : AllHold (azimuthPart .checks old)) (
           isNew = f ∙ sym (facing-code new checkedNew 2 0 b (omega arith) 0 (omega arith) (omega arith));
           atOld = a;
           atNew = b;
-          same = ap (λ (ds : List Difference). onto ds (sheet count out₀)) (from-first elevation azimuth (codes old) (codes new));
+          same = ap (λ (ds : List Difference). listing ds (sheet (6 * count) out₀)) (from-first elevation azimuth (codes old) (codes new));
         }
 
     -- the codes of the zones that both walks have come to
@@ -127,10 +128,10 @@ module _ (old new : List ℕ) (checkedOld : AllHold (azimuthPart .checks old)) (
             omega (arith, begun-before s)
 
         turn-few : (listed′ : ℕ) (out′ : List ℕ) → both (eqb was code) (eqb is other) ≡ false
-            → sheet listed′ out′ ≡ onto (stretch elevation azimuth (λ k. was) (λ k. is) first next) (sheet listed out) → listed′ ≤ count + next
+            → sheet (6 * listed′) out′ ≡ listing (stretch elevation azimuth (λ k. was) (λ k. is) first next) (sheet (6 * listed) out) → listed′ ≤ count + next
         turn-few listed′ out′ s e =
-            let c : listed′ ≡ listed + length (stretch elevation azimuth (λ k. was) (λ k. is) first next)
-            = ap (λ (t : Sheet). t .count) e ∙ onto-count (stretch elevation azimuth (λ k. was) (λ k. is) first next) (sheet listed out) in
+            let c : 6 * listed′ ≡ 6 * listed + 6 * length (stretch elevation azimuth (λ k. was) (λ k. is) first next)
+            = ap (λ (t : Sheet). t .long) e ∙ listing-long (stretch elevation azimuth (λ k. was) (λ k. is) first next) (sheet (6 * listed) out) in
             omega (arith, c, begun-before s, w .few, stretch-few elevation azimuth (λ k. was) (λ k. is) first next)
 
         -- the end of the zone that ends first, and what stands after it
@@ -177,12 +178,12 @@ module _ (old new : List ℕ) (checkedOld : AllHold (azimuthPart .checks old)) (
               Walks = Walking old new elevation azimuth count out₀ out′ i′ j′ (end + 1) first′ code other listed′
 
               -- where the codes stay, so does the stretch
-              walking-on : both (eqb was code) (eqb is other) ≡ true → first′ ≡ first → sheet listed′ out′ ≡ sheet listed out → Walks
+              walking-on : both (eqb was code) (eqb is other) ≡ true → first′ ≡ first → sheet (6 * listed′) out′ ≡ sheet (6 * listed) out → Walks
               walking-on s f e =
                   let q = both-true (eqb was code) (eqb is other) s in
                   let a = eqb-true was code (q .0) in
                   let b = eqb-true is other (q .1) in
-                  let l : listed′ ≡ listed = ap (λ (t : Sheet). t .count) e in
+                  let l : 6 * listed′ ≡ 6 * listed = ap (λ (t : Sheet). t .long) e in
                   record {
                     low = omega (arith, f, w .low, end-low);
                     near = omega (arith, f, w .near);
@@ -192,9 +193,9 @@ module _ (old new : List ℕ) (checkedOld : AllHold (azimuthPart .checks old)) (
                     atOld = at-old;
                     atNew = at-new;
                     same =
-                        ap (λ (k : ℕ). onto (stretches elevation azimuth (codes old) (codes new) k (end + 1) (512 - (end + 1))) (sheet listed′ out′)) f
-                        ∙ ap (λ (t : Sheet). onto (stretches elevation azimuth (codes old) (codes new) first (end + 1) (512 - (end + 1))) t) e
-                        ∙ ap (λ (ds : List Difference). onto ds (sheet listed out))
+                        ap (λ (k : ℕ). listing (stretches elevation azimuth (codes old) (codes new) k (end + 1) (512 - (end + 1))) (sheet (6 * listed′) out′)) f
+                        ∙ ap (λ (t : Sheet). listing (stretches elevation azimuth (codes old) (codes new) first (end + 1) (512 - (end + 1))) t) e
+                        ∙ ap (λ (ds : List Difference). listing ds (sheet (6 * listed) out))
                         (sym
                         (part-stays elevation azimuth (codes old) (codes new) first next end end-low end-high
                         (λ k l u. (sym (w .wasOld) ∙ a ∙ sym (code-on k l u), sym (w .isNew) ∙ b ∙ sym (other-on k l u)))))
@@ -203,7 +204,7 @@ module _ (old new : List ℕ) (checkedOld : AllHold (azimuthPart .checks old)) (
 
               -- where one changes, the stretch is listed, and another one begins
               walking-turn : both (eqb was code) (eqb is other) ≡ false → first′ ≡ next
-                  → sheet listed′ out′ ≡ onto (stretch elevation azimuth (λ k. was) (λ k. is) first next) (sheet listed out) → Walks
+                  → sheet (6 * listed′) out′ ≡ listing (stretch elevation azimuth (λ k. was) (λ k. is) first next) (sheet (6 * listed) out) → Walks
               walking-turn s f e =
                   let begun = stretches elevation azimuth (codes old) (codes new) next (end + 1) (512 - (end + 1)) in
                   let ended = stretch elevation azimuth (codes old) (codes new) first next in
@@ -216,12 +217,12 @@ module _ (old new : List ℕ) (checkedOld : AllHold (azimuthPart .checks old)) (
                     atOld = at-old;
                     atNew = at-new;
                     same =
-                        ap (λ (k : ℕ). onto (stretches elevation azimuth (codes old) (codes new) k (end + 1) (512 - (end + 1))) (sheet listed′ out′)) f
-                        ∙ ap (λ (t : Sheet). onto begun t)
-                        (e ∙ ap (λ (ds : List Difference). onto ds (sheet listed out))
+                        ap (λ (k : ℕ). listing (stretches elevation azimuth (codes old) (codes new) k (end + 1) (512 - (end + 1))) (sheet (6 * listed′) out′)) f
+                        ∙ ap (λ (t : Sheet). listing begun t)
+                        (e ∙ ap (λ (ds : List Difference). listing ds (sheet (6 * listed) out))
                         (stretch-coded elevation azimuth first next was is (codes old) (codes new) (w .wasOld) (w .isNew)))
-                        ∙ sym (onto-append ended begun (sheet listed out))
-                        ∙ ap (λ (ds : List Difference). onto ds (sheet listed out))
+                        ∙ sym (listing-append ended begun (sheet (6 * listed) out))
+                        ∙ ap (λ (ds : List Difference). listing ds (sheet (6 * listed) out))
                         (sym
                         (part-ends elevation azimuth (codes old) (codes new) first next end end-low end-high (stay-is ∙ s)
                         (λ k l u. (code-next ∙ sym (code-on k l u), other-next ∙ sym (other-on k l u)))))
@@ -230,30 +231,30 @@ module _ (old new : List ℕ) (checkedOld : AllHold (azimuthPart .checks old)) (
 
               -- both as the loop has it
               pub walking-next : first′ ≡ pick (not (eqb was code) || not (eqb is other)) next first
-                  → sheet listed′ out′
-                  ≡ onto (oneIf ((not (eqb was code) || not (eqb is other)) && not (eqb was is)) elevation azimuth first next was is) (sheet listed out)
+                  → sheet (6 * listed′) out′
+                  ≡ listing (oneIf ((not (eqb was code) || not (eqb is other)) && not (eqb was is)) elevation azimuth first next was is) (sheet (6 * listed) out)
                   → (next < end + 1) × (end ≤ 511) × Walking old new elevation azimuth count out₀ out′ i′ j′ (end + 1) first′ code other listed′
               walking-next f e = (
                 end-more,
                 end-high,
                 go (both (eqb was code) (eqb is other)) refl (f ∙ ap (λ (t : Bool). pick t next first) changes)
-                    (e ∙ ap (λ (t : Bool). onto (oneIf (t && not (eqb was is)) elevation azimuth first next was is) (sheet listed out)) changes),
+                    (e ∙ ap (λ (t : Bool). listing (oneIf (t && not (eqb was is)) elevation azimuth first next was is) (sheet (6 * listed) out)) changes),
               )
                 where
                   changes : not (eqb was code) || not (eqb is other) ≡ not (both (eqb was code) (eqb is other))
                   changes = one-changes (eqb was code) (eqb is other)
 
                   go : (t : Bool) → both (eqb was code) (eqb is other) ≡ t → first′ ≡ pick (not t) next first
-                      → sheet listed′ out′ ≡ onto (oneIf (not t && not (eqb was is)) elevation azimuth first next was is) (sheet listed out) → Walks
+                      → sheet (6 * listed′) out′ ≡ listing (oneIf (not t && not (eqb was is)) elevation azimuth first next was is) (sheet (6 * listed) out) → Walks
                   go true s g q = walking-on s g q
                   go false s g q =
-                      walking-turn s g (q ∙ ap (λ (ds : List Difference). onto ds (sheet listed out)) (stretch-if elevation azimuth first next was is))
+                      walking-turn s g (q ∙ ap (λ (ds : List Difference). listing ds (sheet (6 * listed) out)) (stretch-if elevation azimuth first next was is))
 
     -- past the last kilometre the open stretch is the last
     pub walking-done : (out : List ℕ) (i j next first was is listed : ℕ) → Walking old new elevation azimuth count out₀ out i j next first was is listed → 511 < next
-        → onto (oneIf (not (eqb was is)) elevation azimuth first next was is) (sheet listed out) ≡ onto (zonesDifferences elevation azimuth old new) (sheet count out₀)
+        → listing (oneIf (not (eqb was is)) elevation azimuth first next was is) (sheet (6 * listed) out) ≡ listing (zonesDifferences elevation azimuth old new) (sheet (6 * count) out₀)
     walking-done out i j next first was is listed w far =
-        ap (λ (ds : List Difference). onto ds (sheet listed out))
+        ap (λ (ds : List Difference). listing ds (sheet (6 * listed) out))
         (stretch-if elevation azimuth first next was is
         ∙ stretch-coded elevation azimuth first next was is (codes old) (codes new) (w .wasOld) (w .isNew)
         ∙ sym (stretches-last elevation azimuth (codes old) (codes new) first next (512 - next) (omega arith)))

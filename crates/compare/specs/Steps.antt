@@ -1,38 +1,19 @@
 -- What the private functions promise each other. No public promise cites this file.
-use Prim.Native.Nat.{ℕ, suc, _+_, _*_, _-_, _≤_, _<_}
+use Prim.Native.Nat.{ℕ, _-_, _≤_, _<_}
 use mathlib.Core.Path.{_≡_}
 use mathlib.Core.Bool.{Bool}
-use mathlib.Core.List.{List, [], _∷_, _++_}
-use lib.Dec.{leb}
-use lib.ListN.{length, getD, take, drop}
+use mathlib.Core.List.{List, [], _∷_, map}
+use lib.ListN.{getD}
 use Rattle.wire.specs.Checks.{pick, AllHold}
+use Rattle.wire.specs.Sheets.{Sheet, onto}
 use Rattle.map_spec.specs.Map.{lastKilometre, azimuths, codeFrom}
 use Rattle.map_spec.specs.Reading.{azimuthPart, segmentsIn, mapChecks, mapIn}
 use Rattle.compare_spec.specs.Differences.{Difference, stretches, azimuthDifferences, inOrder, presentInBoth, differences}
-use Rattle.compare_spec.specs.Comparing.{halfwords}
+use Rattle.compare_spec.specs.Comparing.{sixOf, halfwords}
 
--- the differences counted so far, and the output
-pub record Sheet : Type 0 where
-  pub count : ℕ
-  pub out : List ℕ
-
-abbrev pub sheet : ℕ → List ℕ → Sheet
-sheet count out = record { count = count; out = out }
-
--- one more difference
-unfoldable pub lay : Difference → Sheet → Sheet
-lay d s =
-    record {
-      count = suc (s .count);
-      out =
-          pick (leb (6 * s .count + 6) (length (s .out)))
-          (take (6 * s .count) (s .out) ++ (halfwords (d ∷ []) ++ drop 6 (drop (6 * s .count) (s .out))))
-          (s .out);
-    }
-
-abbrev pub onto : List Difference → Sheet → Sheet
-onto [] s = s
-onto (d ∷ ds) s = onto ds (lay d s)
+-- differences laid on a sheet one after the other, six halfwords each
+abbrev pub listing : List Difference → Sheet → Sheet
+listing ds s = onto (map sixOf ds) s
 
 -- a stretch of kilometres that ends before the next one, or none
 abbrev pub oneIf : Bool → ℕ → ℕ → ℕ → ℕ → ℕ → ℕ → List Difference

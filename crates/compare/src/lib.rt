@@ -12,10 +12,11 @@ ghost use lib.ListN.{length};
 ghost use Rattle.wire.specs.Answers.{Promise};
 ghost use Rattle.wire.specs.Numbers.{num, fetched};
 ghost use Rattle.wire.specs.Checks.{pick, AllHold};
+ghost use Rattle.wire.specs.Sheets.{sheet};
 ghost use Rattle.map_spec.specs.Reading.{runSize, azimuthPart};
 ghost use Rattle.compare_spec.specs.Comparing.{comparisonOf};
 ghost use Rattle.compare.specs.Told.{tellCompare};
-ghost use Rattle.compare.specs.Steps.{mostCounted, sheet, onto, oneIf, zonesDifferences, elevationsDifferences, listOf, Same, Has, Counts, Checked};
+ghost use Rattle.compare.specs.Steps.{mostCounted, listing, oneIf, zonesDifferences, elevationsDifferences, listOf, Same, Has, Counts, Checked};
 
 // The halfwords that a difference takes.
 const SIZE: usize = 6;
@@ -95,7 +96,7 @@ fn list(
     new: u16,
 ) -> usize
     requires { ⌜ (count ≤ mostCounted) × (lists ≡ true → 1 ≤ next) ⌝ }
-    ensures { λ r. ⌜ sheet r (now (out .exit)) ≡ onto (oneIf lists elevation azimuth first next old new) (sheet count (now (out .entry))) ⌝ }
+    ensures { λ r. ⌜ sheet (6 * r) (now (out .exit)) ≡ listing (oneIf lists elevation azimuth first next old new) (sheet (6 * count) (now (out .entry))) ⌝ }
 {
     let at = SIZE * count;
     let end = at + SIZE;
@@ -141,7 +142,7 @@ fn compare_zones(
     count: usize,
 ) -> usize
     requires { ⌜ AllHold (azimuthPart .checks (now old)) × AllHold (azimuthPart .checks (now new)) × (count + 512 ≤ mostCounted) ⌝ }
-    ensures { λ r. ⌜ sheet r (now (out .exit)) ≡ onto (zonesDifferences elevation azimuth (now (old .entry)) (now (new .entry))) (sheet count (now (out .entry))) ⌝ }
+    ensures { λ r. ⌜ sheet (6 * r) (now (out .exit)) ≡ listing (zonesDifferences elevation azimuth (now (old .entry)) (now (new .entry))) (sheet (6 * count) (now (out .entry))) ⌝ }
 {
     let mut i: usize = 2;
     let mut j: usize = 2;
@@ -231,7 +232,7 @@ fn pass(part: &[u8], same: usize, most: usize) -> Run
 // and the azimuths in them passed over by their sizes.
 fn compare_azimuths(old: &[u8], new: &[u8], elevations: u16, out: &mut [u16]) -> usize
     requires { ⌜ Has elevations (now old) × Has elevations (now new) ⌝ }
-    ensures { λ r. ⌜ sheet r (now (out .exit)) ≡ onto (elevationsDifferences elevations (now (old .entry)) (now (new .entry))) (sheet 0 (now (out .entry))) ⌝ }
+    ensures { λ r. ⌜ sheet (6 * r) (now (out .exit)) ≡ listing (elevationsDifferences elevations (now (old .entry)) (now (new .entry))) (sheet 0 (now (out .entry))) ⌝ }
 {
     let total = AZIMUTHS * elevations as usize;
     let mut index: usize = 0;

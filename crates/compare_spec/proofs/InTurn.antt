@@ -2,19 +2,19 @@
 use Prim.Native.Nat.{ℕ}
 use mathlib.Core.Path.{_≡_, ap, _∙_}
 use mathlib.Core.Bool.{Bool, true, false}
-use mathlib.Core.List.{List, _++_}
+use mathlib.Core.List.{List, [], _∷_, _++_}
 use lib.Dec.{ltb}
 use lib.ListN.{length}
 use borrow.Author.Tests.{lt-ltb, le-ltb}
 use Rattle.wire.specs.Checks.{pick, decide, AllHold}
-use Rattle.wire.specs.Answers.{refused, given, Outcome, refusal, outcome}
-use Rattle.wire.specs.Writing.{filled}
+use Rattle.wire.specs.Answers.{refused, given, Outcome, refusal}
+use Rattle.wire.specs.Writing.{filled, roomCheck, wroteAll}
 use Rattle.wire.proofs.CheckLaws.{none-broken, decide-none, decide-some, decide-append}
 use Rattle.wire.proofs.AnswerLaws.{rule-given, rule-refused}
 use Rattle.map_spec.specs.Map.{FilterMap}
 use Rattle.map_spec.specs.Reading.{mapChecks, mapIn, mapOf}
 use Rattle.compare_spec.specs.Differences.{differences}
-use Rattle.compare_spec.specs.Comparing.{Comparison, comparison, halfwords, roomChecks, comparisonOf}
+use Rattle.compare_spec.specs.Comparing.{Comparison, comparison, halfwords, comparisonOf}
 use Rattle.compare_spec.specs.Theorems.{RefusedInOrder}
 
 -- a body that no check refuses
@@ -22,8 +22,8 @@ pub map-given : (b : List ℕ) → AllHold (mapChecks b) → mapOf b ≡ given (
 map-given b h = decide-none (mapChecks b) refused (given (mapIn b)) (none-broken (mapChecks b) h)
 
 -- what comes of two maps
-abbrev pub answered : List ℕ → FilterMap → FilterMap → Outcome Comparison
-answered out m n = outcome (roomChecks (halfwords (differences m n)) out) out (comparison m n) (filled (halfwords (differences m n)) out)
+abbrev pub answered : List ℕ → FilterMap → FilterMap → Outcome (List ℕ) Comparison
+answered out m n = wroteAll [] (comparison m n) (halfwords (differences m n)) out
 
 module _ (old new out : List ℕ) where
   -- the first body's checks, then the second's, then the output's
@@ -32,8 +32,8 @@ module _ (old new out : List ℕ) where
       let ks = mapChecks old in
       let ls = mapChecks new in
       let list = halfwords (differences (mapIn old) (mapIn new)) in
-      let ok : Outcome Comparison = record { answer = given (comparison (mapIn old) (mapIn new)); output = filled list out } in
-      decide-append (ks ++ ls) (roomChecks list out) (refusal out) ok ∙ decide-append ks ls (refusal out) (answered out (mapIn old) (mapIn new))
+      let ok : Outcome (List ℕ) Comparison = record { answer = given (comparison (mapIn old) (mapIn new)); output = filled list out } in
+      decide-append (ks ++ ls) (roomCheck (length out) list ∷ []) (refusal out) ok ∙ decide-append ks ls (refusal out) (answered out (mapIn old) (mapIn new))
 
   old-bad : (number : ℕ) → mapOf old ≡ refused number → comparisonOf old new out ≡ refusal out number
   old-bad number e =

@@ -8,26 +8,9 @@ use mathlib.Core.List.{List, [], _∷_, _++_, map}
 use lib.Dec.{ltb}
 use lib.ListN.{length, getD}
 use borrow.Author.Tests.{ltb-true, ltb-false}
-use Rattle.map_spec.specs.Map.{Each}
+use Rattle.wire.proofs.EachLaws.{each-append, each-so, each-map}
+use Rattle.wire.specs.Properties.{Each}
 use Rattle.compare_spec.specs.Differences.{inOrder}
-
--- ---- each
-pub each-append : {A : Type 0} (P : A → Type 0) (xs ys : List A) → Each P xs → Each P ys → Each P (xs ++ ys)
-each-append P [] ys p q = q
-each-append P (x ∷ xs) ys p q = (p .0, each-append P xs ys (p .1) q)
-
-pub each-map : {A B : Type 0} (P : A → Type 0) (Q : B → Type 0) (f : A → B) (xs : List A) → ((x : A) → P x → Q (f x)) → Each P xs → Each Q (map f xs)
-each-map P Q f [] h p = tt
-each-map P Q f (x ∷ xs) h p = (h x (p .0), each-map P Q f xs h (p .1))
-
-pub each-so : {A : Type 0} (P Q : A → Type 0) (xs : List A) → ((x : A) → P x → Q x) → Each P xs → Each Q xs
-each-so P Q [] h p = tt
-each-so P Q (x ∷ xs) h p = (h x (p .0), each-so P Q xs h (p .1))
-
--- two facts of each
-pub each-both : {A : Type 0} (P Q S : A → Type 0) (xs : List A) → ((x : A) → P x → Q x → S x) → Each P xs → Each Q xs → Each S xs
-each-both P Q S [] h p q = tt
-each-both P Q S (x ∷ xs) h p q = (h x (p .0) (q .0), each-both P Q S xs h (p .1) (q .1))
 
 -- ---- some
 abbrev pub Some : {A : Type 0} → (A → Type 0) → List A → Type 0

@@ -7,11 +7,13 @@ use mathlib.Core.List.{List}
 use lib.Dec.{ltb}
 use lib.ListN.{length}
 use borrow.Author.Tests.{ltb-true, ltb-false}
+use Rattle.wire.proofs.EachLaws.{each-so}
+use Rattle.wire.specs.Properties.{Each}
 use Rattle.wire.specs.Checks.{pick}
-use Rattle.map_spec.specs.Map.{azimuths, lastKilometre, FilterMap, Each, codeAt}
+use Rattle.map_spec.specs.Map.{azimuths, lastKilometre, FilterMap, codeAt}
 use Rattle.compare_spec.specs.Differences.{Difference, azimuthDifferences, inOrder, presentInBoth, differences}
 use Rattle.compare_spec.specs.Compared.{Present, Sound, Longest, Within, Before, byElevation, byAzimuth}
-use Rattle.compare_spec.proofs.Lists.{each-so, each-order, some-order, Sorted, sorted-order}
+use Rattle.compare_spec.proofs.Lists.{each-order, some-order, Sorted, sorted-order}
 use Rattle.compare_spec.proofs.Runs.{Alike, Whole, runOf, Here, Listed, all-listed}
 use Rattle.compare_spec.proofs.OneList.{Exact}
 

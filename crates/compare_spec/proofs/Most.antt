@@ -4,13 +4,13 @@ use native.Mathlib.Nat.{suc-mul}
 use native.Mathlib.Omega.{arith}
 use mathlib.Core.Path.{_≡_, refl}
 use mathlib.Core.Bool.{Bool, true, false}
-use mathlib.Core.List.{List, [], _∷_, _++_}
+use mathlib.Core.List.{List, [], _∷_, _++_, flatten}
 use lib.Dec.{eqb}
 use lib.ListN.{length, getD, length-append}
 use borrow.Author.Tests.{eqb-true, eqb-false}
+use Rattle.wire.proofs.EachLaws.{each-at}
 use Rattle.wire.specs.Checks.{pick}
 use Rattle.map_spec.specs.Map.{azimuths, lastKilometre, FilterMap, AzimuthInRange, ElevationInRange, InRange, zonesAt, codeAt}
-use Rattle.map_spec.proofs.Coverage.{each-at}
 use Rattle.compare_spec.specs.Differences.{Difference, stay, stretch, stretches, azimuthDifferences, mostRuns, inOrder, presentInBoth, differences}
 use Rattle.compare_spec.specs.Comparing.{halfwords}
 use Rattle.compare_spec.specs.Theorems.{MostDifferences, RoomForAll}
@@ -148,7 +148,7 @@ differences-most m n r s =
 
 -- ---- their halfwords
 pub halfwords-length : (ds : List Difference) → length (halfwords ds) ≡ 6 * length ds
-unfolding halfwords
+unfolding halfwords flatten
 halfwords-length [] = omega arith
 halfwords-length (d ∷ ds) = omega (arith, halfwords-length ds)
 

@@ -5,11 +5,12 @@ use mathlib.Core.Path.{_≡_, refl, sym, ap, _∙_, subst}
 use mathlib.Core.Logic.{⊎-elim}
 use mathlib.Core.List.{List, [], _∷_}
 use lib.ListN.{length, getD}
-use Rattle.map_spec.specs.Map.{FilterMap, Each, codeAt}
-use Rattle.map_spec.proofs.Coverage.{each-at}
+use Rattle.wire.proofs.EachLaws.{each-so, each-both, each-at}
+use Rattle.wire.specs.Properties.{Each}
+use Rattle.map_spec.specs.Map.{FilterMap, codeAt}
 use Rattle.compare_spec.specs.Differences.{Difference}
 use Rattle.compare_spec.specs.Compared.{Present, Coded, Sound, Longest, Within, noDifference, OneRun, Before, byElevation, byAzimuth, byKilometre, Ordered, Compared}
-use Rattle.compare_spec.proofs.Lists.{each-so, each-both, Some, some-at, some-each, Sorted}
+use Rattle.compare_spec.proofs.Lists.{Some, some-at, some-each, Sorted}
 
 -- ---- the order
 before-on : (d e f : Difference) → e .first ≤ e .last → Before d e → Before e f → Before d f

@@ -1,14 +1,15 @@
 -- The values of the runs that are listed of two maps in range: each is in its range, and fits a halfword. Assumes nothing.
 use Prim.Native.Nat.{_≤_}
 use native.Mathlib.Omega.{arith}
-use mathlib.Core.List.{List, [], _∷_}
-use Rattle.map_spec.specs.Map.{lastKilometre, mostHalfword, FilterMap, Each, InRange}
+use mathlib.Core.List.{List, [], _∷_, flatten}
+use Rattle.wire.proofs.EachLaws.{each-so}
+use Rattle.wire.specs.Properties.{Each}
+use Rattle.map_spec.specs.Map.{lastKilometre, mostHalfword, FilterMap, InRange}
 use Rattle.map_spec.proofs.Theorems.{one-code}
 use Rattle.compare_spec.specs.Differences.{Difference, differences}
 use Rattle.compare_spec.specs.Compared.{Sound, RunInRange}
 use Rattle.compare_spec.specs.Comparing.{halfwords}
 use Rattle.compare_spec.specs.Theorems.{RunsInRange, HalfwordsFit}
-use Rattle.compare_spec.proofs.Lists.{each-so}
 use Rattle.compare_spec.proofs.Maps.{differences-exact}
 
 sound-range : (m n : FilterMap) → InRange m → InRange n → (d : Difference) → Sound m n d → RunInRange d
@@ -32,7 +33,7 @@ pub runs-range : RunsInRange
 runs-range m n r s = each-so (Sound m n) RunInRange (differences m n) (sound-range m n r s) (differences-exact m n .sound)
 
 each-fits : (ds : List Difference) → Each RunInRange ds → Each (λ value. value ≤ mostHalfword) (halfwords ds)
-unfolding halfwords
+unfolding halfwords flatten
 each-fits [] p = tt
 each-fits (d ∷ ds) p =
     let h = p .0 in

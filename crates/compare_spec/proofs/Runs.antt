@@ -8,12 +8,13 @@ use mathlib.Core.Bool.{Bool, true, false}
 use mathlib.Core.List.{List, [], _∷_, _++_, append-nil}
 use lib.Dec.{ltb, eqb}
 use borrow.Author.Tests.{ltb-true, ltb-false, eqb-true, eqb-false, eq-eqb}
+use Rattle.wire.proofs.EachLaws.{each-append, each-so}
+use Rattle.wire.specs.Properties.{Each}
 use Rattle.wire.specs.Checks.{pick, both}
 use Rattle.wire.proofs.CheckLaws.{never}
-use Rattle.map_spec.specs.Map.{Each}
 use Rattle.compare_spec.specs.Differences.{Difference, stay, stretch, stretches}
 use Rattle.compare_spec.specs.Compared.{Within, Before, byKilometre}
-use Rattle.compare_spec.proofs.Lists.{each-append, each-so, Some, some-left, some-right, Sorted, sorted-append}
+use Rattle.compare_spec.proofs.Lists.{Some, some-left, some-right, Sorted, sorted-append}
 
 -- ---- codes that stay
 module _ (old new : ℕ → ℕ) where

@@ -3,10 +3,11 @@ use Prim.Native.Nat.{ℕ, _≤_}
 use native.Mathlib.Omega.{arith}
 use mathlib.Core.Path.{_≡_, refl, sym, ap, _∙_, subst}
 use mathlib.Core.Bool.{Bool, true, false}
-use mathlib.Core.List.{List, [], map}
+use mathlib.Core.List.{List, [], map, flatten}
 use lib.Dec.{eqb}
 use lib.ListN.{length, length-map}
 use borrow.Author.Tests.{eqb-true, eqb-false}
+use Rattle.wire.proofs.EachLaws.{each-map}
 use Rattle.wire.specs.Answers.{given}
 use Rattle.wire.specs.Writing.{filled}
 use Rattle.map_spec.specs.Map.{FilterMap, codeAt}
@@ -14,7 +15,7 @@ use Rattle.compare_spec.specs.Differences.{Difference, differences, swap
 use Rattle.compare_spec.specs.Compared.{Present, Sound, Longest, Within, Before, byElevation, byAzimuth, byKilometre, Compared}
 use Rattle.compare_spec.specs.Comparing.{halfwords}
 use Rattle.compare_spec.specs.Theorems.{ComparedExactly, NoneExactly, WithItself, Swapped, DateApart, MostDifferences, RoomForAll, RunsInRange, HalfwordsFit, RefusedInOrder, ItselfAnswered, SwappedAnswered}
-use Rattle.compare_spec.proofs.Lists.{each-map, some-map, sorted-map}
+use Rattle.compare_spec.proofs.Lists.{some-map, sorted-map}
 use Rattle.compare_spec.proofs.OneList.{Exact, exact-compared, compared-exact, one-list}
 use Rattle.compare_spec.proofs.Maps.{differences-exact}
 use Rattle.compare_spec.proofs.Most.{differences-most, halfwords-length, halfwords-most}
@@ -120,7 +121,7 @@ pub refused-in-order : RefusedInOrder
 refused-in-order = in-order
 
 pub itself-answered : ItselfAnswered
-unfolding halfwords
+unfolding halfwords flatten
 itself-answered b out m e =
     let none = with-itself m in
     let room : length (halfwords (differences m m)) ≤ length out = subst (λ (ds : List Difference). length (halfwords ds) ≤ length out) (sym none) (omega arith) in

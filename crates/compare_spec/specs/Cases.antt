@@ -4,12 +4,13 @@ use Prim.Native.Nat.{ℕ}
 use mathlib.Core.Path.{_≡_}
 use mathlib.Core.List.{List, [], _∷_}
 use lib.ListN.{length, take}
-use Rattle.wire.specs.Answers.{given, Outcome, refusal, outcome}
-use Rattle.wire.specs.Writing.{filled}
-use Rattle.map_spec.specs.Map.{Zone, FilterMap, Each}
+use Rattle.wire.specs.Properties.{Each}
+use Rattle.wire.specs.Answers.{given, Outcome, refusal}
+use Rattle.wire.specs.Writing.{wroteAll}
+use Rattle.map_spec.specs.Map.{Zone, FilterMap}
 use Rattle.map_spec.specs.Cases.{zone, bodyWith, body13}
 use Rattle.compare_spec.specs.Differences.{Difference, azimuthDifferences, mostRuns, differences}
-use Rattle.compare_spec.specs.Comparing.{Comparison, halfwords, roomChecks, comparisonOf}
+use Rattle.compare_spec.specs.Comparing.{Comparison, halfwords, comparisonOf}
 
 -- a difference at azimuth 0 of the first elevation segment
 abbrev pub run : ℕ → ℕ → ℕ → ℕ → Difference
@@ -29,15 +30,15 @@ pub data Case : Type 0 where
   -- the elevation segments of two maps, and what is listed of them
   segments : List (List (List Zone)) → List (List (List Zone)) → List Difference → Case
   -- some differences and an output, and what comes of them
-  room : List Difference → List ℕ → Outcome ℕ → Case
+  room : List Difference → List ℕ → Outcome (List ℕ) ℕ → Case
   -- two bodies and an output, and what comes of them
-  bodies : List ℕ → List ℕ → List ℕ → Outcome Comparison → Case
+  bodies : List ℕ → List ℕ → List ℕ → Outcome (List ℕ) Comparison → Case
 
 abbrev pub Holds : Case → Type 0
 Holds (azimuth zs ys ds) = azimuthDifferences (mapAt0 zs) (mapAt0 ys) 1 0 ≡ ds
 Holds (many zs ys count) = length (azimuthDifferences (mapAt0 zs) (mapAt0 ys) 1 0) ≡ count
 Holds (segments es fs ds) = differences (mapWith es) (mapWith fs) ≡ ds
-Holds (room ds out right) = outcome (roomChecks (halfwords ds) out) out (length ds) (filled (halfwords ds) out) ≡ right
+Holds (room ds out right) = wroteAll [] (length ds) (halfwords ds) out ≡ right
 Holds (bodies old new out right) = comparisonOf old new out ≡ right
 
 -- twenty zones in each of two azimuths, no end but the last in both: at each end one of the codes changes, and they differ at every kilometre

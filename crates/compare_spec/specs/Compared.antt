@@ -3,7 +3,8 @@ use Prim.Native.Nat.{ℕ, suc, _≤_, _<_}
 use mathlib.Core.Path.{_≡_}
 use mathlib.Core.List.{List, [], _∷_}
 use lib.ListN.{length, getD}
-use Rattle.map_spec.specs.Map.{mostElevations, azimuths, mostCode, lastKilometre, FilterMap, Each, codeAt}
+use Rattle.wire.specs.Properties.{Each}
+use Rattle.map_spec.specs.Map.{mostElevations, azimuths, mostCode, lastKilometre, FilterMap, codeAt}
 use Rattle.compare_spec.specs.Differences.{Difference}
 
 -- a kilometre of an elevation segment "present in both"

@@ -1,11 +1,9 @@
 -- Two bodies 15 and a lent output of halfwords: how a comparison is refused, what it reports, and what it leaves in the output.
 use Prim.Native.Nat.{ℕ, _*_}
-use mathlib.Core.List.{List, [], _∷_, _++_}
-use lib.Dec.{ltb}
+use mathlib.Core.List.{List, [], _∷_, _++_, map, flatten}
 use lib.ListN.{length}
-use Rattle.wire.specs.Checks.{Check, check}
-use Rattle.wire.specs.Answers.{Outcome, outcome}
-use Rattle.wire.specs.Writing.{filled}
+use Rattle.wire.specs.Answers.{Outcome}
+use Rattle.wire.specs.Writing.{wroteAll}
 use Rattle.map_spec.specs.Map.{mostElevations, azimuths, FilterMap}
 use Rattle.map_spec.specs.Reading.{mapChecks, mapIn}
 use Rattle.compare_spec.specs.Differences.{Difference, mostRuns, differences}
@@ -21,21 +19,20 @@ comparison m n =
     record { oldElevations = length (m .elevations); newElevations = length (n .elevations); differences = length (differences m n) }
 
 -- six halfwords a difference
+abbrev pub sixOf : Difference → List ℕ
+sixOf d = d .elevation ∷ d .azimuth ∷ d .first ∷ d .last ∷ d .old ∷ d .new ∷ []
+
 unfoldable pub halfwords : List Difference → List ℕ
-halfwords [] = []
-halfwords (d ∷ ds) = d .elevation ∷ d .azimuth ∷ d .first ∷ d .last ∷ d .old ∷ d .new ∷ halfwords ds
+halfwords ds = flatten (map sixOf ds)
 
 -- so many halfwords have room for the differences of any two maps in range: 421,200
 abbrev pub mostHalfwords : ℕ
 mostHalfwords = 6 * (mostElevations * (azimuths * mostRuns))
 
--- "too little output is 13"
-abbrev pub roomChecks : List ℕ → List ℕ → List Check
-roomChecks list out = check 13 (ltb (length out) (length list)) ∷ []
-
--- "A bad map is refused by its own number, the first map first": "with nothing written", and "all 0 on refusal", since a refusal has no other number
-abbrev pub comparisonOf : List ℕ → List ℕ → List ℕ → Outcome Comparison
+-- "A bad map is refused by its own number, the first map first; too little output is 13": "with nothing written", and "all 0 on refusal", since a
+-- refusal has no other number
+abbrev pub comparisonOf : List ℕ → List ℕ → List ℕ → Outcome (List ℕ) Comparison
 comparisonOf old new out =
     let m = mapIn old in
     let n = mapIn new in
-    outcome (mapChecks old ++ mapChecks new ++ roomChecks (halfwords (differences m n)) out) out (comparison m n) (filled (halfwords (differences m n)) out)
+    wroteAll (mapChecks old ++ mapChecks new) (comparison m n) (halfwords (differences m n)) out

@@ -4,9 +4,10 @@ use mathlib.Core.Path.{_≡_}
 use mathlib.Core.Logic.{_↔_}
 use mathlib.Core.List.{List, [], map}
 use lib.ListN.{length}
+use Rattle.wire.specs.Properties.{Each}
 use Rattle.wire.specs.Answers.{refused, given, refusal}
 use Rattle.wire.specs.Writing.{filled}
-use Rattle.map_spec.specs.Map.{azimuths, mostHalfword, FilterMap, Each, InRange, codeAt}
+use Rattle.map_spec.specs.Map.{azimuths, mostHalfword, FilterMap, InRange, codeAt}
 use Rattle.map_spec.specs.Reading.{mapOf}
 use Rattle.compare_spec.specs.Differences.{Difference, mostRuns, presentInBoth, differences, swapped}
 use Rattle.compare_spec.specs.Compared.{Present, Compared, RunInRange}

@@ -1,23 +1,24 @@
 -- How far the walk has come: what was kept and skipped so far, and what is yet to come from a place on. Assumes nothing.
 use Prim.Native.Nat.{ℕ, _+_, _*_, _-_, _≤_, _<_}
-use mathlib.Core.Path.{_≡_, refl, sym, ap, subst, _∙_}
+use mathlib.Core.Path.{_≡_, refl, sym, ap, _∙_}
 use mathlib.Core.Bool.{Bool, true, false}
-use mathlib.Core.List.{List, [], _∷_, _++_, append-assoc, append-nil, flatten}
+use mathlib.Core.List.{List, [], _∷_, _++_, append-assoc, append-nil, map, map-append, flatten}
 use native.Mathlib.Omega.{arith}
 use lib.ListN.{length, take, drop, length-append, length-drop}
 use lib.Seq.{length-take-le}
 use lib.Dec.{eqb}
 use Rattle.wire.specs.Checks.{pick}
-use Rattle.wire.specs.Writing.{filled}
-use Rattle.salvage_spec.specs.Walk.{Step, kept, Run, run, stepsOf, framesOf, runsOf, keptOf, skippedOf}
-use Rattle.salvage_spec.specs.Salvage.{numbers}
+use Rattle.wire.specs.Sheets.{Sheet, sheet, lay, onto}
+use Rattle.wire.proofs.SheetLaws.{onto-append, onto-long}
+use Rattle.salvage_spec.specs.Walk.{Step, Run, run, stepsOf, framesOf, runsOf, keptOf, skippedOf}
+use Rattle.salvage_spec.specs.Salvage.{twoOf, numbers}
 use Rattle.salvage_spec.proofs.RunLaws.{run-none}
 use Rattle.salvage_spec.proofs.InTurn.{numbers-length}
 use Rattle.salvage.specs.declared.Stretch.{Stretch}
 use Rattle.salvage_find.specs.Steps.{FoundFrom}
-use Rattle.salvage.specs.Steps.{StretchFrom, laid, Laid, LaidRun, WalkedOver}
-use Rattle.salvage.proofs.LayLaws.{laid-more}
-use Rattle.salvage.proofs.PlaceLaws.{flatten-append, numbers-append, runs-closed, goes-forward}
+use Rattle.salvage.specs.Steps.{StretchFrom, WalkedOver}
+use Rattle.salvage.proofs.LayLaws.{all-counted, all-laid}
+use Rattle.salvage.proofs.PlaceLaws.{flatten-append, flatten-more, runs-closed, goes-forward}
 use Rattle.salvage_find.proofs.PlaceLaws.{frames-there, runs-there, steps-over}
 
 -- one run at most
@@ -33,44 +34,44 @@ pub record Going (b out₀ runs₀ : List ℕ) (at frames long count : ℕ) (out
   pub within : at ≤ length b
   pub had : List (List ℕ)
   pub lost : List Run
+  -- what was laid: the bytes of the frames had, by stretches
+  pub parts : List (List ℕ)
+  pub partsAre : flatten parts ≡ flatten had
   pub allFrames : keptOf b ≡ had ++ framesOf (stepsOf (drop at b))
   pub allRuns : skippedOf b ≡ lost ++ runsOf at at (stepsOf (drop at b))
   pub framesIs : frames ≡ length had
-  pub longIs : long ≡ length (flatten had)
-  pub countIs : count ≡ length lost
   pub framesFit : frames ≤ at
   pub longFits : long ≤ at
   pub countFits : count ≤ at
-  pub output : long ≤ length out₀ → out ≡ filled (flatten had) out₀
-  pub listed : 2 * count ≤ length runs₀ → runs ≡ filled (numbers lost) runs₀
+  pub output : sheet long out ≡ onto parts (sheet 0 out₀)
+  pub listed : sheet (2 * count) runs ≡ onto (map twoOf lost) (sheet 0 runs₀)
   pub outLong : length out ≡ length out₀
   pub runsLong : length runs ≡ length runs₀
 
 pub going-start : (b out runs : List ℕ) → Going b out runs 0 0 0 0 out runs
-unfolding flatten numbers
 going-start b out runs = record {
   within = omega arith;
   had = [];
   lost = [];
+  parts = [];
+  partsAre = refl;
   allFrames = refl;
   allRuns = refl;
   framesIs = refl;
-  longIs = refl;
-  countIs = refl;
   framesFit = omega arith;
   longFits = omega arith;
   countFits = omega arith;
-  output = λ h. refl;
-  listed = λ h. refl;
+  output = refl;
+  listed = refl;
   outLong = refl;
   runsLong = refl;
 }
 
 module _ (b out₀ runs₀ : List ℕ) (at frames long count : ℕ) (out runs : List ℕ) (g : Going b out₀ runs₀ at frames long count out runs) where
   -- a run, and the frames after it
-  module _ (more : at < length b) (place : ℕ) (f : FoundFrom b at place) (count′ : ℕ) (runs′ : List ℕ) (r : LaidRun runs count at place count′ runs′)
+  module _ (more : at < length b) (place : ℕ) (f : FoundFrom b at place) (count′ : ℕ) (runs′ : List ℕ) (r : sheet (2 * count′) runs′ ≡ onto (map twoOf (run at place)) (sheet (2 * count) runs))
       (runsLong : length runs′ ≡ length runs) (frames′ : Stretch) (s : StretchFrom b place frames′) (bytes : List ℕ)
-      (is : bytes ≡ take (frames′ .next - place) (drop place b)) (long′ : ℕ) (out′ : List ℕ) (longer : long′ ≡ long + length bytes) (l : Laid out long bytes out′)
+      (is : bytes ≡ take (frames′ .next - place) (drop place b)) (long′ : ℕ) (out′ : List ℕ) (l : sheet long′ out′ ≡ lay bytes (sheet long out))
       (outLong : length out′ ≡ length out) where
     abbrev next : ℕ
     next = frames′ .next
@@ -87,29 +88,30 @@ module _ (b out₀ runs₀ : List ℕ) (at frames long count : ℕ) (out runs : 
         let d : length (drop place b) ≡ length b - place = length-drop place b in
         ap length is ∙ length-take-le (next - place) (drop place b) (omega arith)
 
-    count-is : count′ ≡ length (g .lost ++ run at place)
-    count-is = r .counted ∙ ap (λ (n : ℕ). n + length (run at place)) (g .countIs) ∙ sym (length-append (g .lost) (run at place))
+    longer : long′ ≡ long + length bytes
+    unfolding lay
+    longer = ap (λ (s : Sheet). s .long) l
 
-    list-is : 2 * count′ ≤ length runs₀ → runs′ ≡ filled (numbers (g .lost ++ run at place)) runs₀
-    list-is h =
-        let c = r .counted in
-        let n : length (numbers (g .lost)) ≡ 2 * count = numbers-length (g .lost) ∙ ap (λ (n : ℕ). 2 * n) (sym (g .countIs)) in
-        let m : length (numbers (run at place)) ≡ 2 * length (run at place) = numbers-length (run at place) in
-        let room : length (numbers (g .lost)) + length (numbers (run at place)) ≤ length runs₀ = omega arith in
-        let q = g .runsLong in
-        r .listed (omega arith)
-        ∙ ap (λ (k : ℕ). laid runs k (numbers (run at place))) (sym n)
-        ∙ laid-more runs₀ runs (numbers (g .lost)) (numbers (run at place)) (g .listed (omega arith)) room
-        ∙ ap (λ (x : List ℕ). filled x runs₀) (sym (numbers-append (g .lost) (run at place)))
+    -- a run more, or none
+    counted : count′ ≡ count + length (run at place)
+    unfolding numbers
+    counted =
+        let e : 2 * count′ ≡ 2 * count + length (numbers (run at place)) =
+        ap (λ (s : Sheet). s .long) r ∙ onto-long (map twoOf (run at place)) (sheet (2 * count) runs) in
+        omega (arith, e, numbers-length (run at place))
 
-    out-is : long′ ≤ length out₀ → out′ ≡ filled (flatten (g .had ++ each)) out₀
-    out-is h =
-        let i = g .longIs in
-        let q = g .outLong in
-        l (omega (arith, longer))
-        ∙ ap (λ (k : ℕ). laid out k bytes) i
-        ∙ laid-more out₀ out (flatten (g .had)) bytes (g .output (omega (arith, longer))) (omega (arith, longer))
-        ∙ ap (λ (x : List ℕ). filled x out₀) (sym (flatten-append (g .had) each ∙ ap (λ (x : List ℕ). flatten (g .had) ++ x) bytes-are))
+    parts-are : flatten (g .parts ++ (bytes ∷ [])) ≡ flatten (g .had ++ each)
+    parts-are = flatten-more (g .parts) bytes ∙ (λ i. g .partsAre i ++ sym bytes-are i) ∙ sym (flatten-append (g .had) each)
+
+    out-is : sheet long′ out′ ≡ onto (g .parts ++ (bytes ∷ [])) (sheet 0 out₀)
+    out-is = l ∙ ap (lay bytes) (g .output) ∙ sym (onto-append (g .parts) (bytes ∷ []) (sheet 0 out₀))
+
+    list-is : sheet (2 * count′) runs′ ≡ onto (map twoOf (g .lost ++ run at place)) (sheet 0 runs₀)
+    list-is =
+        r
+        ∙ ap (onto (map twoOf (run at place))) (g .listed)
+        ∙ sym (onto-append (map twoOf (g .lost)) (map twoOf (run at place)) (sheet 0 runs₀))
+        ∙ ap (λ (ps : List (List ℕ)). onto ps (sheet 0 runs₀)) (sym (map-append twoOf (g .lost) (run at place)))
 
     frames-next : framesOf (stepsOf (drop at b)) ≡ each ++ framesOf (stepsOf (drop next b))
     frames-next = frames-there b at place (f .before) ∙ s .frames .kept
@@ -121,7 +123,7 @@ module _ (b out₀ runs₀ : List ℕ) (at frames long count : ℕ) (out runs : 
     pub going-on : Going b out₀ runs₀ next (frames + frames′ .frames) long′ count′ out′ runs′
     going-on =
         let w = f .before .forward in
-        let c = r .counted in
+        let c = counted in
         let o : length (run at place) ≤ 1 = run-most at place in
         let p = bytes-long in
         let z = s .frames .forward in
@@ -129,14 +131,11 @@ module _ (b out₀ runs₀ : List ℕ) (at frames long count : ℕ) (out runs : 
           within = s .frames .within;
           had = g .had ++ each;
           lost = g .lost ++ run at place;
+          parts = g .parts ++ (bytes ∷ []);
+          partsAre = parts-are;
           allFrames = g .allFrames ∙ ap (λ (x : List (List ℕ)). g .had ++ x) frames-next ∙ sym (append-assoc (g .had) each (framesOf (stepsOf (drop next b))));
           allRuns = g .allRuns ∙ ap (λ (x : List Run). g .lost ++ x) runs-next ∙ sym (append-assoc (g .lost) (run at place) (runsOf next next (stepsOf (drop next b))));
           framesIs = (λ i. g .framesIs i + s .frames .counted i) ∙ sym (length-append (g .had) each);
-          longIs =
-              longer
-              ∙ (λ i. g .longIs i + length (sym bytes-are i))
-              ∙ sym (ap length (flatten-append (g .had) each) ∙ length-append (flatten (g .had)) (flatten each));
-          countIs = count-is;
           framesFit = omega (arith, g .framesFit);
           longFits = omega (arith, g .longFits, longer);
           countFits = omega (arith, g .countFits);
@@ -148,15 +147,13 @@ module _ (b out₀ runs₀ : List ℕ) (at frames long count : ℕ) (out runs : 
 
   -- to the end
   pub going-ends : length b ≤ at → WalkedOver b out₀ runs₀ (record { kept = frames; long = long; runs = count }) out runs
-  unfolding framesOf runsOf
+  unfolding framesOf runsOf numbers
   going-ends h = record {
     kept = g .framesIs ∙ sym (ap length frames-all);
-    long = g .longIs ∙ sym (ap (λ (x : List (List ℕ)). length (flatten x)) frames-all);
-    count = g .countIs ∙ sym (ap length runs-all);
-    output = λ room. g .output (subst (λ (n : ℕ). n ≤ length out₀) (ap (λ (x : List (List ℕ)). length (flatten x)) frames-all ∙ sym (g .longIs)) room)
-        ∙ ap (λ (x : List (List ℕ)). filled (flatten x) out₀) (sym frames-all);
-    listed = λ room. g .listed (subst (λ (n : ℕ). 2 * n ≤ length runs₀) (ap length runs-all ∙ sym (g .countIs)) room)
-        ∙ ap (λ (x : List Run). filled (numbers x) runs₀) (sym runs-all);
+    long = all-counted (g .parts) (flatten (keptOf b)) out₀ long out bytes-all (g .output);
+    count = omega (arith, twice, numbers-length (skippedOf b));
+    output = all-laid (g .parts) (flatten (keptOf b)) out₀ long out bytes-all (g .output);
+    listed = λ room. all-laid (map twoOf (g .lost)) (numbers (skippedOf b)) runs₀ (2 * count) runs numbers-all (g .listed) (omega (arith, room, numbers-length (skippedOf b)));
   }
     where
       over : stepsOf (drop at b) ≡ []
@@ -167,3 +164,12 @@ module _ (b out₀ runs₀ : List ℕ) (at frames long count : ℕ) (out runs : 
 
       runs-all : skippedOf b ≡ g .lost
       runs-all = g .allRuns ∙ ap (λ (steps : List Step). g .lost ++ runsOf at at steps) over ∙ ap (λ (x : List Run). g .lost ++ x) (run-none at) ∙ append-nil (g .lost)
+
+      bytes-all : flatten (g .parts) ≡ flatten (keptOf b)
+      bytes-all = g .partsAre ∙ sym (ap flatten frames-all)
+
+      numbers-all : flatten (map twoOf (g .lost)) ≡ numbers (skippedOf b)
+      numbers-all = sym (ap numbers runs-all)
+
+      twice : 2 * count ≡ length (numbers (skippedOf b))
+      twice = all-counted (map twoOf (g .lost)) (numbers (skippedOf b)) runs₀ (2 * count) runs numbers-all (g .listed)

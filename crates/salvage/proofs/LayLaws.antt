@@ -1,66 +1,64 @@
--- What is laid into an output piece after piece. Assumes nothing.
+-- What `put` and `list` lay into an output, and what then stands in it. Assumes nothing.
 use Prim.Native.Nat.{ℕ, _+_, _*_, _-_, _≤_, _<_}
-use mathlib.Core.Path.{_≡_, refl, sym, ap, _∙_}
-use mathlib.Core.List.{List, [], _∷_, _++_, append-assoc}
-use native.Mathlib.Nat.{add-zero}
+use mathlib.Core.Path.{_≡_, sym, ap, subst, _∙_}
+use mathlib.Core.List.{List, [], _∷_, _++_, map, flatten}
+use native.Mathlib.Nat.{zero-add}
 use native.Mathlib.Omega.{arith}
-use lib.ListN.{length, take, drop, set, length-append, length-drop, take-append-drop}
-use lib.Seq.{drop-drop, drop-at, take-at, length-take-le}
+use lib.ListN.{length, take, drop, set, length-drop}
+use lib.Seq.{drop-drop, length-take-le}
 use Rattle.wire.specs.Writing.{filled, copied}
+use Rattle.wire.specs.Sheets.{Sheet, sheet, lay, onto}
 use Rattle.wire.proofs.CopyLaws.{copied-same}
 use Rattle.wire.proofs.ListLaws.{two-stored}
+use Rattle.wire.proofs.SheetLaws.{lay-room, lay-none, onto-long, onto-filled}
 use Rattle.salvage_spec.specs.Walk.{Run, run}
-use Rattle.salvage_spec.specs.Salvage.{numbers}
+use Rattle.salvage_spec.specs.Salvage.{twoOf}
 use Rattle.salvage_spec.proofs.RunLaws.{run-none, run-some}
-use Rattle.salvage.specs.Steps.{laid, LaidRun}
 
--- one piece after what was laid before it
-pub laid-more : (out₀ out before list : List ℕ) → out ≡ filled before out₀ → length before + length list ≤ length out₀
-    → laid out (length before) list ≡ filled (before ++ list) out₀
-laid-more out₀ out before list holds room =
-    let a : take (length before) out ≡ before =
-    ap (λ (x : List ℕ). take (length before) x) holds ∙ take-at before (drop (length before) out₀) (length before) refl in
-    let b : drop (length before) out ≡ drop (length before) out₀ =
-    ap (λ (x : List ℕ). drop (length before) x) holds ∙ drop-at before (drop (length before) out₀) (length before) refl in
-    rw (a, b, append-assoc, drop-drop, length-append)
+-- all parts laid: so much is counted, and it stands in the output if there was room for it
+module _ (parts : List (List ℕ)) (whole out₀ : List ℕ) (long : ℕ) (out : List ℕ) (is : flatten parts ≡ whole) (s : sheet long out ≡ onto parts (sheet 0 out₀)) where
+  pub all-counted : long ≡ length whole
+  all-counted = ap (λ (s : Sheet). s .long) s ∙ onto-long parts (sheet 0 out₀) ∙ zero-add (length (flatten parts)) ∙ ap length is
 
--- a frame, as `put` copies it
-pub put-laid : (out frame : List ℕ) (long n : ℕ) (ys : List ℕ) → n ≡ length frame → long + length frame ≤ length out → ys ≡ copied frame (take n (drop long out))
-    → take long out ++ (ys ++ drop n (drop long out)) ≡ laid out long frame
-put-laid out frame long n ys e h c =
+  pub all-laid : length whole ≤ length out₀ → out ≡ filled whole out₀
+  all-laid room =
+      ap (λ (s : Sheet). s .out) (s ∙ onto-filled parts out₀ (subst (λ (l : List ℕ). length l ≤ length out₀) (sym is) room))
+      ∙ ap (λ (l : List ℕ). filled l out₀) is
+
+-- bytes, as `put` copies them
+pub put-laid : (out bytes : List ℕ) (long n : ℕ) (ys : List ℕ) → n ≡ length bytes → long + length bytes ≤ length out → ys ≡ copied bytes (take n (drop long out))
+    → sheet (long + length bytes) (take long out ++ (ys ++ drop n (drop long out))) ≡ lay bytes (sheet long out)
+put-laid out bytes long n ys e h c =
     let l : length (drop long out) ≡ length out - long = length-drop long out in
-    let m : length frame ≡ length (take n (drop long out)) = sym e ∙ sym (length-take-le n (drop long out) (omega (arith, e))) in
-    rw (c ∙ copied-same frame (take n (drop long out)) m, e)
+    let m : length bytes ≡ length (take n (drop long out)) = sym e ∙ sym (length-take-le n (drop long out) (omega (arith, e))) in
+    rw (c ∙ copied-same bytes (take n (drop long out)) m, e) (sym (lay-room bytes long out h))
 
 -- ---- a run, as `list` lists it
 module _ (runs : List ℕ) (count first next : ℕ) where
-  none-run : first ≡ next → run first next ≡ []
-  none-run e = ap (run first) (sym e) ∙ run-none first
+  abbrev Listed : ℕ → List ℕ → Type 0
+  Listed count′ runs′ = sheet (2 * count′) runs′ ≡ onto (map twoOf (run first next)) (sheet (2 * count) runs)
 
-  pub list-nothing : first ≡ next → LaidRun runs count first next count runs
-  unfolding numbers
-  list-nothing e = record {
-    counted = sym (ap (λ (rs : List Run). count + length rs) (none-run e) ∙ add-zero count);
-    listed = λ h. sym (ap (λ (rs : List Run). laid runs (2 * count) (numbers rs)) (none-run e) ∙ take-append-drop (2 * count) runs);
-  }
+  pub list-nothing : first ≡ next → Listed count runs
+  list-nothing e = sym (ap (λ (rs : List Run). onto (map twoOf rs) (sheet (2 * count) runs)) (ap (run first) (sym e) ∙ run-none first))
 
   module _ (ne : first ≡ next → ⊥) where
-    one-counted : count + 1 ≡ count + length (run first next)
-    one-counted = sym (ap (λ (rs : List Run). count + length rs) (run-some first next ne))
+    abbrev two : List ℕ
+    two = first ∷ (next - first) ∷ []
 
-    two-numbers : numbers (run first next) ≡ first ∷ (next - first) ∷ []
-    unfolding numbers
-    two-numbers = ap numbers (run-some first next ne)
+    -- the sheet with one run more
+    more : (runs′ : List ℕ) → lay two (sheet (2 * count) runs) ≡ sheet (2 * count + 2) runs′ → Listed (count + 1) runs′
+    more runs′ e =
+        let n : 2 * (count + 1) ≡ 2 * count + 2 = omega arith in
+        ap (λ (n : ℕ). sheet n runs′) n ∙ sym e ∙ sym (ap (λ (rs : List Run). onto (map twoOf rs) (sheet (2 * count) runs)) (run-some first next ne))
 
-    pub list-counted : length runs < 2 * count + 2 → LaidRun runs count first next (count + 1) runs
-    list-counted h = record { counted = one-counted; listed = λ room. absurd (omega (arith, ap length two-numbers)) }
+    pub list-counted : length runs < 2 * count + 2 → Listed (count + 1) runs
+    list-counted h = more runs (lay-none two (2 * count) runs h)
 
-    pub list-laid : 2 * count + 2 ≤ length runs
-        → LaidRun runs count first next (count + 1) (set (set runs (2 * count) first) (2 * count + 1) (next - first))
-    list-laid h = record {
-      counted = one-counted;
-      listed = λ room.
-          two-stored (2 * count) runs first (next - first) h
-          ∙ ap (λ (l : List ℕ). take (2 * count) runs ++ (first ∷ (next - first) ∷ l)) (sym (drop-drop 2 (2 * count) runs))
-          ∙ sym (ap (λ (l : List ℕ). laid runs (2 * count) l) two-numbers);
-    }
+    pub list-laid : 2 * count + 2 ≤ length runs → Listed (count + 1) (set (set runs (2 * count) first) (2 * count + 1) (next - first))
+    list-laid h =
+        more (set (set runs (2 * count) first) (2 * count + 1) (next - first))
+        (lay-room two (2 * count) runs h
+        ∙ ap (λ (l : List ℕ). sheet (2 * count + 2) l)
+        (sym
+        (two-stored (2 * count) runs first (next - first) h
+        ∙ ap (λ (l : List ℕ). take (2 * count) runs ++ (first ∷ (next - first) ∷ l)) (sym (drop-drop 2 (2 * count) runs)))))

@@ -10,7 +10,6 @@ use lib.Dec.{ltb}
 use borrow.Author.Tests.{ltb-true, ltb-false}
 use Rattle.wire.proofs.CheckLaws.{never}
 use Rattle.salvage_spec.specs.Walk.{stands, wholeLong, whole, Step, kept, Run, run, stepsOf, framesOf, runsOf}
-use Rattle.salvage_spec.specs.Salvage.{numbers}
 use Rattle.salvage_spec.proofs.WalkLaws.{stands-long, whole-length}
 use Rattle.salvage_spec.proofs.RunLaws.{run-none}
 use Rattle.salvage_find.specs.Steps.{FoundFrom}
@@ -24,14 +23,9 @@ unfolding flatten
 flatten-append [] gs = refl
 flatten-append (x ∷ fs) gs = ap (λ (l : List ℕ). x ++ l) (flatten-append fs gs) ∙ sym (append-assoc x (flatten fs) (flatten gs))
 
-flatten-more : (fs : List (List ℕ)) (f : List ℕ) → flatten (fs ++ (f ∷ [])) ≡ flatten fs ++ f
+pub flatten-more : (fs : List (List ℕ)) (f : List ℕ) → flatten (fs ++ (f ∷ [])) ≡ flatten fs ++ f
 unfolding flatten
 flatten-more fs f = flatten-append fs (f ∷ []) ∙ ap (λ (l : List ℕ). flatten fs ++ l) (append-nil f)
-
-pub numbers-append : (rs ss : List Run) → numbers (rs ++ ss) ≡ numbers rs ++ numbers ss
-unfolding numbers
-numbers-append [] ss = refl
-numbers-append (r ∷ rs) ss = ap (λ (l : List ℕ). r .place ∷ r .long ∷ l) (numbers-append rs ss)
 
 -- ---- frames that follow one another
 -- a run ends where a frame begins, and at the end

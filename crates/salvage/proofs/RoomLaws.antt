@@ -7,15 +7,17 @@ use native.Mathlib.Omega.{arith}
 use lib.Dec.{leb}
 use lib.ListN.{length}
 use borrow.Author.Tests.{leb-true, leb-false, le-leb}
-use Rattle.wire.specs.Answers.{given}
+use Rattle.wire.specs.Answers.{given, refusal, Promise}
+use Rattle.wire.specs.Writing.{filled}
 use Rattle.wire.proofs.CheckLaws.{never}
+use Rattle.wire.proofs.AnswerLaws.{kept}
 use Rattle.salvage_spec.specs.Walk.{keptOf, skippedOf}
-use Rattle.salvage_spec.specs.Salvage.{Salvage, numbers, untouched, salvaged, salvageOf}
+use Rattle.salvage_spec.specs.Salvage.{numbers, salvaged, salvageOf}
 use Rattle.salvage_spec.specs.Theorems.{InTurn}
 use Rattle.salvage_spec.proofs.Theorems.{refused-in-order, most-runs, most-kept}
 use Rattle.salvage.specs.declared.Totals.{Totals}
 use Rattle.salvage.specs.declared.SalvageAnswer.the-variants.{Salvaged, Refused}
-use Rattle.salvage.specs.Told.{Salvages}
+use Rattle.salvage.specs.Told.{tellSalvage}
 use Rattle.salvage.specs.Steps.{WalkedOver, roomFor}
 
 both-of : (s t : Bool) → s && t ≡ true → (s ≡ true) × (t ≡ true)
@@ -43,39 +45,32 @@ module _ (b out runs : List ℕ) where
       ∙ ap (λ (n : ℕ). leb (length (flatten (keptOf b))) (length out) && leb (2 * n) (length runs)) (w .count)
 
   -- without room the outputs stay as they were
-  pub no-room : (out′ runs′ : List ℕ) → out′ ≡ out → runs′ ≡ runs → roomFor b out runs ≡ false → Salvages (salvageOf b out runs) (Refused 13) out′ runs′
+  pub no-room : (out′ runs′ : List ℕ) → out′ ≡ out → runs′ ≡ runs → roomFor b out runs ≡ false
+      → Promise tellSalvage (salvageOf b out runs) (Refused 13) (out′, runs′)
   unfolding salvageOf
-  no-room out′ runs′ o r e = by (leb (length (flatten (keptOf b))) (length out)) refl
+  no-room out′ runs′ o r e =
+      kept tellSalvage (salvageOf b out runs) (Refused 13) (out′, runs′) (out, runs) (by (leb (length (flatten (keptOf b))) (length out)) refl) (λ i. (o i, r i))
     where
       turn : InTurn (keptOf b) (skippedOf b) out runs
       turn = refused-in-order (keptOf b) (skippedOf b) out runs
 
-      stays : salvaged (keptOf b) (skippedOf b) out runs ≡ untouched out runs 13 → Salvages (salvaged (keptOf b) (skippedOf b) out runs) (Refused 13) out′ runs′
-      stays q = record {
-        answers = sym (ap (λ (s : Salvage). s .answer) q);
-        leaves = o ∙ sym (ap (λ (s : Salvage). s .output) q);
-        lists = r ∙ sym (ap (λ (s : Salvage). s .listed) q);
-      }
-
-      by : (t : Bool) → leb (length (flatten (keptOf b))) (length out) ≡ t → Salvages (salvaged (keptOf b) (skippedOf b) out runs) (Refused 13) out′ runs′
-      by false q = stays (turn .littleOutput (leb-false (length (flatten (keptOf b))) (length out) q))
+      by : (t : Bool) → leb (length (flatten (keptOf b))) (length out) ≡ t → salvaged (keptOf b) (skippedOf b) out runs ≡ refusal (out, runs) 13
+      by false q = turn .littleOutput (leb-false (length (flatten (keptOf b))) (length out) q)
       by true q =
-          stays
-          (turn .fewRuns
-          (leb-false (2 * length (skippedOf b)) (length runs) (sym (ap (λ (t : Bool). t && leb (2 * length (skippedOf b)) (length runs)) q) ∙ e)))
+          turn .fewRuns
+          (leb-false (2 * length (skippedOf b)) (length runs) (sym (ap (λ (t : Bool). t && leb (2 * length (skippedOf b)) (length runs)) q) ∙ e))
 
   pub with-room : (t : Totals) (out₁ runs₁ out′ runs′ : List ℕ) → out₁ ≡ out → runs₁ ≡ runs → roomFor b out runs ≡ true → WalkedOver b out₁ runs₁ t out′ runs′
-      → Salvages (salvageOf b out runs) (Salvaged (t .kept) (t .long) (t .runs)) out′ runs′
+      → Promise tellSalvage (salvageOf b out runs) (Salvaged (t .kept) (t .long) (t .runs)) (out′, runs′)
   unfolding salvageOf
   with-room t out₁ runs₁ out′ runs′ o r e w₁ =
       let w : WalkedOver b out runs t out′ runs′ =
       subst (λ (l : List ℕ). WalkedOver b out l t out′ runs′) r (subst (λ (l : List ℕ). WalkedOver b l runs₁ t out′ runs′) o w₁) in
       let p = both-of (leb (length (flatten (keptOf b))) (length out)) (leb (2 * length (skippedOf b)) (length runs)) e in
       let bytes = leb-true (length (flatten (keptOf b))) (length out) (p .0) in
-      let numbers = leb-true (2 * length (skippedOf b)) (length runs) (p .1) in
-      let q = refused-in-order (keptOf b) (skippedOf b) out runs .enough bytes numbers in
-      record {
-        answers = (λ i. given (record { kept = w .kept i; long = w .long i; runs = w .count i })) ∙ sym (ap (λ (s : Salvage). s .answer) q);
-        leaves = w .output bytes ∙ sym (ap (λ (s : Salvage). s .output) q);
-        lists = w .listed numbers ∙ sym (ap (λ (s : Salvage). s .listed) q);
-      }
+      let list = leb-true (2 * length (skippedOf b)) (length runs) (p .1) in
+      let left : List ℕ × List ℕ = (filled (flatten (keptOf b)) out, filled (numbers (skippedOf b)) runs) in
+      kept tellSalvage (salvageOf b out runs) (Salvaged (t .kept) (t .long) (t .runs)) (out′, runs′) left
+      (refused-in-order (keptOf b) (skippedOf b) out runs .enough bytes list
+      ∙ sym (λ i. record { answer = given (record { kept = w .kept i; long = w .long i; runs = w .count i }); output = left }))
+      (λ i. (w .output bytes i, w .listed list i))

@@ -6,7 +6,7 @@ use mathlib.Core.List.{List, _++_, flatten}
 use lib.Dec.{leb}
 use lib.ListN.{length, take, drop}
 use Rattle.wire.specs.Writing.{filled}
-use Rattle.salvage_spec.specs.Walk.{stands, run, stepsOf, framesOf, runsOf, keptOf, skippedOf}
+use Rattle.salvage_spec.specs.Walk.{stands, stepsOf, framesOf, runsOf, keptOf, skippedOf}
 use Rattle.salvage_spec.specs.Salvage.{numbers}
 use Rattle.salvage.specs.declared.Stretch.{Stretch}
 use Rattle.salvage.specs.declared.Totals.{Totals}
@@ -25,18 +25,6 @@ pub record Frames (b : List ℕ) (from to count : ℕ) : Type 0 where
 pub record StretchFrom (b : List ℕ) (from : ℕ) (r : Stretch) : Type 0 where
   pub frames : Frames b from (r .next) (r .frames)
   pub some : stands (drop from b) ≡ true → from < r .next
-
--- what stands in an output that held `out`, with `list` from a place on
-abbrev pub laid : List ℕ → ℕ → List ℕ → List ℕ
-laid out at list = take at out ++ (list ++ drop (length list) (drop at out))
-
--- it stands there, if there was room for it
-abbrev pub Laid : List ℕ → ℕ → List ℕ → List ℕ → Type 0
-Laid out at list after = at + length list ≤ length out → after ≡ laid out at list
-
-pub record LaidRun (runs : List ℕ) (count first next r : ℕ) (after : List ℕ) : Type 0 where
-  pub counted : r ≡ count + length (run first next)
-  pub listed : Laid runs (2 * count) (numbers (run first next)) after
 
 -- all of it is counted, and each output holds it if there was room
 pub record WalkedOver (b out runs : List ℕ) (r : Totals) (out′ runs′ : List ℕ) : Type 0 where

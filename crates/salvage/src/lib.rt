@@ -1,11 +1,15 @@
 // A damaged recording salvaged: the frames that pass are copied one after the other, and each run of bytes between them is listed.
 use wire::refusal;
 ghost use mathlib.Core.Path.{_≡_};
+ghost use mathlib.Core.List.{map};
 ghost use Prim.Native.Nat.{_+_, _*_, _^_, _≤_, _<_};
 ghost use lib.ListN.{length};
-ghost use Rattle.salvage_spec.specs.Salvage.{salvageOf};
-ghost use Rattle.salvage.specs.Told.{Salvages};
-ghost use Rattle.salvage.specs.Steps.{StretchFrom, Laid, LaidRun, WalkedOver, roomFor};
+ghost use Rattle.wire.specs.Answers.{Promise};
+ghost use Rattle.wire.specs.Sheets.{sheet, lay, onto};
+ghost use Rattle.salvage_spec.specs.Walk.{run};
+ghost use Rattle.salvage_spec.specs.Salvage.{twoOf, salvageOf};
+ghost use Rattle.salvage.specs.Told.{tellSalvage};
+ghost use Rattle.salvage.specs.Steps.{StretchFrom, WalkedOver, roomFor};
 
 // The bytes of the least frame that passes: its head and a header.
 const LEAST: usize = 28;
@@ -47,7 +51,7 @@ fn follow(buf: &[u8], place: usize) -> Stretch
 // The bytes from `first` to the one before `next`, listed after so many runs where there is room for it, and counted.
 fn list(runs: &mut [u64], count: usize, first: usize, next: usize) -> usize
     requires { ⌜ (first ≤ next) × (count ≤ first) × (first + 1 < 2 ^ 63) ⌝ }
-    ensures { λ r. ⌜ LaidRun (now (runs .entry)) count first next r (now (runs .exit)) ⌝ }
+    ensures { λ r. ⌜ sheet (2 * r) (now (runs .exit)) ≡ onto (map twoOf (run first next)) (sheet (2 * count) (now (runs .entry))) ⌝ }
 {
     if first == next {
         return count;
@@ -64,7 +68,7 @@ fn list(runs: &mut [u64], count: usize, first: usize, next: usize) -> usize
 // Bytes copied after so many where there is room for them, and counted.
 fn put(bytes: &[u8], out: &mut [u8], long: usize) -> usize
     requires { ⌜ long + length (now bytes) < 2 ^ 63 ⌝ }
-    ensures { λ r. ⌜ (r ≡ long + length (now (bytes .entry))) × Laid (now (out .entry)) long (now (bytes .entry)) (now (out .exit)) ⌝ }
+    ensures { λ r. ⌜ sheet r (now (out .exit)) ≡ lay (now (bytes .entry)) (sheet long (now (out .entry))) ⌝ }
 {
     let end = long + bytes.len();
     if out.len() < end {
@@ -113,7 +117,7 @@ fn has_room(buf: &[u8], out: &mut [u8], runs: &mut [u64]) -> bool
 
 // The frames of a damaged recording into `out`, and each run of skipped bytes as place and length into `runs`.
 pub fn salvage(buf: &[u8], out: &mut [u8], runs: &mut [u64]) -> SalvageAnswer
-    ensures { λ r. ⌜ Salvages (salvageOf (now (buf .entry)) (now (out .entry)) (now (runs .entry))) r (now (out .exit)) (now (runs .exit)) ⌝ }
+    ensures { λ r. ⌜ Promise tellSalvage (salvageOf (now (buf .entry)) (now (out .entry)) (now (runs .entry))) r (now (out .exit), now (runs .exit)) ⌝ }
 {
     if !has_room(buf, out, runs) {
         return SalvageAnswer::Refused(refusal::OUTPUT_SMALL);

@@ -8,27 +8,27 @@ use lib.Dec.{ltb}
 use lib.ListN.{length}
 use borrow.Author.Tests.{lt-ltb, le-ltb}
 use Rattle.wire.specs.Checks.{pick}
-use Rattle.wire.specs.Answers.{given}
+use Rattle.wire.specs.Answers.{given, Outcome, refusal}
 use Rattle.wire.specs.Writing.{filled}
 use Rattle.salvage_spec.specs.Walk.{Run}
-use Rattle.salvage_spec.specs.Salvage.{Salvage, numbers, untouched, report, salvaged}
+use Rattle.salvage_spec.specs.Salvage.{Report, numbers, report, salvaged}
 use Rattle.salvage_spec.specs.Theorems.{RefusedInOrder}
 
 pub numbers-length : (rs : List Run) → length (numbers rs) ≡ 2 * length rs
-unfolding numbers
+unfolding numbers flatten
 numbers-length [] = omega arith
 numbers-length (r ∷ rs) = omega (arith, numbers-length rs)
 
 module _ (frames : List (List ℕ)) (skipped : List Run) (out runs : List ℕ) where
-  abbrev written : Salvage
-  written = record { answer = given (report frames skipped); output = filled (flatten frames) out; listed = filled (numbers skipped) runs }
+  abbrev written : Outcome (List ℕ × List ℕ) Report
+  written = record { answer = given (report frames skipped); output = (filled (flatten frames) out, filled (numbers skipped) runs) }
 
   -- the answers of both checks say all
   by-room : (t u : Bool) → ltb (length out) (length (flatten frames)) ≡ t → ltb (length runs) (length (numbers skipped)) ≡ u
-      → salvaged frames skipped out runs ≡ pick t (untouched out runs 13) (pick u (untouched out runs 13) written)
-  by-room t u p q = λ i. pick (p i) (untouched out runs 13) (pick (q i) (untouched out runs 13) written)
+      → salvaged frames skipped out runs ≡ pick t (refusal (out, runs) 13) (pick u (refusal (out, runs) 13) written)
+  by-room t u p q = λ i. pick (p i) (refusal (out, runs) 13) (pick (q i) (refusal (out, runs) 13) written)
 
-  few : (t : Bool) → pick t (untouched out runs 13) (pick true (untouched out runs 13) written) ≡ untouched out runs 13
+  few : (t : Bool) → pick t (refusal (out, runs) 13) (pick true (refusal (out, runs) 13) written) ≡ refusal (out, runs) 13
   few true = refl
   few false = refl
 

@@ -3,11 +3,11 @@ use Prim.Native.Nat.{ℕ}
 use mathlib.Core.Path.{_≡_}
 use mathlib.Core.List.{List, [], _∷_, _++_}
 use lib.ListN.{replicate, take, drop}
-use Rattle.wire.specs.Numbers.{be}
-use Rattle.wire.specs.Answers.{refused, given}
-use Rattle.set_spec.specs.Cases.{frameWith}
+use Rattle.wire.specs.Properties.{Each}
+use Rattle.wire.specs.Answers.{refused, given, Outcome}
+use Rattle.set_spec.specs.Cases.{frameWith, keepAlive}
 use Rattle.salvage_spec.specs.Walk.{Run, keptOf, skippedOf}
-use Rattle.salvage_spec.specs.Salvage.{Salvage, salvageOf}
+use Rattle.salvage_spec.specs.Salvage.{Report, salvageOf}
 
 -- document 01's request 129, 30 bytes
 abbrev pub request : List ℕ
@@ -17,10 +17,6 @@ request = frameWith 9 1 1 0x0081
 abbrev pub altered : List ℕ
 altered = frameWith 8 1 1 0x0081
 
--- "4 keep alive", with no body
-abbrev pub keepAlive : List ℕ
-keepAlive = be 4 4 ++ be 4 0 ++ be 4 0
-
 abbrev pub runAt : ℕ → ℕ → Run
 runAt place long = record { place = place; long = long }
 
@@ -28,15 +24,11 @@ pub data Case : Type 0 where
   -- a buffer, the frames kept of it and the runs skipped
   walked : List ℕ → List (List ℕ) → List Run → Case
   -- a buffer, an output and one for runs, and what comes of them
-  comes : List ℕ → List ℕ → List ℕ → Salvage → Case
+  comes : List ℕ → List ℕ → List ℕ → Outcome (List ℕ × List ℕ) Report → Case
 
 abbrev pub Holds : Case → Type 0
 Holds (walked b frames runs) = (keptOf b ≡ frames) × (skippedOf b ≡ runs)
 Holds (comes b out runs right) = salvageOf b out runs ≡ right
-
-abbrev pub AllHeld : List Case → Type 0
-AllHeld [] = Unit {0}
-AllHeld (c ∷ cs) = Holds c × AllHeld cs
 
 abbrev pub cases : List Case
 cases =
@@ -61,24 +53,21 @@ cases =
     -- an output with room for all, with more, and with one too little of either
     ∷ comes (7 ∷ request) (replicate 30 9) (5 ∷ 5 ∷ []) (record {
       answer = given (record { kept = 1; long = 30; runs = 1 });
-      output = request;
-      listed = 0 ∷ 1 ∷ [];
+      output = (request, 0 ∷ 1 ∷ []);
     })
     ∷ comes (7 ∷ request) (replicate 31 9) (5 ∷ 5 ∷ 5 ∷ []) (record {
       answer = given (record { kept = 1; long = 30; runs = 1 });
-      output = request ++ (9 ∷ []);
-      listed = 0 ∷ 1 ∷ 5 ∷ [];
+      output = (request ++ (9 ∷ []), 0 ∷ 1 ∷ 5 ∷ []);
     })
     -- two frames kept and one run
     ∷ comes (request ++ (7 ∷ request)) (replicate 60 9) (5 ∷ 5 ∷ []) (record {
       answer = given (record { kept = 2; long = 60; runs = 1 });
-      output = request ++ request;
-      listed = 30 ∷ 1 ∷ [];
+      output = (request ++ request, 30 ∷ 1 ∷ []);
     })
-    ∷ comes (7 ∷ request) (replicate 29 9) (5 ∷ 5 ∷ []) (record { answer = refused 13; output = replicate 29 9; listed = 5 ∷ 5 ∷ [] })
-    ∷ comes (7 ∷ request) (replicate 30 9) (5 ∷ []) (record { answer = refused 13; output = replicate 30 9; listed = 5 ∷ [] })
-    ∷ comes [] [] [] (record { answer = given (record { kept = 0; long = 0; runs = 0 }); output = []; listed = [] })
+    ∷ comes (7 ∷ request) (replicate 29 9) (5 ∷ 5 ∷ []) (record { answer = refused 13; output = (replicate 29 9, 5 ∷ 5 ∷ []) })
+    ∷ comes (7 ∷ request) (replicate 30 9) (5 ∷ []) (record { answer = refused 13; output = (replicate 30 9, 5 ∷ []) })
+    ∷ comes [] [] [] (record { answer = given (record { kept = 0; long = 0; runs = 0 }); output = ([], []) })
     ∷ []
 
 abbrev pub Table : Type 0
-Table = AllHeld cases
+Table = Each Holds cases

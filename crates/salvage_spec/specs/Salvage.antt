@@ -1,11 +1,10 @@
--- What comes of a salvage: what is reported, and what then stands in the two lent outputs.
+-- What comes of a salvage: what is reported, and what then stands in the two lent outputs, of bytes and of runs.
 use Prim.Native.Nat.{ℕ}
-use mathlib.Core.List.{List, [], _∷_, flatten}
-use lib.Dec.{ltb}
+use mathlib.Core.List.{List, [], _∷_, map, flatten}
 use lib.ListN.{length}
-use Rattle.wire.specs.Checks.{Check, check, decide}
-use Rattle.wire.specs.Answers.{Answer, refused, given}
-use Rattle.wire.specs.Writing.{filled}
+use Rattle.wire.specs.Checks.{Check}
+use Rattle.wire.specs.Answers.{Outcome, outcome}
+use Rattle.wire.specs.Writing.{filled, roomCheck}
 use Rattle.salvage_spec.specs.Walk.{Run, keptOf, skippedOf}
 
 -- "the number of frames kept", the bytes written, the number of runs
@@ -14,38 +13,26 @@ pub record Report : Type 0 where
   pub long : ℕ
   pub runs : ℕ
 
--- an answer, and what then stands in the output of bytes and in that of runs
-pub record Salvage : Type 0 where
-  pub answer : Answer Report
-  pub output : List ℕ
-  pub listed : List ℕ
-
 -- two numbers a run: "place and length"
+abbrev pub twoOf : Run → List ℕ
+twoOf r = r .place ∷ r .long ∷ []
+
 unfoldable pub numbers : List Run → List ℕ
-numbers [] = []
-numbers (r ∷ rs) = r .place ∷ r .long ∷ numbers rs
+numbers skipped = flatten (map twoOf skipped)
 
 -- "Should either output be too small, 13"
 abbrev pub roomChecks : List ℕ → List ℕ → List ℕ → List ℕ → List Check
-roomChecks clean list out runs = check 13 (ltb (length out) (length clean)) ∷ check 13 (ltb (length runs) (length list)) ∷ []
-
--- "and nothing written"
-abbrev pub untouched : List ℕ → List ℕ → ℕ → Salvage
-untouched out runs number = record { answer = refused number; output = out; listed = runs }
+roomChecks clean list out runs = roomCheck (length out) clean ∷ roomCheck (length runs) list ∷ []
 
 abbrev pub report : List (List ℕ) → List Run → Report
 report frames skipped = record { kept = length frames; long = length (flatten frames); runs = length skipped }
 
--- what comes of frames kept and runs skipped: "The output is exactly the kept frames in order"
-abbrev pub salvaged : List (List ℕ) → List Run → List ℕ → List ℕ → Salvage
+-- what comes of frames kept and runs skipped: "The output is exactly the kept frames in order"; on a refusal "nothing written"
+abbrev pub salvaged : List (List ℕ) → List Run → List ℕ → List ℕ → Outcome (List ℕ × List ℕ) Report
 salvaged frames skipped out runs =
-    decide (roomChecks (flatten frames) (numbers skipped) out runs) (untouched out runs)
-    (record {
-      answer = given (report frames skipped);
-      output = filled (flatten frames) out;
-      listed = filled (numbers skipped) runs;
-    })
+    outcome (roomChecks (flatten frames) (numbers skipped) out runs) (out, runs) (report frames skipped)
+    (filled (flatten frames) out, filled (numbers skipped) runs)
 
 -- what comes of a buffer, an output of bytes and one of runs
-unfoldable pub salvageOf : List ℕ → List ℕ → List ℕ → Salvage
+unfoldable pub salvageOf : List ℕ → List ℕ → List ℕ → Outcome (List ℕ × List ℕ) Report
 salvageOf b out runs = salvaged (keptOf b) (skippedOf b) out runs

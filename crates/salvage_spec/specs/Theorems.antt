@@ -4,23 +4,19 @@ use mathlib.Core.Path.{_≡_}
 use mathlib.Core.Bool.{true}
 use mathlib.Core.List.{List, [], _∷_, _++_, flatten, List·Memᴰ}
 use lib.ListN.{length, drop}
-use Rattle.wire.specs.Answers.{given}
+use Rattle.wire.specs.Properties.{One}
+use Rattle.wire.specs.Answers.{given, refusal}
 use Rattle.wire.specs.Writing.{filled}
 use Rattle.frame.specs.Session.{headSize, sessionLimit}
 use Rattle.header.specs.Header.{headerSize}
 use Rattle.set_spec.specs.Whole.{Passes}
 use Rattle.salvage_spec.specs.Walk.{stands, Run, keptOf, skippedOf, nextKept}
-use Rattle.salvage_spec.specs.Salvage.{report, numbers, untouched, salvaged, salvageOf}
+use Rattle.salvage_spec.specs.Salvage.{report, numbers, salvaged, salvageOf}
 use Rattle.salvage_spec.specs.Account.{Piece, Account, keptIn, runsIn}
 
 -- every recording has exactly one account
-pub record OneAccount (b : List ℕ) : Type 0 where
-  pub the : List Piece
-  pub meets : Account b the
-  pub only : (pieces : List Piece) → Account b pieces → pieces ≡ the
-
 abbrev pub AccountedOnce : Type 0
-AccountedOnce = (b : List ℕ) → OneAccount b
+AccountedOnce = (b : List ℕ) → One (Account b)
 
 -- and what comes of it is told by that account
 abbrev pub ByAccount : Type 0
@@ -41,15 +37,11 @@ Again =
 
 -- with room for both there is no refusal, and with too little of either 13
 pub record InTurn (frames : List (List ℕ)) (skipped : List Run) (out runs : List ℕ) : Type 0 where
-  pub littleOutput : length out < length (flatten frames) → salvaged frames skipped out runs ≡ untouched out runs 13
-  pub fewRuns : length runs < 2 * length skipped → salvaged frames skipped out runs ≡ untouched out runs 13
+  pub littleOutput : length out < length (flatten frames) → salvaged frames skipped out runs ≡ refusal (out, runs) 13
+  pub fewRuns : length runs < 2 * length skipped → salvaged frames skipped out runs ≡ refusal (out, runs) 13
   pub enough : length (flatten frames) ≤ length out → 2 * length skipped ≤ length runs
       → salvaged frames skipped out runs
-      ≡ record {
-        answer = given (report frames skipped);
-        output = filled (flatten frames) out;
-        listed = filled (numbers skipped) runs;
-      }
+      ≡ record { answer = given (report frames skipped); output = (filled (flatten frames) out, filled (numbers skipped) runs) }
 
 abbrev pub RefusedInOrder : Type 0
 RefusedInOrder = (frames : List (List ℕ)) (skipped : List Run) (out runs : List ℕ) → InTurn frames skipped out runs

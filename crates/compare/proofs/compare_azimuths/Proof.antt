@@ -4,8 +4,8 @@ use denote.Ref.{now}
 use native.Mathlib.Omega.{arith}
 use mathlib.Core.Path.{_≡_, refl, sym, ap, _∙_, subst}
 use lib.ListN.{length}
+use Rattle.wire.specs.Sheets.{sheet}
 use Rattle.map_spec.proofs.CheckFacts.{map-facts}
-use Rattle.compare.specs.Steps.{sheet}
 use Rattle.compare.proofs.AzimuthWalk.{Reached, reached-start, reached-more, reached-next, reached-past, going-old, going-new, inside-old, inside-new, going-few, going-done, checked-part, size-part, length-part, run-part, parts-same, parts-listed}
 use Rattle.compare.proofs.compare_azimuths.Statement.{statement}
 use Rattle.compare.proofs.compare_azimuths.Tie as tie
@@ -248,7 +248,7 @@ loop-again c =
       omega (arith, f, m),
       z .kept .1 .1 .1 .1 .0 ∙ l .inv .5,
       reached-next (now (a .old)) (now (a .new)) (a .elevations) (s .pre .0) (s .pre .1) (now (a .out)) k (l .out) i j (l .count) (t .3) near (z .last .1 .1 .1 .1 .0) (z .result) (i + c .before .before .size-of .result) (j + c .size-of2 .result)
-          (z .ensures ∙ parts-listed (1 + k / 360) (k % 360) (now (a .old)) (now (a .new)) i j (sheet (l .count) (l .out))) (ap (λ (n : ℕ). i + n) e) (ap (λ (n : ℕ). j + n) f),
+          (z .ensures ∙ parts-listed (1 + k / 360) (k % 360) (now (a .old)) (now (a .new)) i j (sheet (6 * l .count) (l .out))) (ap (λ (n : ℕ). i + n) e) (ap (λ (n : ℕ). j + n) f),
     )
 
 loop-less-2 : tie.Need-loop-less-2 Inv-loop μ-loop

@@ -6,11 +6,12 @@ use mathlib.Core.List.{List}
 use lib.ListN.{length}
 use borrow.Author.Tests.{leb-true, leb-false, not-true, not-false}
 use Rattle.wire.specs.Writing.{filled}
+use Rattle.wire.specs.Sheets.{sheet}
 use Rattle.wire.proofs.AnswerLaws.{kept}
 use Rattle.compare_spec.specs.Comparing.{mostHalfwords, comparisonOf}
 use Rattle.compare.specs.declared.CompareAnswer.the-variants.{Compared, Refused}
 use Rattle.compare.specs.Told.{tellCompare}
-use Rattle.compare.specs.Steps.{sheet, onto, elevationsDifferences, listOf, Checked}
+use Rattle.compare.specs.Steps.{listing, elevationsDifferences, listOf, Checked}
 use Rattle.compare.proofs.EntryLaws.{present-is, has-old, has-new, counted, listed, room-most, room-refused, all-given}
 use borrow.Author.Needs.{needs}
 use Rattle.compare.proofs.compare_checked.Statement.{statement}
@@ -91,7 +92,7 @@ returns-2 c =
     let h = c .before .before .before .before .before .before .before .has-room in
     let k = checked (c .before .before .before .before) in
     let out = now (a .out) in
-    let walked = w .ensures ∙ ap (λ (l : List ℕ). onto (elevationsDifferences (c .before .before .before .before .before .before .before .before .before .least .result) (now (a .old)) (now (a .new))) (sheet 0 l)) (h .ensures .1) in
+    let walked = w .ensures ∙ ap (λ (l : List ℕ). listing (elevationsDifferences (c .before .before .before .before .before .before .before .before .before .least .result) (now (a .old)) (now (a .new))) (sheet 0 l)) (h .ensures .1) in
     let n = counted _ (now (a .old)) (now (a .new)) k (w .result) out (w .last .1 .1 .1 .0) walked in
     let r = leb-true (length (listOf (now (a .old)) (now (a .new)))) (length out) (sym (h .ensures .0) ∙ not-false _ (c .before .before .before .before .if1 .left)) in
     kept tellCompare (comparisonOf (now (a .old)) (now (a .new)) out) (Compared (a .older) (a .newer) (w .result)) _ (filled (listOf (now (a .old)) (now (a .new))) out)

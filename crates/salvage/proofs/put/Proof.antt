@@ -3,7 +3,8 @@ use Prim.Native.Nat.{_+_, _-_}
 use denote.Ref.{now}
 use lib.ListN.{length}
 use native.Mathlib.Omega.{arith}
-use mathlib.Core.Path.{refl}
+use mathlib.Core.Path.{sym}
+use Rattle.wire.proofs.SheetLaws.{lay-none}
 use Rattle.salvage.proofs.LayLaws.{put-laid}
 use Rattle.salvage.proofs.put.Statement.{statement}
 use Rattle.salvage.proofs.put.Tie as tie
@@ -12,7 +13,7 @@ add-end : tie.Need-add-end
 add-end c = search needs
 
 returns : tie.Need-returns
-returns c = (refl, λ room. absurd (omega (arith, c .if1 .taken)))
+returns c = let a = c .before .before .before .args in sym (lay-none (now (a .bytes)) (a .long) (now (a .out)) (c .if1 .taken))
 
 sub-copy : tie.Need-sub-copy
 sub-copy c = search needs
@@ -32,7 +33,7 @@ same-length c = search needs
 returns-2 : tie.Need-returns-2
 returns-2 c =
     let a = c .before .before .before .before .before .before .before .args in
-    (refl, λ room. put-laid (now (a .out)) (now (a .bytes)) (a .long) (a .long + length (now (a .bytes)) - a .long) _ (omega arith) room (c .before .before .copy .ensures))
+    put-laid (now (a .out)) (now (a .bytes)) (a .long) (a .long + length (now (a .bytes)) - a .long) _ (omega arith) (search needs) (c .before .before .copy .ensures)
 
 pub put-spec : {M : Type 1} → statement M
 put-spec =

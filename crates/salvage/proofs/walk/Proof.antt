@@ -40,7 +40,7 @@ part-put-start : tie.Need-part-put-start Inv-loop μ-loop
 part-put-start c = search (needs, c .follow .ensures .frames .forward, c .follow .ensures .frames .within)
 
 part-put-end : tie.Need-part-put-end Inv-loop μ-loop
-part-put-end c = search (needs, c .follow .ensures .frames .forward, c .follow .ensures .frames .within)
+part-put-end c = search (needs, c .follow .ensures .frames .within)
 
 put-requires : tie.Need-put-requires Inv-loop μ-loop
 put-requires c κs =
@@ -69,7 +69,7 @@ loop-again c =
     let r = c .before .before .before .before .before .before .before .before .before .list in
     let p = c .before .before .before .put in
     going-on (now (a .buf)) (now (a .out)) (now (a .runs)) (l .at) (l .kept) (l .long) (l .count) (l .out) (l .runs) (l .inv) (c .before .before .before .before .before .before .before .before .before .before .before .before .loop-test .taken) (f .next-kept .result) (found f) _ _
-    (r .ensures) (r .kept .0) (s .result) (s .ensures) _ refl _ _ (p .ensures .0) (p .ensures .1) (p .kept .1 .0)
+    (r .ensures) (r .kept .0) (s .result) (s .ensures) _ refl _ _ (p .ensures) (p .kept .1 .0)
 
 same-length : tie.Need-same-length Inv-loop μ-loop
 same-length c = c .before .loop .inv .outLong
