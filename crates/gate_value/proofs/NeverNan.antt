@@ -88,7 +88,7 @@ unfolding valueOf
 never-nan code scale offset v e =
     let p = rule-given (valueChecks scale offset) (worthOf code scale offset) (worth v) e in
     let h = all-hold (valueChecks scale offset) (p .0) in
-    let w : scaled code scale offset ≡ v = worth-is (eqb code 0) (eqb code 1) (scaled code scale offset) v (p .1) in
+    let w : scaled code (float scale) (float offset) ≡ v = worth-is (eqb code 0) (eqb code 1) (scaled code (float scale) (float offset)) v (p .1) in
     rw (← w)
     (above-not-zero (sub binary32 (ofInt binary32 (pos code)) (float offset)) (float scale)
     (sub-no-nan (ofInt binary32 (pos code)) (float offset) (int-no-nan code) (not-false (finite (float offset)) (h .1 .1 .0)))

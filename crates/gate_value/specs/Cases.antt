@@ -1,9 +1,10 @@
--- Case 12 of document 01, and the end values of Table XVII-I, codes 2 and 255.
+-- The end values of Table XVII-I, codes 2 and 255. The starred case stands in `demands`.
 use Prim.Native.Nat.{ℕ}
 use mathlib.Core.Path.{_≡_}
 use mathlib.Core.List.{List, [], _∷_}
+use Rattle.wire.specs.Properties.{Each}
 use Rattle.wire.specs.Answers.{given}
-use Rattle.gate_value.specs.Value.{float, Worth, belowThreshold, worth, valueOf}
+use Rattle.gate_value.specs.Value.{float, Worth, worth, valueOf}
 
 pub record Case : Type 0 where
   pub code : ℕ
@@ -14,9 +15,8 @@ pub record Case : Type 0 where
 abbrev pub case : ℕ → ℕ → ℕ → Worth → Case
 case c s o w = record { code = c; scale = s; offset = o; right = w }
 
-abbrev pub AllWorth : List Case → Type 0
-AllWorth [] = Unit {0}
-AllWorth (c ∷ cs) = (valueOf (c .code) (c .scale) (c .offset) ≡ given (c .right)) × AllWorth cs
+abbrev pub Worthy : Case → Type 0
+Worthy c = valueOf (c .code) (c .scale) (c .offset) ≡ given (c .right)
 
 -- floats by their 32 bits: scales 1, 2 and 16, offsets 66, 128 and 129
 abbrev pub one : ℕ
@@ -37,14 +37,6 @@ oneTwentyEight = 0x43000000
 abbrev pub oneTwentyNine : ℕ
 oneTwentyNine = 0x43010000
 
--- "12. Scale 2, offset 66: code 66 is +0, code 255 is 94.5, code 0 is below threshold."
-abbrev pub starredCases : List Case
-starredCases =
-    case 66 two sixtySix (worth (float 0x00000000))
-    ∷ case 255 two sixtySix (worth (float 0x42BD0000))
-    ∷ case 0 two sixtySix belowThreshold
-    ∷ []
-
 abbrev pub tableCases : List Case
 tableCases =
     -- REF: -32.0 and 94.5
@@ -60,3 +52,6 @@ tableCases =
     ∷ case 2 sixteen oneTwentyEight (worth (float 0xC0FC0000))
     ∷ case 255 sixteen oneTwentyEight (worth (float 0x40FE0000))
     ∷ []
+
+abbrev pub Table : Type 0
+Table = Each Worthy tableCases

@@ -8,9 +8,9 @@ use lib.ListN.{getD}
 use lib.Ieee.{Float, binary32, sub, div, lt, ofInt, ofBits}
 use lib.Ieee.Scale.{finite}
 use Rattle.wire.specs.Checks.{pick, Check, check}
-use Rattle.wire.specs.Answers.{Answer, refused, rule}
+use Rattle.wire.specs.Answers.{Answer, refused, rule, onward}
 use Rattle.radial_spec.specs.Description.{Moment, gates}
-use Rattle.radial_spec.specs.Lookups.{onward, momentOf}
+use Rattle.radial_spec.specs.Lookups.{momentOf}
 
 -- the float of 32 bits
 abbrev pub float : ℕ → Float
@@ -33,12 +33,16 @@ pub data Worth : Type 0 where
   worth : Float → Worth
 
 -- "Any other code N, turned to a 32-bit float, gives (N − offset) / scale, one rounded subtraction and one rounded division."
-abbrev pub scaled : ℕ → ℕ → ℕ → Float
-scaled code scale offset = div binary32 (sub binary32 (ofInt binary32 (pos code)) (float offset)) (float scale)
+abbrev pub scaled : ℕ → Float → Float → Float
+scaled code scale offset = div binary32 (sub binary32 (ofInt binary32 (pos code)) offset) scale
 
 -- "Code 0 is "below threshold", code 1 "range folded"."
+abbrev pub worthBy : ℕ → Float → Float → Worth
+worthBy code scale offset = pick (eqb code 0) belowThreshold (pick (eqb code 1) rangeFolded (worth (scaled code scale offset)))
+
+-- the same by the 32 bits of scale and offset
 abbrev pub worthOf : ℕ → ℕ → ℕ → Worth
-worthOf code scale offset = pick (eqb code 0) belowThreshold (pick (eqb code 1) rangeFolded (worth (scaled code scale offset)))
+worthOf code scale offset = worthBy code (float scale) (float offset)
 
 -- a code by itself, with the 32 bits of a scale and of an offset: "22, then the codes"
 unfoldable pub valueOf : ℕ → ℕ → ℕ → Answer Worth

@@ -3,7 +3,8 @@ ghost use mathlib.Core.Path.{_≡_};
 ghost use mathlib.Core.Bool.{false};
 ghost use Rattle.wire.specs.Numbers.{num};
 ghost use Rattle.wire.specs.Checks.{someBroken};
-ghost use Rattle.gate_value.specs.Value.{float, notFinite, valueChecks, valueOf, gateOf};
+ghost use Rattle.wire.specs.Answers.{given};
+ghost use Rattle.gate_value.specs.Value.{float, notFinite, valueChecks, worthBy, valueOf, gateOf};
 ghost use Rattle.gate_value.specs.Told.{tellGate};
 use radial::CodeAnswer;
 use radial::Name;
@@ -46,6 +47,19 @@ fn breaks_value(scale: u32, offset: u32) -> bool
     not_finite(offset)
 }
 
+// What a code is worth, with a scale and an offset that are not refused.
+fn worth(code: u16, scale: f32, offset: f32) -> GateAnswer
+    ensures { λ r. ⌜ tellGate r ≡ given (worthBy code scale offset) ⌝ }
+{
+    if code == 0 {
+        return GateAnswer::BelowThreshold;
+    }
+    if code == 1 {
+        return GateAnswer::RangeFolded;
+    }
+    GateAnswer::Value((code as f32 - offset) / scale)
+}
+
 // What a code is worth, with the 32 bits of a moment's scale and offset: for a renderer that walks the lent gates itself.
 pub fn value(code: u16, scale: u32, offset: u32) -> GateAnswer
     ensures { λ r. ⌜ tellGate r ≡ valueOf code scale offset ⌝ }
@@ -53,21 +67,21 @@ pub fn value(code: u16, scale: u32, offset: u32) -> GateAnswer
     if breaks_value(scale, offset) {
         return GateAnswer::Refused(refusal::SCALE_OR_OFFSET);
     }
-    if code == 0 {
-        return GateAnswer::BelowThreshold;
-    }
-    if code == 1 {
-        return GateAnswer::RangeFolded;
-    }
-    GateAnswer::Value((code as f32 - finite_of(offset)) / finite_of(scale))
+    worth(code, finite_of(scale), finite_of(offset))
 }
 
-// The value of a gate, counted from 0, of the moment with a name.
+// The value of a gate, counted from 0, of the moment with a name: by the two floats that its head carries.
 pub fn gate_value(body: &[u8], name: Name, gate: usize) -> GateAnswer
     ensures { λ r. ⌜ tellGate r ≡ gateOf (now (body .entry)) (num 4 name 0) gate ⌝ }
 {
     match radial::code(body, name, gate) {
         CodeAnswer::Refused(number) => GateAnswer::Refused(number),
-        CodeAnswer::Code(found) => value(found.code, found.scale, found.offset),
+        CodeAnswer::Code(found) => {
+            let head = found.head;
+            if breaks_value(head.scale_bits, head.offset_bits) {
+                return GateAnswer::Refused(refusal::SCALE_OR_OFFSET);
+            }
+            worth(found.code, head.scale, head.offset)
+        }
     }
 }

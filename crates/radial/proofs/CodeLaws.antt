@@ -2,23 +2,23 @@
 use Prim.Native.Nat.{ℕ, suc, _+_, _-_, _*_, _/_, _^_, _≤_, _<_}
 use native.Mathlib.Nat.{add-zero, suc-mul, mul-le-mul-right}
 use native.Mathlib.Omega.{arith}
-use mathlib.Core.Path.{_≡_, sym, ap, subst, _∙_}
+use mathlib.Core.Path.{_≡_, refl, sym, ap, subst, _∙_}
+use mathlib.Core.Bool.{Bool, true, false}
 use mathlib.Core.List.{List}
-use lib.ListN.{length, take, drop}
-use borrow.Author.Tests.{le-leb, lt-leb}
+use lib.Dec.{leb}
+use lib.ListN.{length, getD, take, drop}
+use borrow.Author.Tests.{le-leb, lt-leb, leb-false}
 use Rattle.wire.specs.Numbers.{num, fetched, Octets}
-use Rattle.wire.specs.Answers.{Answer, refused, given}
-use Rattle.wire.proofs.NumberLaws.{cut-is, num-drop, nums-length, nums-at}
-use Rattle.radial_spec.specs.Description.{mostGates, wordSizes, Member, Moment, gates, momentEnd}
-use Rattle.radial_spec.specs.Refusal.{momentAt}
-use Rattle.radial_spec.specs.Lookups.{onward, momentOf, codedIn, codedOf}
-use Rattle.radial_check.proofs.PartLaws.{there}
-use Rattle.radial.specs.Steps.{placeShown, MomentThere, WordThere, codeIn}
-use Rattle.radial.proofs.FindLaws.{lies-at, no-place}
-
--- a number that was fetched from the first 28 bytes of the block at p
-pub head-num : (w k : ℕ) (b : List ℕ) (p r : ℕ) → p + 28 ≤ length b → k + w ≤ 28 → r ≡ fetched w (there b p 28) k → r ≡ num w (drop p b) k
-head-num w k b p r h i e = cut-is w (p + 28 - p) b p k r (omega arith) (omega arith) e ∙ sym (num-drop w b p k)
+use Rattle.wire.specs.Checks.{pick}
+use Rattle.wire.specs.Answers.{Answer, refused, given, onward}
+use Rattle.wire.proofs.CheckLaws.{never}
+use Rattle.wire.proofs.NumberLaws.{cut-is, num-drop}
+use Rattle.radial_spec.specs.Description.{Moment, gates}
+use Rattle.radial_spec.specs.Lookups.{momentOf, codedIn, codedOf}
+use Rattle.radial_spec.proofs.Naming.{code-at, found-lies}
+use Rattle.radial.specs.declared.MomentHead.{MomentHead}
+use Rattle.radial.specs.Told.{headOf, headShown, codeShown}
+use Rattle.radial.specs.Steps.{WordThere, codeIn, GatesThere, codedBy}
 
 -- ---- the code of a gate, one fact over the word width
 -- a fetch of k bytes at the gate's word
@@ -30,50 +30,51 @@ fetched-code k b p w i n r e f h g =
     ∙ sym (num-drop k b p (28 + i * k))
     ∙ ap (λ (x : ℕ). num x (drop p b) (28 + i * x)) (sym e)
 
--- ---- a gate of the moment at a place
-module _ (b : List ℕ) (p i : ℕ) where
-  abbrev l : List ℕ
-  l = drop p b
+-- ---- a gate of the moment with this head
+module _ (b : List ℕ) (h : MomentHead) (i : ℕ) where
+  pub no-gate : h .gates ≤ i → refused 21 ≡ codedBy b h i
+  no-gate k = simp (le-leb (h .gates) i k)
 
-  -- its gates are as many as it says
-  counted : gates (momentAt p l) ≡ num 2 l 8
-  counted = nums-length (num 1 l 19 / 8) l 28 (num 2 l 8)
+  pub gate-coded : (x : ℕ) → i < h .gates → x ≡ codeIn b (h .place) (h .word) i → given (record { code = x; head = h }) ≡ codedBy b h i
+  gate-coded x k e = simp (lt-leb (h .gates) i k, e)
 
-  pub no-gate : num 2 l 8 ≤ i → refused 21 ≡ codedIn (momentAt p l) i
-  no-gate h = let g : gates (momentAt p l) ≤ i = rw counted h in simp (le-leb (gates (momentAt p l)) i g)
+  pub word-there : h .place < 2 ^ 32 → GatesThere b h → i < h .gates → WordThere b (h .place) (h .word) i
+  word-there l t k =
+      let w = h .word / 8 in
+      let r : suc i * w ≤ h .gates * w = mul-le-mul-right w k in
+      record { sized = t .sized; few = omega (arith, t .few, k); within = omega (arith, t .within, suc-mul i w); low = l }
 
-  pub word-there : MomentThere b p → i < num 2 l 8 → WordThere b p (num 1 l 19) i
-  word-there t h =
-      let w = num 1 l 19 / 8 in
-      let r : suc i * w ≤ num 2 l 8 * w = mul-le-mul-right w h in
-      record { sized = t .sized; few = omega (arith, t .few, h); within = omega (arith, t .within, suc-mul i w); low = t .low }
+-- ---- what a moment's head says
+pub gates-there : (b : List ℕ) (name : ℕ) (h : MomentHead) → Octets b → given h ≡ headShown (momentOf b name) → GatesThere b h
+gates-there b name h o e = go (momentOf b name) refl e
+  where
+    go : (a : Answer Moment) → momentOf b name ≡ a → given h ≡ headShown a → GatesThere b h
+    go (refused n) q f = never (cc f)
+    go (given m) q f =
+        let x : h ≡ headOf m = cc f in
+        let l = found-lies b name m o q in
+        subst (GatesThere b) (sym x) (record { sized = l .1; few = l .0; within = l .2 })
 
-  pub gate-coded : (x w scale offset : ℕ) → i < num 2 l 8 → x ≡ codeIn b p (num 1 l 19) i → w ≡ num 1 l 19 → scale ≡ num 4 l 20 → offset ≡ num 4 l 24
-      → given (record { code = x; word = w; scale = scale; offset = offset }) ≡ codedIn (momentAt p l) i
-  gate-coded x w scale offset h c v s o =
-      let g : i < gates (momentAt p l) = rw counted h in
-      let e = c ∙ sym (nums-at (num 1 l 19 / 8) l 28 (num 2 l 8) i h) in
-      (λ j. given (record { code = e j; word = v j; scale = s j; offset = o j })) ∙ sym (simp (lt-leb (gates (momentAt p l)) i g))
-
--- ---- what a moment's place says
-pub code-refused : (b : List ℕ) (name n i : ℕ) → refused n ≡ placeShown (momentOf b name) → refused n ≡ codedOf b name i
+pub code-refused : (b : List ℕ) (name n i : ℕ) → refused n ≡ headShown (momentOf b name) → refused n ≡ codeShown (codedOf b name i)
 unfolding codedOf
-code-refused b name n i e = sym (ap (λ (a : Answer Moment). onward a (λ m. codedIn m i)) (no-place (momentOf b name) n e))
+code-refused b name n i e = go (momentOf b name) e
+  where
+    go : (a : Answer Moment) → refused n ≡ headShown a → refused n ≡ codeShown (onward a (λ m. codedIn m i))
+    go (refused k) f = let q : n ≡ k = cc f in ap refused q
+    go (given m) f = never (cc f)
 
-pub moment-there : (b : List ℕ) (name p : ℕ) → Octets b → p < 2 ^ 32 → given p ≡ placeShown (momentOf b name) → MomentThere b p
-moment-there b name p o s e =
-    let x = lies-at b name p o e in
-    record {
-      sized = subst (λ (y : Moment). Member (y .word) wordSizes) (sym (x .reads)) (x .sized);
-      few = subst (λ (n : ℕ). n ≤ mostGates) (counted b p 0) (subst (λ (y : Moment). gates y ≤ mostGates) (sym (x .reads)) (x .few));
-      within =
-          subst (λ (n : ℕ). p + (28 + n * (num 1 (drop p b) 19 / 8)) ≤ length b) (counted b p 0)
-          (subst (λ (y : Moment). momentEnd y ≤ length b) (sym (x .reads)) (x .within));
-      low = s;
-    }
-
-pub code-given : (b : List ℕ) (name p i : ℕ) → Octets b → given p ≡ placeShown (momentOf b name) → codedIn (momentAt p (drop p b)) i ≡ codedOf b name i
+pub code-given : (b : List ℕ) (name i : ℕ) (h : MomentHead) → given h ≡ headShown (momentOf b name) → codedBy b h i ≡ codeShown (codedOf b name i)
 unfolding codedOf
-code-given b name p i o e =
-    let x = lies-at b name p o e in
-    ap (λ (m : Moment). codedIn m i) (x .reads) ∙ sym (ap (λ (a : Answer Moment). onward a (λ m. codedIn m i)) (x .was))
+code-given b name i h e = go (momentOf b name) refl e
+  where
+    by : (m : Moment) → momentOf b name ≡ given m → (t : Bool) → leb (gates m) i ≡ t
+        → pick t (refused 21) (given (record { code = codeIn b (m .place) (m .word) i; head = headOf m }))
+        ≡ codeShown (pick t (refused 21) (given (record { code = getD (m .codes) i 0; moment = m })))
+    by m q true k = refl
+    by m q false k = ap (λ (x : ℕ). given (record { code = x; head = headOf m })) (sym (code-at b name m i q (leb-false (gates m) i k)))
+
+    go : (a : Answer Moment) → momentOf b name ≡ a → given h ≡ headShown a → codedBy b h i ≡ codeShown (onward a (λ m. codedIn m i))
+    go (refused n) q f = never (cc f)
+    go (given m) q f =
+        let x : h ≡ headOf m = cc f in
+        ap (λ (y : MomentHead). codedBy b y i) x ∙ by m q (leb (gates m) i) refl

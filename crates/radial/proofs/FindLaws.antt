@@ -4,7 +4,7 @@ use native.Mathlib.Nat.{add-zero}
 use native.Mathlib.Omega.{arith}
 use mathlib.Core.Path.{_≡_, refl, sym, ap, subst, _∙_}
 use mathlib.Core.Bool.{Bool, true, false}
-use mathlib.Core.List.{List, [], _∷_}
+use mathlib.Core.List.{List}
 use lib.Dec.{eqb}
 use lib.ListN.{length, drop}
 use borrow.Author.Tests.{ne-eqb}
@@ -12,7 +12,7 @@ use Rattle.wire.specs.Numbers.{Octets}
 use Rattle.wire.specs.Checks.{pick}
 use Rattle.wire.specs.Answers.{Answer, refused, given, numberOf}
 use Rattle.wire.proofs.CheckLaws.{never}
-use Rattle.radial_spec.specs.Description.{constants, mostGates, wordSizes, Member, Moment, Description, gates, momentEnd}
+use Rattle.radial_spec.specs.Description.{constants, Moment, Description, momentEnd}
 use Rattle.radial_spec.specs.Refusal.{countIn, pointer, part, nameIn, momentAt, momentsAt, radialOf}
 use Rattle.radial_spec.specs.Lookups.{momentNamed, momentOf}
 use Rattle.radial_spec.proofs.Naming.{found-at, found-lies}
@@ -66,8 +66,6 @@ pub record Lies (b : List ℕ) (name p : ℕ) : Type 0 where
   pub moment : Moment
   pub was : momentOf b name ≡ given moment
   pub reads : momentAt p (drop p b) ≡ moment
-  pub few : gates moment ≤ mostGates
-  pub sized : Member (moment .word) wordSizes
   pub place : moment .place ≡ p
   pub within : momentEnd moment ≤ length b
 
@@ -78,34 +76,14 @@ lies-at b name p o e = go (momentOf b name) refl e
     go (refused n) q f = never (cc f)
     go (given m) q f =
         let at : p ≡ m .place = cc f in
-        let l = found-lies b name m o q in
         record {
           moment = m;
           was = q;
           reads = ap (λ (k : ℕ). momentAt k (drop k b)) at ∙ found-at b name m q;
-          few = l .0;
-          sized = l .1;
           place = sym at;
-          within = l .2;
+          within = found-lies b name m o q .2;
         }
 
 pub no-place : (a : Answer Moment) (n : ℕ) → refused n ≡ placeShown a → a ≡ refused n
 no-place (refused k) n e = let q : n ≡ k = cc e in ap refused (sym q)
 no-place (given m) n e = never (cc e)
-
--- no refusal of a moment has the number 0
-named-refused : (name n : ℕ) (ms : List Moment) → momentNamed name ms ≡ refused n → n ≡ 21
-named-refused name n [] e = cc e
-named-refused name n (m ∷ ms) e = go (eqb (m .name) name) e (λ q. named-refused name n ms q)
-  where
-    go : (t : Bool) → pick t (given m) (momentNamed name ms) ≡ refused n → (momentNamed name ms ≡ refused n → n ≡ 21) → n ≡ 21
-    go true q later = never (cc q)
-    go false q later = later q
-
-pub no-zero : (b : List ℕ) (name n : ℕ) → momentOf b name ≡ refused n → n ≡ 0 → ⊥
-unfolding momentOf
-no-zero b name n e z = go (radialOf b) refl
-  where
-    go : (a : Answer Description) → radialOf b ≡ a → ⊥
-    go (refused m) q = let p : refused m ≡ refused n = sym (rw q refl) ∙ e in let k : m ≡ n = cc p in let h = refused-from b m q in omega arith
-    go (given d) q = let k = named-refused name n (d .moments) (sym (rw q refl) ∙ e) in omega arith

@@ -2,16 +2,17 @@
 use Prim.Native.Nat.{ℕ, zero, suc, _+_, _-_, _*_, _/_, _^_, _≤_, _<_}
 use mathlib.Core.Option.{none, some}
 use mathlib.Core.List.{List}
-use lib.Dec.{eqb}
+use lib.Dec.{leb, eqb}
 use lib.Ieee.{binary32, ofBits}
 use lib.ListN.{length, drop}
 use Rattle.wire.specs.Numbers.{num}
 use Rattle.wire.specs.Checks.{pick}
 use Rattle.wire.specs.Answers.{Answer, refused, given}
-use Rattle.radial_spec.specs.Description.{constants, mostGates, wordSizes, momentHead, Member, Moment}
-use Rattle.radial_spec.specs.Refusal.{countIn, pointer, part, nameIn, blockSays, momentSays, momentAt}
+use Rattle.radial_spec.specs.Description.{constants, mostGates, wordSizes, momentHead, momentBytes, Member, Moment}
+use Rattle.radial_spec.specs.Refusal.{countIn, pointer, part, nameIn, blockSays, momentAt}
 use Rattle.radial.specs.declared.Span.{Span}
 use Rattle.radial.specs.declared.MomentHead.{MomentHead}
+use Rattle.radial.specs.declared.Coded.{Coded}
 use Rattle.radial.specs.declared.PlaceAnswer.{PlaceAnswer}
 use Rattle.radial.specs.declared.PlaceAnswer.the-variants.{At, Refused as NoPlace}
 use Rattle.radial.specs.Told.{Told, headOf}
@@ -65,13 +66,6 @@ abbrev pub placeAsked : ℕ → ℕ → Answer ℕ
 placeAsked number place = pick (eqb number 0) (pick (eqb place 0) (refused 21) (given place)) (refused number)
 
 -- ---- a gate's word
--- a moment that a radial was accepted with begins at this place
-pub record MomentThere (b : List ℕ) (place : ℕ) : Type 0 where
-  pub sized : Member (num 1 (drop place b) 19) wordSizes
-  pub few : num 2 (drop place b) 8 ≤ mostGates
-  pub within : place + momentSays (drop place b) ≤ length b
-  pub low : place < 2 ^ 32
-
 -- the word of a gate is in the body
 pub record WordThere (b : List ℕ) (place word gate : ℕ) : Type 0 where
   pub sized : Member word wordSizes
@@ -82,6 +76,16 @@ pub record WordThere (b : List ℕ) (place word gate : ℕ) : Type 0 where
 -- the number in it
 abbrev pub codeIn : List ℕ → ℕ → ℕ → ℕ → ℕ
 codeIn b place word gate = num (word / 8) (drop place b) (momentHead + gate * (word / 8))
+
+-- the gates of the moment with this head are in the body
+pub record GatesThere (b : List ℕ) (h : MomentHead) : Type 0 where
+  pub sized : Member (h .word) wordSizes
+  pub few : h .gates ≤ mostGates
+  pub within : h .place + momentBytes (h .gates) (h .word) ≤ length b
+
+-- a gate of it
+abbrev pub codedBy : List ℕ → MomentHead → ℕ → Answer Coded
+codedBy b h gate = pick (leb (h .gates) gate) (refused 21) (given (record { code = codeIn b (h .place) (h .word) gate; head = h }))
 
 -- ---- a block by what was read of it
 abbrev pub constantTold : ℕ → Span → Told

@@ -7,13 +7,14 @@ use lib.ListN.{length, replicate}
 use lib.Ieee.{binary32, ofBits}
 use Rattle.wire.specs.Answers.{Answer, refused, given}
 use Rattle.radial_spec.specs.Description.{mostMoments, Block, Moment, Description, gates, blockSize, blockCount}
-use Rattle.radial_spec.specs.Lookups.{Coded, Asked, noSuch, lies}
+use Rattle.radial_spec.specs.Lookups.{Coded as CodedOf, Asked, noSuch, lies}
 use Rattle.radial_heading.specs.Told.{headerOf, noHeader}
 use Rattle.radial.specs.declared.Span.{Span}
 use Rattle.radial.specs.declared.MomentHead.{MomentHead}
 use Rattle.radial.specs.declared.Radial.{Radial}
 use Rattle.radial.specs.declared.MomentAnswer.{MomentAnswer}
 use Rattle.radial.specs.declared.MomentAnswer.the-variants.{Moment as Found, Refused as NotFound}
+use Rattle.radial.specs.declared.Coded.{Coded}
 use Rattle.radial.specs.declared.CodeAnswer.{CodeAnswer}
 use Rattle.radial.specs.declared.CodeAnswer.the-variants.{Code, Refused as NoCode}
 use Rattle.radial.specs.declared.BlockAnswer.{BlockAnswer}
@@ -97,10 +98,14 @@ abbrev pub headShown : Answer Moment → Answer MomentHead
 headShown (refused n) = refused n
 headShown (given m) = given (headOf m)
 
--- ---- a gate's code with what it is read by, or the number of refusal
+-- ---- a gate's code with the head of its moment, or the number of refusal
 abbrev pub tellCoded : CodeAnswer → Answer Coded
-tellCoded (Code c) = given (record { code = c .code; word = c .word; scale = c .scale; offset = c .offset })
+tellCoded (Code c) = given c
 tellCoded (NoCode n) = refused n
+
+abbrev pub codeShown : Answer CodedOf → Answer Coded
+codeShown (refused n) = refused n
+codeShown (given c) = given (record { code = c .code; head = headOf (c .moment) })
 
 -- ---- a block: its name, place and length, and of a moment its head; or that there is no such block; or the number of refusal
 pub record Told : Type 0 where

@@ -2,14 +2,14 @@
 ghost use mathlib.Core.Path.{_≡_};
 ghost use Prim.Native.Nat.{_+_, _-_, _^_, _<_, _≤_};
 ghost use mathlib.Core.Option.{some};
-ghost use lib.ListN.{length, drop};
+ghost use lib.ListN.{length};
 ghost use Rattle.wire.specs.Numbers.{num, fetched};
 ghost use Rattle.wire.specs.Answers.{refused, given};
 ghost use Rattle.radial_spec.specs.Description.{constants, mostMoments, momentHead};
-ghost use Rattle.radial_spec.specs.Refusal.{countIn, pointer, momentAt, momentsAt, description, radialOf};
-ghost use Rattle.radial_spec.specs.Lookups.{momentOf, codedIn, codedOf, blockOf};
-ghost use Rattle.radial.specs.Told.{noHead, headsOf, shown, tellMoment, headShown, tellCoded, tellBlock, blockShown};
-ghost use Rattle.radial.specs.Steps.{spanAt, headIn, headAt, placeIn, tellPlace, placeShown, MomentThere, WordThere, codeIn, constantTold, momentTold};
+ghost use Rattle.radial_spec.specs.Refusal.{countIn, pointer, momentsAt, description, radialOf};
+ghost use Rattle.radial_spec.specs.Lookups.{momentOf, codedOf, blockOf};
+ghost use Rattle.radial.specs.Told.{noHead, headsOf, shown, tellMoment, headShown, tellCoded, codeShown, tellBlock, blockShown};
+ghost use Rattle.radial.specs.Steps.{spanAt, headIn, headAt, placeIn, tellPlace, placeShown, WordThere, codeIn, GatesThere, codedBy, constantTold, momentTold};
 use radial_check::CONSTANTS;
 use radial_check::MOMENT_HEAD;
 use radial_heading::Header;
@@ -70,12 +70,10 @@ pub enum MomentAnswer {
     Refused(u8),
 }
 
-// A gate's code, the bits of its word, and the bits of its moment's scale and offset.
+// A gate's code, and the head of its moment: scale and offset travel with it.
 pub struct Coded {
     pub code: u16,
-    pub word: u8,
-    pub scale: u32,
-    pub offset: u32,
+    pub head: MomentHead,
 }
 
 pub enum CodeAnswer {
@@ -299,33 +297,28 @@ fn code_in(body: &[u8], place: usize, word: u8, gate: usize) -> u16
     wire::fetch8(&body[at..end], 0) as u16
 }
 
-// A gate of the moment at `place`.
-fn coded_at(body: &[u8], place: usize, gate: usize) -> CodeAnswer
-    requires { ⌜ MomentThere (now body) place ⌝ }
-    ensures { λ r. ⌜ tellCoded r ≡ codedIn (momentAt place (drop place (now (body .entry)))) gate ⌝ }
+// A gate of the moment with this head.
+fn coded_by(body: &[u8], head: MomentHead, gate: usize) -> CodeAnswer
+    requires { ⌜ GatesThere (now body) head ⌝ }
+    ensures { λ r. ⌜ tellCoded r ≡ codedBy (now (body .entry)) head gate ⌝ }
 {
-    let end = place + MOMENT_HEAD;
-    let head = &body[place..end];
-    if wire::fetch16(head, 8) as usize <= gate {
+    if head.gates as usize <= gate {
         return CodeAnswer::Refused(refusal::ASKED_FOR);
     }
-    let word = wire::fetch8(head, 19);
     CodeAnswer::Code(Coded {
-        code: code_in(body, place, word, gate),
-        word: word,
-        scale: wire::fetch32(head, 20),
-        offset: wire::fetch32(head, 24),
+        code: code_in(body, head.place as usize, head.word, gate),
+        head: head,
     })
 }
 
-// A gate, counted from 0, of the moment with a name: its code, and how it is to be read.
+// A gate, counted from 0, of the moment with a name: its code, and the head that it is to be read by.
 pub fn code(body: &[u8], name: Name, gate: usize) -> CodeAnswer
-    ensures { λ r. ⌜ tellCoded r ≡ codedOf (now (body .entry)) (num 4 name 0) gate ⌝ }
+    ensures { λ r. ⌜ tellCoded r ≡ codeShown (codedOf (now (body .entry)) (num 4 name 0) gate) ⌝ }
 {
     let wanted = wire::fetch32(&name, 0);
     match place(body, wanted) {
         PlaceAnswer::Refused(number) => CodeAnswer::Refused(number),
-        PlaceAnswer::At(begin) => coded_at(body, begin as usize, gate),
+        PlaceAnswer::At(begin) => coded_by(body, head_at(body, begin), gate),
     }
 }
 

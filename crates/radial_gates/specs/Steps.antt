@@ -3,9 +3,9 @@ use Prim.Native.Nat.{ℕ, _+_, _≤_}
 use mathlib.Core.Path.{_≡_}
 use mathlib.Core.List.{List}
 use lib.ListN.{length}
-use Rattle.wire.specs.Answers.{Answer, given, numberOf}
+use Rattle.wire.specs.Answers.{Answer, given, numberOf, onward}
 use Rattle.radial_spec.specs.Description.{Moment}
-use Rattle.radial_spec.specs.Lookups.{onward, momentOf, gatesIn}
+use Rattle.radial_spec.specs.Lookups.{momentOf, gatesIn}
 use Rattle.radial_gates.specs.declared.Located.{Located}
 use Rattle.radial_gates.specs.Told.{countOf, partOf}
 

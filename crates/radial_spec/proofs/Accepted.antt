@@ -240,3 +240,13 @@ exactly b d o = (λ e. agreed b d o e, λ h. accepted b d (h .0) (h .1))
 
 pub unique : Unique
 unique b d d′ h h′ = let e : given d ≡ given d′ = sym (accepted b d (h .0) (h .1)) ∙ accepted b d′ (h′ .0) (h′ .1) in cc e
+
+-- the moments of an accepted radial lie one after the other, no name twice: of any body, bytes or not
+pub moments-accepted : (b : List ℕ) (d : Description) → radialOf b ≡ given d → MomentsLie (endAt b 40) (sizeIn b) [] (d .moments)
+unfolding radialOf
+moments-accepted b d e =
+    let g = rule-given (radialChecks b) (description b) d e in
+    let h = all-hold (radialChecks b) (g .0) .1 .1 .1 .1 .1 .1 in
+    subst
+    (λ (x : Description). MomentsLie (endAt b 40) (sizeIn b) [] (x .moments)) (g .1)
+    (moments-lie b (sizeIn b) (endAt b 40) 44 [] (countIn b - constants) (h .1 .1 .1 .1 .1 .1 .1 .1 .1 .1 .1 .1 .1 .1 .1))

@@ -10,18 +10,18 @@ use lib.ListN.{length, getD, drop}
 use Rattle.wire.specs.Numbers.{num, Octets}
 use Rattle.wire.specs.Checks.{pick}
 use Rattle.wire.specs.Tables.{field, render, Spells}
-use Rattle.wire.specs.Answers.{Answer, refused, given}
+use Rattle.wire.specs.Answers.{Answer, refused, given, onward}
 use Rattle.wire.proofs.CheckLaws.{never}
 use Rattle.wire.proofs.ListLaws.{same-bytes}
 use Rattle.wire.proofs.TableLaws.{render-length, spelt, nums-spell, total-run}
 use Rattle.wire.proofs.AnswerLaws.{rule-given}
 use Rattle.wire.proofs.NumberLaws.{nums-length, nums-at}
-use Rattle.radial_spec.specs.Description.{constants, RVOL, RELV, RRAD, momentHead, mostGates, wordSizes, Member, Piece, Moment, Description, gates}
+use Rattle.radial_spec.specs.Description.{headerSize, constants, RVOL, RELV, RRAD, momentHead, mostGates, wordSizes, Member, Piece, Moment, Description, blockCount, gates}
 use Rattle.radial_spec.specs.Description.{wordBytes, gateBytes, momentSize, momentPieces, pieces, InPieces, Named, AllStand, Layout, MomentsLie, blockEnd, momentEnd}
 use Rattle.radial_spec.specs.Refusal.{sizeIn, pointer, part, momentAt, momentsAt, countIn, description, radialChecks, radialOf}
-use Rattle.radial_spec.specs.Lookups.{onward, momentNamed, momentOf, momentLying, blockOf, gatesIn}
+use Rattle.radial_spec.specs.Lookups.{momentNamed, momentOf, codedOf, Lying, momentLying, blocks, noSuch, lies, blockOf, gatesIn}
 use Rattle.radial_spec.specs.Lookups.{gatesOf}
-use Rattle.radial_spec.specs.Theorems.{InBlocks, Listed, NamedExactly, Unnamed, CodeAt, GateWords}
+use Rattle.radial_spec.specs.Theorems.{InBlocks, Listed, NamedExactly, UnnamedPlaces, Unnamed, CodeAt, GateWords}
 use Rattle.radial_spec.proofs.Runs.{part-spelt-from}
 use Rattle.radial_spec.proofs.Accepted.{block-total, moment-total, places-total, accepted, agreed}
 
@@ -63,6 +63,57 @@ listed-named d i (inr (inr (inr (inr (inr h))))) = inr (inr (inr (inr (inr (inr 
 pub named-exactly : NamedExactly
 named-exactly d i = (λ h. named-listed d i h, λ h. listed-named d i h)
 
+-- ---- the bytes that are not
+-- the moments lie after what ends at `from`, within the radial length
+in-lying : (from z : ℕ) (seen : List ℕ) (ms : List Moment) (i : ℕ) → MomentsLie from z seen ms → InBlocks (map momentLying ms) i → (from ≤ i) × (i < z)
+in-lying from z seen [] i lie h = absurd h
+in-lying from z seen (m ∷ ms) i lie (inl h) = (omega (arith, lie .0 .after, h .0), omega (arith, lie .0 .within, h .1))
+in-lying from z seen (m ∷ ms) i lie (inr h) =
+    let r = in-lying (momentEnd m) z (seen ++ (m .name ∷ [])) ms i (lie .1) h in
+    (omega (arith, lie .0 .after, r .0), r .1)
+
+-- all blocks lie after the header
+in-layout : (n : ℕ) (d : Description) (i : ℕ) → Layout n d → InBlocks (blocks d) i → (headerSize ≤ i) × (i < d .size)
+in-layout n d i lay (inl h) = (omega (arith, lay .volume .after, h .0), omega (arith, lay .volume .within, h .1))
+in-layout n d i lay (inr (inl h)) =
+    (omega (arith, lay .volume .after, lay .elevation .after, h .0), omega (arith, lay .elevation .within, h .1))
+in-layout n d i lay (inr (inr (inl h))) =
+    (omega (arith, lay .volume .after, lay .elevation .after, lay .radial .after, h .0), omega (arith, lay .radial .within, h .1))
+in-layout n d i lay (inr (inr (inr h))) =
+    let r = in-lying (blockEnd (d .radialBlock)) (d .size) [] (d .moments) i (lay .momentsLie) h in
+    (omega (arith, lay .volume .after, lay .elevation .after, lay .radial .after, r .0), r .1)
+
+pub unnamed-places : UnnamedPlaces
+unnamed-places b d o e = record {
+  spare = λ h. spare (named-listed d 17 h);
+  slots = λ i lo hi h. slots i lo hi (named-listed d i h);
+  gaps = λ i lo out h. gaps i lo out (named-listed d i h);
+  past = λ i lo h. past i lo (named-listed d i h);
+}
+  where
+    lay : Layout (length b) d
+    lay = agreed b d o e .0
+
+    spare : Listed d 17 → ⊥
+    spare (inl h) = h .1 refl
+    spare (inr (inl h)) = omega (arith, h .0)
+    spare (inr (inr h)) = let r = in-layout (length b) d 17 lay h in omega (arith, r .0)
+
+    slots : (i : ℕ) → 32 + 4 * blockCount d ≤ i → i < headerSize → Listed d i → ⊥
+    slots i lo hi (inl h) = omega (arith, lo, h .0)
+    slots i lo hi (inr (inl h)) = omega (arith, lo, h .1)
+    slots i lo hi (inr (inr h)) = let r = in-layout (length b) d i lay h in omega (arith, hi, r .0)
+
+    gaps : (i : ℕ) → headerSize ≤ i → (InBlocks (blocks d) i → ⊥) → Listed d i → ⊥
+    gaps i lo out (inl h) = omega (arith, lo, h .0)
+    gaps i lo out (inr (inl h)) = omega (arith, lo, h .1, lay .few)
+    gaps i lo out (inr (inr h)) = out h
+
+    past : (i : ℕ) → d .size ≤ i → Listed d i → ⊥
+    past i lo (inl h) = omega (arith, lo, h .0, lay .least)
+    past i lo (inr (inl h)) = omega (arith, lo, h .1, lay .few, lay .least)
+    past i lo (inr (inr h)) = let r = in-layout (length b) d i lay h in omega (arith, lo, r .1)
+
 -- ---- bodies that are equal at every named byte
 stand-same : (b b′ : List ℕ) (xs : List Piece) → length b′ ≡ length b → ((i : ℕ) → InPieces xs i → getD b′ i 0 ≡ getD b i 0) → AllStand b xs
     → AllStand b′ xs
@@ -93,8 +144,19 @@ found-named name (x ∷ ms) m e i lo hi = go (eqb (x .name) name) e (λ k. found
     go true k later = let q : x ≡ m = cc k in inl (rw q (lo, omega (arith, moment-total m)))
     go false k later = inr (later k)
 
+-- a block that is found is one of the blocks
+found-block : (ks : List Lying) (k : ℕ) (l : Lying) → getD (map lies ks) k noSuch ≡ lies l → (i : ℕ) → l .place ≤ i → i < l .place + l .size → InBlocks ks i
+found-block [] k l e i lo hi = never (cc e)
+found-block (x ∷ ks) zero l e i lo hi = let q : x ≡ l = cc e in inl (rw q (lo, hi))
+found-block (x ∷ ks) (suc k) l e i lo hi = inr (found-block ks k l e i lo hi)
+
+block-listed : (d : Description) (k : ℕ) (l : Lying) → getD (noSuch ∷ map lies (blocks d)) k noSuch ≡ lies l → (i : ℕ) → l .place ≤ i → i < l .place + l .size
+    → Named d i
+block-listed d zero l e i lo hi = never (cc e)
+block-listed d (suc k) l e i lo hi = listed-named d i (inr (inr (found-block (blocks d) k l e i lo hi)))
+
 pub unnamed : Unnamed
-unfolding momentOf blockOf gatesOf
+unfolding momentOf blockOf gatesOf codedOf
 unnamed b b′ d o e given-d same =
     let h = agreed b d o given-d in
     let lay : Layout (length b′) d = rw e (h .0) in
@@ -114,6 +176,12 @@ unnamed b b′ d o e given-d same =
           rw (← q)
           (same-bytes b b′ (g .value .place + momentHead) (gateBytes (g .value)) e
           (λ i lo hi. same i (inr (inr (inr (inr (inr (inr (found-named name (d .moments) (g .value) (rw x at (r .gave)) i (omega arith) (omega arith))))))))));
+      code = λ name gate. rw again refl;
+      whole = λ k l h.
+          let r = onward-given (radialOf b) (λ x. given (getD (noSuch ∷ map lies (blocks x)) k noSuch)) (lies l) h in
+          let x : r .value ≡ d = cc (r .was, given-d) in
+          let q : getD (noSuch ∷ map lies (blocks d)) k noSuch ≡ lies l = cc (rw x at (r .gave)) in
+          same-bytes b b′ (l .place) (l .size) e (λ i lo hi. same i (block-listed d k l q i lo hi));
     }
 
 -- ---- a moment that is found was read at its place

@@ -2,6 +2,7 @@
 use Prim.Native.Nat.{ℕ, _+_, _≤_}
 use mathlib.Core.List.{List, [], _∷_}
 use lib.ListN.{length}
+use Rattle.wire.specs.Properties.{Each}
 use Rattle.wire.specs.Numbers.{Octets}
 use Rattle.wire.specs.Tables.{total, Spells}
 use Rattle.wire.proofs.TableLaws.{spells, spelt, spells-fit}
@@ -9,12 +10,10 @@ use Rattle.radial_spec.specs.Description.{Piece, AllStand, AllFit}
 
 -- every piece is spelt by the body; every piece ends within n bytes
 abbrev pub AllSpell : List ℕ → List Piece → Type 0
-AllSpell b [] = Unit {0}
-AllSpell b (x ∷ xs) = Spells b (x .place) (x .fields) × AllSpell b xs
+AllSpell b xs = Each (λ (x : Piece). Spells b (x .place) (x .fields)) xs
 
 abbrev pub AllWithin : ℕ → List Piece → Type 0
-AllWithin n [] = Unit {0}
-AllWithin n (x ∷ xs) = (x .place + total (x .fields) ≤ n) × AllWithin n xs
+AllWithin n xs = Each (λ (x : Piece). x .place + total (x .fields) ≤ n) xs
 
 pub all-spell : (b : List ℕ) (xs : List Piece) → AllFit xs → AllStand b xs → AllSpell b xs
 all-spell b [] fit stand = tt

@@ -1,9 +1,10 @@
--- The starred cases of document 01 on the radial, its limits on either side, and what the rule answers to them.
+-- The limits of the radial on either side, and what the rule answers to them. The starred cases stand in `demands`.
 use Prim.Native.Nat.{ℕ, _-_, _*_, _/_}
 use mathlib.Core.Path.{_≡_}
 use mathlib.Core.Option.{Option, none, some}
 use mathlib.Core.List.{List, [], _∷_, _++_}
 use lib.ListN.{length, replicate}
+use Rattle.wire.specs.Properties.{Each}
 use Rattle.wire.specs.Numbers.{be}
 use Rattle.wire.specs.Answers.{Answer, refused, given}
 use Rattle.radial_spec.specs.Description.{Description, RVOL, RELV, RRAD}
@@ -51,11 +52,10 @@ abbrev pub numberOf : Answer Description → Option ℕ
 numberOf (refused n) = some n
 numberOf (given d) = none
 
-abbrev pub AllAnswered : List Case → Type 0
-AllAnswered [] = Unit {0}
-AllAnswered (c ∷ cs) = (numberOf (radialOf (c .body)) ≡ c .number) × AllAnswered cs
+abbrev pub Answered : Case → Type 0
+Answered c = numberOf (radialOf (c .body)) ≡ c .number
 
--- ---- the starred cases
+-- three constant blocks and a moment with no gates, one after the other from 68 on
 abbrev pub places : List ℕ
 places = 68 ∷ 112 ∷ 124 ∷ 144 ∷ []
 
@@ -64,22 +64,6 @@ three = constantBlocks 44 12 20
 
 abbrev pub blocks : List ℕ
 blocks = three ++ moment REF 0 8
-
--- "9. Blocks at 68, 112, 124, 144 with lengths 44, 12, 20 and no gates: radial length 172 accepted, 171 is 18."
--- "10. The moment at 143: 18. At 145, length 173: accepted."
--- "11. REF twice: 19."
-abbrev pub starredCases : List Case
-starredCases =
-    case (header 172 places ++ blocks) none
-    ∷ case (header 171 places ++ blocks) (some 18)
-    ∷ case (header 172 (68 ∷ 112 ∷ 124 ∷ 143 ∷ []) ++ blocks) (some 18)
-    ∷ case (header 173 (68 ∷ 112 ∷ 124 ∷ 145 ∷ []) ++ (three ++ (0 ∷ moment REF 0 8))) none
-    ∷ case (header 200 (68 ∷ 112 ∷ 124 ∷ 144 ∷ 172 ∷ []) ++ (blocks ++ moment REF 0 8)) (some 19)
-    ∷ []
-
--- one statement over the list
-abbrev pub Starred : Type 0
-Starred = AllAnswered starredCases
 
 -- ---- each limit on either side
 -- a moment of each of these names, with no gates
@@ -137,4 +121,4 @@ sizeCases =
     ∷ []
 
 abbrev pub Limits : Type 0
-Limits = AllAnswered (headerCases ++ (countCases ++ (placeCases ++ sizeCases)))
+Limits = Each Answered (headerCases ++ (countCases ++ (placeCases ++ sizeCases)))

@@ -4,6 +4,7 @@ use mathlib.Core.Path.{_≡_}
 use mathlib.Core.Logic.{_⊎_, _≢_}
 use mathlib.Core.List.{List, [], _∷_, _++_, map}
 use lib.ListN.{length}
+use Rattle.wire.specs.Properties.{Each}
 use Rattle.wire.specs.Tables.{Field, field, render, total, Fit, Holds}
 
 -- ---- the limits, each once
@@ -227,8 +228,7 @@ Named d i = InPieces (pieces d) i
 
 -- ---- a description agrees with a body: every piece stands there, byte for byte
 abbrev pub AllStand : List ℕ → List Piece → Type 0
-AllStand b [] = Unit {0}
-AllStand b (x ∷ xs) = Holds b (x .place) (render (x .fields)) × AllStand b xs
+AllStand b xs = Each (λ (x : Piece). Holds b (x .place) (render (x .fields))) xs
 
 abbrev pub Agrees : List ℕ → Description → Type 0
 Agrees b d = AllStand b (pieces d)
@@ -236,8 +236,7 @@ Agrees b d = AllStand b (pieces d)
 -- ---- the layout of a radial
 -- every number is small enough for its field
 abbrev pub AllFit : List Piece → Type 0
-AllFit [] = Unit {0}
-AllFit (x ∷ xs) = Fit (x .fields) × AllFit xs
+AllFit xs = Each (λ (x : Piece). Fit (x .fields)) xs
 
 -- x is one of the numbers listed; x is none of them
 abbrev pub Member : ℕ → List ℕ → Type 0
@@ -245,8 +244,7 @@ Member x [] = ⊥
 Member x (y ∷ ys) = (x ≡ y) ⊎ Member x ys
 
 abbrev pub Absent : ℕ → List ℕ → Type 0
-Absent x [] = Unit {0}
-Absent x (y ∷ ys) = (x ≢ y) × Absent x ys
+Absent x ys = Each (λ (y : ℕ). x ≢ y) ys
 
 -- where a block ends, the byte after its last
 abbrev pub blockEnd : Block → ℕ

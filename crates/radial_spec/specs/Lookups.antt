@@ -5,14 +5,9 @@ use mathlib.Core.List.{List, [], _∷_, map}
 use lib.Dec.{leb, eqb}
 use lib.ListN.{getD, take, drop}
 use Rattle.wire.specs.Checks.{pick}
-use Rattle.wire.specs.Answers.{Answer, refused, given}
+use Rattle.wire.specs.Answers.{Answer, refused, given, onward}
 use Rattle.radial_spec.specs.Description.{RVOL, RELV, RRAD, momentHead, Block, Moment, Description, gates, gateBytes, blockSize, momentSize}
 use Rattle.radial_spec.specs.Refusal.{radialOf}
-
--- a refusal stays; of what was given, what f answers
-abbrev pub onward : {A B : Type 0} → Answer A → (A → Answer B) → Answer B
-onward (refused n) f = refused n
-onward (given v) f = f v
 
 -- ---- a moment by its name
 -- 21: the moment "asked for doesn't exist"
@@ -23,18 +18,14 @@ momentNamed name (m ∷ ms) = pick (eqb (m .name) name) (given m) (momentNamed n
 unfoldable pub momentOf : List ℕ → ℕ → Answer Moment
 momentOf b name = onward (radialOf b) (λ d. momentNamed name (d .moments))
 
--- ---- a gate of a moment, counted from 0: its code, how wide its word is, and the moment's scale and offset, which "travel with it"
+-- ---- a gate of a moment, counted from 0: its code and the moment, since "a moment's scale and offset travel with it"
 pub record Coded : Type 0 where
   pub code : ℕ
-  pub word : ℕ
-  pub scale : ℕ
-  pub offset : ℕ
+  pub moment : Moment
 
 -- 21: the gate "asked for doesn't exist"
 abbrev pub codedIn : Moment → ℕ → Answer Coded
-codedIn m gate =
-    pick (leb (gates m) gate) (refused 21)
-    (given (record { code = getD (m .codes) gate 0; word = m .word; scale = m .scale; offset = m .offset }))
+codedIn m gate = pick (leb (gates m) gate) (refused 21) (given (record { code = getD (m .codes) gate 0; moment = m }))
 
 unfoldable pub codedOf : List ℕ → ℕ → ℕ → Answer Coded
 codedOf b name gate = onward (momentOf b name) (λ m. codedIn m gate)

@@ -1,10 +1,7 @@
 use Rattle.gate_value.proofs.FloatLaws.{not-finite-bits}
 use mathlib.Core.Path.{sym}
-use borrow.Author.Needs.{needs}
 use Rattle.gate_value.proofs.not_finite.Statement.{statement}
 use Rattle.gate_value.proofs.not_finite.Tie as tie
-use Rattle.gate_value.proofs.not_finite.Reads as reads
-use Rattle.gate_value.proofs.not_finite.Lts as lts
 
 returns : tie.Need-returns
 returns c = sym (not-finite-bits (c .args .bits))

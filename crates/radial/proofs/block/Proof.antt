@@ -1,14 +1,15 @@
 use Prim.Native.Nat.{ℕ, _≤_}
 use native.Mathlib.Omega.{arith}
 use mathlib.Core.Path.{_≡_, ap, _∙_}
-use mathlib.Core.Option.{some}
+use mathlib.Core.Option.{Option, some}
 use mathlib.Core.List.{List}
 use denote.Ref.{now}
 use Rattle.wire.specs.Numbers.{fetched}
-use Rattle.wire.specs.Answers.{given}
+use Rattle.wire.specs.Answers.{Answer, given}
 use Rattle.radial_spec.specs.Description.{RVOL, RELV, RRAD}
 use Rattle.radial_spec.specs.Refusal.{countIn, description, radialOf}
 use Rattle.radial.specs.declared.MomentHead.{MomentHead}
+use Rattle.radial.specs.Told.{Told}
 use Rattle.radial.specs.Steps.{spanAt, constantTold, momentTold}
 use Rattle.radial_spec.proofs.Names.{RVOL-is, RELV-is, RRAD-is}
 use Rattle.radial_spec.proofs.Held.{Held, number-given}
@@ -35,7 +36,8 @@ counted-in : (c : tie.After-fetch32) → c .before .before .before .before .befo
 counted-in c = rw (← count-is (c .before .before .before .before .before .before)) (c .before .before .before .before .before .if2 .left)
 
 -- the constant block of a name
-told : (b name : List ℕ) (n q : ℕ) → fetched 4 name 0 ≡ n → given (some (constantTold (fetched 4 name 0) (spanAt b q))) ≡ given (some (constantTold n (spanAt b q)))
+told : (b name : List ℕ) (n q : ℕ) → fetched 4 name 0 ≡ n
+    → _≡_ {A = Answer (Option Told)} (given (some (constantTold (fetched 4 name 0) (spanAt b q)))) (given (some (constantTold n (spanAt b q))))
 told b name n q e = ap (λ (k : ℕ). given (some (constantTold k (spanAt b q)))) e
 
 check-radial-requires : tie.Need-check-radial-requires
