@@ -1,4 +1,4 @@
--- The reader and the writer of message 8 undo each other, and the struct tells the answer. Assumes nothing.
+-- What the reader of message 8 accepts is the table, the reader and the writer undo each other, and the struct tells the answer. Assumes nothing.
 use Prim.Native.Nat.{ℕ, suc, _+_, _*_, _-_, _≤_, _<_}
 use native.Mathlib.Omega.{arith}
 use mathlib.Core.Path.{_≡_, refl, sym, ap, _∙_}
@@ -21,7 +21,7 @@ use Rattle.wire.proofs.AnswerLaws.{rule-given}
 use Rattle.wire.proofs.WriteLaws.{accepted}
 use Rattle.censor.specs.Censor.{mostRegions, regionsChecks, count, fields, listOf, bodyChecks, bodyOf, listChecks, censorOf, censorWritten}
 use Rattle.censor.specs.Told.{places, shown, tellCensor}
-use Rattle.censor.specs.Theorems.{Halfwords, WrittenIsRead, ReadIsWritten, StructTells}
+use Rattle.censor.specs.Theorems.{Halfwords, BodyIsTable, WrittenIsRead, ReadIsWritten, StructTells}
 use Rattle.censor.proofs.Halfwords.{body-length}
 use Rattle.censor.proofs.StepLaws.{ways, read-ways, read-fields, list-fine}
 
@@ -60,6 +60,13 @@ read-says body list e =
       fine = hold-none (regionsChecks (num 2 body 0) (nums 2 body 2 (6 * num 2 body 0))) (h .1 .1 .1);
       same = p .1;
     }
+
+pub body-is-table : BodyIsTable
+body-is-table body list o e =
+    let n = num 2 body 0 in
+    let r = read-says body list e in
+    let z : length body ≡ 2 * suc (6 * n) = omega (arith, r .long) in
+    sym (numbers-body body (suc (6 * n)) o z) ∙ ap (λ (l : List ℕ). bodyOf l) (r .same)
 
 -- ---- what an accepted list says
 record Wrote (list out : List ℕ) (size : Bytes) : Type 0 where
@@ -103,11 +110,10 @@ read-is-written body out list o e room =
     let n = num 2 body 0 in
     let r = read-says body list e in
     let m : length (listOf body) ≡ 1 + 6 * n = omega (arith, nums-length 2 body 2 (6 * n)) in
-    let z : length body ≡ 2 * suc (6 * n) = omega (arith, r .long) in
-    let b : bodyOf (listOf body) ≡ body = numbers-body body (suc (6 * n)) o z in
     ap (λ (l : List ℕ). censorWritten l out) (sym (r .same))
     ∙ list-fine (listOf body) out (r .few) m (r .fine) (omega (arith, r .long))
-    ∙ ap (λ (x : List ℕ). wrote x out) b
+    ∙ ap (λ (l : List ℕ). wrote (bodyOf l) out) (r .same)
+    ∙ ap (λ (x : List ℕ). wrote x out) (sym (body-is-table body list o e))
 
 -- ---- the struct
 ways-told : (n : ℕ) (l : List ℕ) → length l ≡ 6 * n → (a h m b : Bool)

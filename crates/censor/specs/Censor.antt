@@ -89,5 +89,5 @@ abbrev pub listChecks : List ℕ → List Check
 listChecks list = censorChecks (ltb (length list) 1) (not (eqb (length list) (1 + 6 * count list))) list
 
 -- "Body writers: the reader's checks, then 13."
-unfoldable pub censorWritten : List ℕ → List ℕ → Outcome Bytes
+unfoldable pub censorWritten : List ℕ → List ℕ → Outcome (List ℕ) Bytes
 censorWritten list out = written (listChecks list) (bodyOf list) out

@@ -1,4 +1,5 @@
--- What holds of every body and list of message 8: the reader and the writer undo each other, and the struct that is handed back tells the answer.
+-- What holds of every body and list of message 8: what is read is what the table says, the reader and the writer undo each other, and the struct that is
+-- handed back tells the answer.
 use Prim.Native.Nat.{ℕ, _≤_, _<_}
 use mathlib.Core.Path.{_≡_}
 use mathlib.Core.List.{List}
@@ -7,12 +8,16 @@ use Rattle.wire.specs.Numbers.{Octets}
 use Rattle.wire.specs.Answers.{given}
 use Rattle.wire.specs.Writing.{wrote}
 use Rattle.wire.specs.declared.Bytes.{Bytes}
-use Rattle.censor.specs.Censor.{censorOf, censorWritten}
+use Rattle.censor.specs.Censor.{bodyOf, censorOf, censorWritten}
 use Rattle.censor.specs.Told.{shown, tellCensor}
 
 -- every number of the list is a halfword
 abbrev pub Halfwords : List ℕ → Type 0
 Halfwords list = (i : ℕ) → getD list i 0 < 65536
+
+-- "What is read is what the interface document defines": an accepted body is the table of the numbers that are reported, the count first
+abbrev pub BodyIsTable : Type 0
+BodyIsTable = (body list : List ℕ) → Octets body → censorOf body ≡ given list → body ≡ bodyOf list
 
 -- what the writer writes, the reader accepts with the same numbers
 abbrev pub WrittenIsRead : Type 0

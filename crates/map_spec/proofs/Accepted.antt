@@ -5,13 +5,14 @@ use mathlib.Core.Path.{_≡_, refl, sym, ap, _∙_}
 use mathlib.Core.List.{List, _++_, append-nil}
 use lib.ListN.{length, drop, length-drop, drop-of-length-le}
 use lib.Seq.{drop-drop}
+use Rattle.wire.specs.Properties.{Each}
 use Rattle.wire.specs.Numbers.{num, be, Octets}
 use Rattle.wire.specs.Checks.{AllHold}
 use Rattle.wire.specs.Tables.{render}
-use Rattle.wire.proofs.NumberLaws.{num-fits}
-use Rattle.map_spec.specs.Map.{azimuths, lastKilometre, Zone, fieldsOf, zoneFields, azimuthFields, elevationFields, mapBytes, Each, ZoneInRange, AzimuthInRange, ElevationInRange, InRange}
+use Rattle.wire.proofs.NumberLaws.{num-fits, octets-drop}
+use Rattle.map_spec.specs.Map.{azimuths, lastKilometre, Zone, fieldsOf, zoneFields, azimuthFields, elevationFields, mapBytes, ZoneInRange, AzimuthInRange, ElevationInRange, InRange}
 use Rattle.map_spec.specs.Reading.{value, after, zonesChecks, zonesIn, runSize, runIn, azimuthPart, elevationPart, dateIn, minutesIn, segmentsIn, mapChecks, mapIn}
-use Rattle.map_spec.proofs.FieldLaws.{field-back, octets-drop}
+use Rattle.map_spec.proofs.FieldLaws.{field-back}
 use Rattle.map_spec.proofs.CheckFacts.{zone-facts, azimuth-facts, map-facts}
 use Rattle.map_spec.proofs.Runs.{run-count, run-long, run-range, run-back}
 use Rattle.map_spec.proofs.ZoneLaws.{LastAt, RisesFrom, rises-ends}

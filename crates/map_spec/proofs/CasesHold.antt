@@ -1,4 +1,4 @@
--- Document 01's cases 13 and 14, computed by the rules themselves. Assumes nothing.
+-- The cases, computed by the rules themselves. Assumes nothing.
 use mathlib.Core.Path.{refl}
 use Rattle.wire.specs.Numbers.{num}
 use Rattle.map_spec.specs.Map.{codeFrom}
@@ -7,4 +7,4 @@ use Rattle.map_spec.specs.Cases.{Table}
 
 pub table : Table
 unfolding num codeFrom zonesChecks zonesIn runSize runChecks runIn
-table = (refl, (refl, (refl, (refl, (refl, (refl, (refl, (refl, (refl, (refl, (refl, (refl, (refl, (refl, (refl, (refl, (refl, (refl, (refl, (refl, (refl, (refl, (refl, (refl, (refl, (refl, (refl, (refl, (refl, (refl, tt))))))))))))))))))))))))))))))
+table = (refl, (refl, (refl, (refl, (refl, (refl, (refl, (refl, (refl, (refl, (refl, (refl, (refl, (refl, (refl, (refl, (refl, (refl, (refl, (refl, (refl, (refl, (refl, (refl, (refl, (refl, (refl, (refl, tt))))))))))))))))))))))))))))

@@ -7,14 +7,10 @@ use mathlib.Core.List.{List, [], _∷_}
 use lib.Dec.{leb}
 use lib.ListN.{length, getD}
 use borrow.Author.Tests.{leb-true, leb-false, le-leb, lt-leb}
-use Rattle.map_spec.specs.Map.{mostCode, lastKilometre, Zone, Each, ZoneInRange, AzimuthInRange, codeFrom, noZone, startOf}
+use Rattle.wire.specs.Properties.{Each}
+use Rattle.map_spec.specs.Map.{mostCode, lastKilometre, Zone, ZoneInRange, AzimuthInRange, codeFrom, noZone, startOf}
 use Rattle.map_spec.specs.Theorems.{OneZone}
 use Rattle.map_spec.proofs.ZoneLaws.{RisesFrom, ends-rise}
-
-pub each-at : {A : Type 0} (P : A → Type 0) (xs : List A) (d : A) (k : ℕ) → Each P xs → k < length xs → P (getD xs k d)
-each-at P [] d k p h = absurd (omega arith)
-each-at P (x ∷ xs) d zero p h = p .0
-each-at P (x ∷ xs) d (suc k) p h = each-at P xs d k (p .1) (omega arith)
 
 -- ---- the same with the first zone's kilometres from `from` on
 abbrev startFrom : ℕ → List Zone → ℕ → ℕ

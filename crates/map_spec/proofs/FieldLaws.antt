@@ -1,11 +1,10 @@
 -- Laws of one halfword field, and of tests joined. Assumes nothing.
-use Prim.Native.Nat.{ℕ, _+_, _≤_}
+use Prim.Native.Nat.{ℕ, _≤_}
 use native.Mathlib.Omega.{arith}
 use mathlib.Core.Path.{_≡_, ap, _∙_}
 use mathlib.Core.Bool.{Bool, true, false}
 use mathlib.Core.List.{List, _++_}
 use lib.ListN.{length, drop, take-append-drop}
-use lib.Seq.{getD-drop}
 use Rattle.wire.specs.Numbers.{num, be, Octets}
 use Rattle.wire.specs.Checks.{both}
 use Rattle.wire.proofs.NumberLaws.{num-be, be-num}
@@ -17,9 +16,6 @@ field-back b o h = ap (λ (l : List ℕ). l ++ drop 2 b) (be-num 2 b 0 o h) ∙ 
 
 pub value-of : (v : ℕ) (t : List ℕ) → v ≤ 65535 → num 2 (be 2 v ++ t) 0 ≡ v
 value-of v t h = num-be 2 v t (omega arith)
-
-pub octets-drop : (n : ℕ) (b : List ℕ) → Octets b → Octets (drop n b)
-octets-drop n b o i = rw (getD-drop n b i 0) (o (n + i))
 
 -- ---- tests joined
 pub both-rest : (a b : Bool) → a ≡ true → both a b ≡ false → b ≡ false

@@ -5,10 +5,11 @@ use mathlib.Core.Path.{_≡_, refl, sym, ap, _∙_, subst}
 use mathlib.Core.List.{List, [], _∷_, _++_, append-nil}
 use lib.ListN.{length, drop, length-drop}
 use lib.Seq.{drop-drop}
+use Rattle.wire.specs.Properties.{Each}
 use Rattle.wire.specs.Numbers.{be}
 use Rattle.wire.specs.Checks.{AllHold}
 use Rattle.wire.specs.Tables.{render}
-use Rattle.map_spec.specs.Map.{lastKilometre, Zone, FilterMap, fieldsOf, zoneFields, azimuthFields, elevationFields, mapBytes, Each, ZoneInRange, AzimuthInRange, ElevationInRange, InRange, EndsRise}
+use Rattle.map_spec.specs.Map.{lastKilometre, Zone, FilterMap, fieldsOf, zoneFields, azimuthFields, elevationFields, mapBytes, ZoneInRange, AzimuthInRange, ElevationInRange, InRange, EndsRise}
 use Rattle.map_spec.specs.Reading.{value, after, zonesChecks, zonesIn, runSize, runChecks, runIn, azimuthPart, elevationPart, dateIn, minutesIn, segmentsIn, mapChecks, mapIn}
 use Rattle.map_spec.proofs.FieldLaws.{value-of}
 use Rattle.map_spec.proofs.Runs.{PartOf, RunOf, run-of}

@@ -7,14 +7,15 @@ use mathlib.Core.Path.{_≡_, refl, sym, ap, _∙_, subst}
 use mathlib.Core.List.{List, [], _∷_, _++_, append-assoc}
 use lib.ListN.{length, getD, drop, length-drop}
 use lib.Seq.{drop-drop}
+use Rattle.wire.specs.Properties.{Each}
 use Rattle.wire.specs.Numbers.{Octets}
 use Rattle.wire.specs.Checks.{Check, AllHold}
 use Rattle.wire.specs.Tables.{Field, render}
+use Rattle.wire.proofs.NumberLaws.{octets-drop}
 use Rattle.wire.proofs.CheckLaws.{all-hold-append, all-hold-join}
 use Rattle.wire.proofs.TableLaws.{render-append}
-use Rattle.map_spec.specs.Map.{fieldsOf, Each}
+use Rattle.map_spec.specs.Map.{fieldsOf}
 use Rattle.map_spec.specs.Reading.{Part, runSize, runChecks, runIn}
-use Rattle.map_spec.proofs.FieldLaws.{octets-drop}
 
 module _ {A : Type 0} (part : Part A) where
   -- ---- of any part

@@ -4,6 +4,7 @@ use native.Mathlib.Omega.{arith}
 use mathlib.Core.Path.{_≡_, sym, ap, _∙_, subst}
 use mathlib.Core.List.{List, []}
 use lib.ListN.{length, getD}
+use Rattle.wire.proofs.EachLaws.{each-at}
 use Rattle.wire.specs.Answers.{refused, given, rule}
 use Rattle.wire.proofs.CheckLaws.{all-hold, none-broken, decide-none, decide-some, decide-append}
 use Rattle.wire.proofs.AnswerLaws.{rule-given, rule-refused}
@@ -12,7 +13,7 @@ use Rattle.map_spec.specs.Reading.{segmentsIn, mapChecks, mapIn, mapOf, 
 use Rattle.map_spec.specs.Theorems.{AcceptedExactly, OneMap, OneCode, CheckAnswers, QueryAnswers, RefusedFirst}
 use Rattle.map_spec.proofs.Accepted.{accepted-range, accepted-bytes}
 use Rattle.map_spec.proofs.Rendered.{rendered-pass, rendered-read, segments-is}
-use Rattle.map_spec.proofs.Coverage.{each-at, one-zone}
+use Rattle.map_spec.proofs.Coverage.{one-zone}
 
 rendered-accepted : (m : FilterMap) → InRange m → mapOf (mapBytes m) ≡ given m
 rendered-accepted m r =

@@ -1,11 +1,13 @@
--- Document 01's cases 13 and 14, and both sides of each range, as one statement over a list: the rules themselves answer so, of whole bodies.
+-- Document 01's case 14, and both sides of each range, as one statement over a list: the rules themselves answer so, of whole bodies.
+-- The starred case stands in `demands`.
 use Prim.Native.Nat.{ℕ}
 use mathlib.Core.Path.{_≡_}
 use mathlib.Core.List.{List, [], _∷_, _++_}
 use lib.ListN.{take, replicate}
+use Rattle.wire.specs.Properties.{Each}
 use Rattle.wire.specs.Numbers.{be}
 use Rattle.wire.specs.Answers.{Answer, refused, given}
-use Rattle.map_spec.specs.Map.{Zone, mapBytes, Each}
+use Rattle.map_spec.specs.Map.{Zone, mapBytes}
 use Rattle.map_spec.specs.Reading.{Summary, summaryOf, codeOf}
 
 abbrev pub zone : ℕ → ℕ → Zone
@@ -31,12 +33,8 @@ abbrev pub Holds : Case → Type 0
 Holds (asked b elevation azimuth kilometre answer) = codeOf b elevation azimuth kilometre ≡ answer
 Holds (checked b answer) = summaryOf b ≡ answer
 
--- 13: "kilometre 100 is 0, 101 is 2"
-abbrev pub starredCases : List Case
-starredCases = asked body13 1 0 100 (given 0) ∷ asked body13 1 0 101 (given 2) ∷ []
-
-abbrev pub otherCases : List Case
-otherCases =
+abbrev pub cases : List Case
+cases =
     -- 14: "Ends 100, 100, 511: 24. Only 100: 24."
     asked (bodyWith (zone 0 100 ∷ zone 1 100 ∷ zone 2 511 ∷ [])) 1 0 100 (refused 24)
     ∷ asked (bodyWith (zone 0 100 ∷ [])) 1 0 100 (refused 24)
@@ -71,9 +69,6 @@ otherCases =
     ∷ checked (take 2169 body13) (refused 23)
     ∷ checked (body13 ++ (0 ∷ [])) (refused 23)
     ∷ []
-
-abbrev pub cases : List Case
-cases = starredCases ++ otherCases
 
 abbrev pub Table : Type 0
 Table = Each Holds cases

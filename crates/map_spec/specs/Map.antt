@@ -4,6 +4,7 @@ use mathlib.Core.Path.{_≡_}
 use mathlib.Core.List.{List, [], _∷_, _++_}
 use lib.Dec.{leb}
 use lib.ListN.{length, getD}
+use Rattle.wire.specs.Properties.{Each}
 use Rattle.wire.specs.Checks.{pick, both}
 use Rattle.wire.specs.Tables.{Field, field, render}
 
@@ -63,10 +64,6 @@ abbrev pub mapBytes : FilterMap → List ℕ
 mapBytes m = render (mapFields m)
 
 -- ---- its ranges
-abbrev pub Each : {A : Type 0} → (A → Type 0) → List A → Type 0
-Each P [] = Unit {0}
-Each P (x ∷ xs) = P x × Each P xs
-
 -- "House rule: ends rise strictly and the last is 511."
 abbrev pub EndsRise : List Zone → Type 0
 EndsRise [] = Unit {0}

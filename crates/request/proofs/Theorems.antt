@@ -1,4 +1,4 @@
--- The reader and the writer of message 9 undo each other. Assumes nothing.
+-- What the reader of message 9 accepts is the table, and the reader and the writer undo each other. Assumes nothing.
 use Prim.Native.Nat.{ℕ, _^_, _≤_, _<_}
 use native.Mathlib.Omega.{arith}
 use mathlib.Core.Path.{_≡_, refl, sym, ap, _∙_}
@@ -8,6 +8,7 @@ use borrow.Author.Tests.{eqb-true, le-ltb, not-false}
 use lib.Dec.{eqb}
 use lib.ListN.{length, getD, take}
 use lib.Seq.{take-all}
+use Rattle.wire.specs.Properties.{Each}
 use Rattle.wire.specs.Numbers.{num, be}
 use Rattle.wire.specs.Checks.{pick, among}
 use Rattle.wire.specs.Answers.{given}
@@ -18,15 +19,11 @@ use Rattle.wire.proofs.CheckLaws.{never, all-hold}
 use Rattle.wire.proofs.AnswerLaws.{rule-given}
 use Rattle.wire.proofs.WriteLaws.{accepted}
 use Rattle.request.specs.Request.{permitted, isPermitted, requestChecks, requestOf, requestWritten}
-use Rattle.request.specs.Theorems.{WrittenIsRead, ReadIsWritten}
+use Rattle.request.specs.Theorems.{BodyIsTable, WrittenIsRead, ReadIsWritten}
 use Rattle.request.proofs.StepLaws.{body-fine}
 
 -- what all numbers of a list are, one among them is
-abbrev AllOf : (ℕ → Type 0) → List ℕ → Type 0
-AllOf P [] = Unit {0}
-AllOf P (y ∷ ys) = P y × AllOf P ys
-
-among-is : (P : ℕ → Type 0) (x : ℕ) (l : List ℕ) → AllOf P l → among x l ≡ true → P x
+among-is : (P : ℕ → Type 0) (x : ℕ) (l : List ℕ) → Each P l → among x l ≡ true → P x
 among-is P x [] a e = never (cc e)
 among-is P x (y ∷ ys) a e = go (eqb x y) refl e (λ q. among-is P x ys (a .1) q)
   where
@@ -45,6 +42,11 @@ read-is body code e =
     let p = rule-given (requestChecks (eqb (length body) 2) (num 2 body 0)) (num 2 body 0) code e in
     let h = all-hold (requestChecks (eqb (length body) 2) (num 2 body 0)) (p .0) in
     (eqb-true (length body) 2 (not-false _ (h .0)), ap (λ (n : ℕ). isPermitted n) (sym (p .1)) ∙ not-false _ (h .1 .0), p .1)
+
+pub body-is-table : BodyIsTable
+body-is-table body code o e =
+    let h = read-is body code e in
+    sym (ap (λ (n : ℕ). be 2 n) (sym (h .2)) ∙ be-num 2 body 0 o (omega arith) ∙ take-all 2 body (omega arith))
 
 -- the bytes of a permitted code are read as that code
 bytes-are-read : (code : ℕ) → isPermitted code ≡ true → requestOf (be 2 code) ≡ given code
@@ -80,5 +82,4 @@ code-is-written code out p h = simp (p, le-ltb (length out) 2 h)
 pub read-is-written : ReadIsWritten
 read-is-written body out code o e room =
     let h = read-is body code e in
-    let w : be 2 code ≡ body = ap (λ (n : ℕ). be 2 n) (sym (h .2)) ∙ be-num 2 body 0 o (omega arith) ∙ take-all 2 body (omega arith) in
-    code-is-written code out (h .1) (omega arith) ∙ ap (λ (b : List ℕ). wrote b out) w
+    code-is-written code out (h .1) (omega arith) ∙ ap (λ (b : List ℕ). wrote b out) (sym (body-is-table body code o e))

@@ -10,11 +10,11 @@ use Rattle.request.specs.Request.{requestOf, requestWritten}
 -- a body with the reader's right answer; a list and the output before, with the writer's right outcome
 pub data Case : Type 0 where
   read : List ℕ → Answer ℕ → Case
-  write : List ℕ → List ℕ → Outcome Bytes → Case
+  write : List ℕ → List ℕ → Outcome (List ℕ) Bytes → Case
 
 pub data Result : Type 0 where
   answered : Answer ℕ → Result
-  wrote : Outcome Bytes → Result
+  wrote : Outcome (List ℕ) Bytes → Result
 
 abbrev pub found : Case → Result
 found (read body answer) = answered (requestOf body)

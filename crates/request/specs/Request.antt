@@ -30,5 +30,5 @@ unfoldable pub requestOf : List ℕ → Answer ℕ
 requestOf body = rule (requestChecks (eqb (length body) (total (requestTable (num 2 body 0)))) (num 2 body 0)) (num 2 body 0)
 
 -- a list: one number. "Body writers: the reader's checks, then 13."
-unfoldable pub requestWritten : List ℕ → List ℕ → Outcome Bytes
+unfoldable pub requestWritten : List ℕ → List ℕ → Outcome (List ℕ) Bytes
 requestWritten list out = written (requestChecks (eqb (length list) 1) (getD list 0 0)) (render (requestTable (getD list 0 0))) out

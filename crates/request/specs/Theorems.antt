@@ -1,13 +1,18 @@
--- What holds of every body and list of message 9: the reader and the writer undo each other.
+-- What holds of every body and list of message 9: what is read is what the table says, and the reader and the writer undo each other.
 use Prim.Native.Nat.{ℕ, _≤_}
 use mathlib.Core.Path.{_≡_}
 use mathlib.Core.List.{List, [], _∷_}
 use lib.ListN.{length, getD, take}
 use Rattle.wire.specs.Numbers.{Octets}
+use Rattle.wire.specs.Tables.{render}
 use Rattle.wire.specs.Answers.{given}
 use Rattle.wire.specs.Writing.{wrote}
 use Rattle.wire.specs.declared.Bytes.{Bytes}
-use Rattle.request.specs.Request.{requestOf, requestWritten}
+use Rattle.request.specs.Request.{requestTable, requestOf, requestWritten}
+
+-- "What is read is what the interface document defines": an accepted body is the table of the code that is reported
+abbrev pub BodyIsTable : Type 0
+BodyIsTable = (body : List ℕ) (code : ℕ) → Octets body → requestOf body ≡ given code → body ≡ render (requestTable code)
 
 -- what the writer writes of a list, the reader accepts, with the list's one number
 abbrev pub WrittenIsRead : Type 0

@@ -8,6 +8,7 @@ use lib.Dec.{ltb, eqb}
 use lib.ListN.{length, take, drop, length-drop}
 use lib.Seq.{length-take-le}
 use borrow.Author.Tests.{le-ltb, ltb-true, ltb-false}
+use Rattle.wire.specs.Properties.{Each}
 use Rattle.wire.specs.Checks.{pick, both}
 use Rattle.wire.proofs.CheckLaws.{both-false}
 use Rattle.header.specs.Header.{radialCut}
@@ -15,8 +16,7 @@ use Rattle.writer.specs.Writing.{cut, segmentsOf, longest, longestRadial, longe
 use Rattle.round_trip.proofs.FrameBack.{PartFits}
 
 abbrev pub AllFit : ℕ → List (List ℕ) → Type 0
-AllFit kind [] = Unit {0}
-AllFit kind (part ∷ parts) = PartFits kind part × AllFit kind parts
+AllFit kind parts = Each (PartFits kind) parts
 
 -- data of at most 2,400 bytes, of any type
 short-fits : (kind : ℕ) (part : List ℕ) → length part % 2 ≡ 0 → length part ≤ 2400 → PartFits kind part

@@ -122,6 +122,6 @@ module _ (s : List ℕ) (heads : Heads) (flags : List Bool) (starts ends : List 
             in
             record {
               answers =
-                  rw (m .tells .one, l, is-long) (sym (ap (λ (o : Outcome SetSays). o .answer) r));
-              leaves = e ∙ ap (λ (x : List ℕ). filled x out) is-body ∙ sym (ap (λ (o : Outcome SetSays). o .output) r);
+                  rw (m .tells .one, l, is-long) (sym (ap (λ (o : Outcome (List ℕ) SetSays). o .answer) r));
+              leaves = e ∙ ap (λ (x : List ℕ). filled x out) is-body ∙ sym (ap (λ (o : Outcome (List ℕ) SetSays). o .output) r);
             }

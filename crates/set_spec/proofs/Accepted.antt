@@ -44,11 +44,11 @@ unfolding setOf
 accepting frames out h body e = go (walk (length frames) [] frames) refl e
   where
     go : (a : Answer (List Segment)) → walk (length frames) [] frames ≡ a → finish a out ≡ accepted h body out → Accepting frames out h body
-    go (refused n) w q = never (cc (ap (λ (o : Outcome SetSays). o .answer) q))
+    go (refused n) w q = never (cc (ap (λ (o : Outcome (List ℕ) SetSays). o .answer) q))
     go (given gs) w q =
         let p =
         outcome-given (endChecks gs (length out)) out (says gs) (filled (bodyOf gs) out) (record { header = h; long = bytes (length body) })
-        (ap (λ (o : Outcome SetSays). o .answer) q)
+        (ap (λ (o : Outcome (List ℕ) SetSays). o .answer) q)
         in
         let l : length (bodyOf gs) ≡ length body = ap (λ (s : SetSays). s .long .0) (p .1) in
         record {
@@ -56,7 +56,7 @@ accepting frames out h body e = go (walk (length frames) [] frames) refl e
           walked = w;
           ends = all-hold (endChecks gs (length out)) (p .0);
           header = ap (λ (s : SetSays). s .header) (p .1);
-          contents = same-body (bodyOf gs) body out l (sym (p .2) ∙ ap (λ (o : Outcome SetSays). o .output) q);
+          contents = same-body (bodyOf gs) body out l (sym (p .2) ∙ ap (λ (o : Outcome (List ℕ) SetSays). o .output) q);
         }
 
 -- and back
@@ -65,6 +65,29 @@ pub finished : (gs : List Segment) (out : List ℕ) → AllHold (endChecks gs (l
 finished gs out a =
     decide-none (endChecks gs (length out)) (refusal out) (record { answer = given (says gs); output = filled (bodyOf gs) out })
     (none-broken (endChecks gs (length out)) a)
+
+-- an answer alone that accepts: the body that was accepted, and its length
+pub record Answering (frames out : List ℕ) (s : SetSays) : Type 0 where
+  pub body : List ℕ
+  pub is : setOf frames out ≡ accepted (s .header) body out
+  pub long : s .long ≡ bytes (length body)
+
+pub answering : (frames out : List ℕ) (s : SetSays) → setOf frames out .answer ≡ given s → Answering frames out s
+unfolding setOf
+answering frames out s e = go (walk (length frames) [] frames) refl e
+  where
+    go : (a : Answer (List Segment)) → walk (length frames) [] frames ≡ a → finish a out .answer ≡ given s → Answering frames out s
+    go (refused n) w q = never (cc q)
+    go (given gs) w q =
+        let p = outcome-given (endChecks gs (length out)) out (says gs) (filled (bodyOf gs) out) s q in
+        record {
+          body = bodyOf gs;
+          is =
+              ap (λ (a : Answer (List Segment)). finish a out) w
+              ∙ finished gs out (all-hold (endChecks gs (length out)) (p .0))
+              ∙ (λ i. accepted (p .1 i .header) (bodyOf gs) out);
+          long = sym (ap (λ (x : SetSays). x .long) (p .1));
+        }
 
 -- ---- accepted, so whole
 is-some : (o : Option Segment) → found o ≡ true → (g : Segment) × (o ≡ some g)

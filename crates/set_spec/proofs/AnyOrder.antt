@@ -129,7 +129,7 @@ low-first (k ∷ ks) n l e = go (k .broken) (ltb (k .number) 12) refl l e (λ m 
     go true true p q r later = subst (λ (m : ℕ). m < 12) (cc r) (ltb-true (k .number) 12 p)
     go false true p q r later = later q r
 
-walk-low : (turns : ℕ) (gs : List Segment) (rest : List ℕ) (n : ℕ) → walk turns gs rest ≡ refused n → n < 12
+pub walk-low : (turns : ℕ) (gs : List Segment) (rest : List ℕ) (n : ℕ) → walk turns gs rest ≡ refused n → n < 12
 unfolding walk
 walk-low zero gs rest n e = never (cc e)
 walk-low (suc turns) gs rest n e =

@@ -1,11 +1,11 @@
--- The starred cases, by computation of the rule. Assumes nothing.
+-- The cases, by computation of the rule. Assumes nothing.
 use mathlib.Core.Path.{refl}
 use Rattle.wire.specs.Numbers.{num}
 use Rattle.header.specs.Header.{storedIn, headerIn}
 use Rattle.set_spec.specs.Segment.{numbered}
 use Rattle.set_spec.specs.Walk.{walk, allSeen, joined, setOf}
-use Rattle.set_spec.specs.Cases.{Starred}
+use Rattle.set_spec.specs.Cases.{Limits}
 
-pub starred : Starred
+pub limits : Limits
 unfolding num storedIn headerIn numbered walk allSeen joined setOf
-starred = (refl, (refl, (refl, (refl, (refl, (refl, (refl, (refl, tt))))))))
+limits = (refl, (refl, (refl, (refl, (refl, (refl, (refl, (refl, tt))))))))

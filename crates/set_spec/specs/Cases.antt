@@ -1,8 +1,9 @@
--- The starred cases of document 01 on sets.
+-- Sets on either side of each rule, and what the rule answers to them. The starred cases stand in `demands`.
 use Prim.Native.Nat.{ℕ}
 use mathlib.Core.Path.{_≡_}
 use mathlib.Core.List.{List, [], _∷_, _++_}
 use lib.ListN.{replicate}
+use Rattle.wire.specs.Properties.{Each}
 use Rattle.wire.specs.Numbers.{be}
 use Rattle.wire.specs.Answers.{Outcome, refusal}
 use Rattle.wire.specs.Sizes.{halfwords}
@@ -33,7 +34,7 @@ headerWith n k = record {
 pub record Case : Type 0 where
   pub frames : List ℕ
   pub out : List ℕ
-  pub right : Outcome SetSays
+  pub right : Outcome (List ℕ) SetSays
 
 abbrev pub refuses : List ℕ → ℕ → Case
 refuses frames n = record { frames = frames; out = 7 ∷ 7 ∷ 7 ∷ 7 ∷ 7 ∷ []; right = refusal (7 ∷ 7 ∷ 7 ∷ 7 ∷ 7 ∷ []) n }
@@ -41,25 +42,27 @@ refuses frames n = record { frames = frames; out = 7 ∷ 7 ∷ 7 ∷ 7 ∷ 7 ∷
 abbrev pub accepts : List ℕ → Header → List ℕ → Case
 accepts frames h body = record { frames = frames; out = 7 ∷ 7 ∷ 7 ∷ 7 ∷ 7 ∷ []; right = accepted h body (7 ∷ 7 ∷ 7 ∷ 7 ∷ 7 ∷ []) }
 
-abbrev pub AllAnswered : List Case → Type 0
-AllAnswered [] = Unit {0}
-AllAnswered (c ∷ cs) = (setOf (c .frames) (c .out) ≡ c .right) × AllAnswered cs
+abbrev pub Answered : Case → Type 0
+Answered c = setOf (c .frames) (c .out) ≡ c .right
 
-abbrev pub starredCases : List Case
-starredCases =
-    -- "1. Empty buffer: .. 12 as a set." "2. 11 bytes: 1." 3, the request
-    refuses [] 12
-    ∷ refuses (replicate 11 0) 1
-    ∷ accepts (frameWith 9 1 1 0x0081) (headerWith 1 1) (0x00 ∷ 0x81 ∷ [])
-    -- "4. Case 3 with size 8: 5." 5, with segment number 0: since K1 "an acceptance", as case 3
-    ∷ refuses (frameWith 8 1 1 0x0081) 5
-    ∷ accepts (frameWith 9 1 0 0x0081) (headerWith 1 1) (0x00 ∷ 0x81 ∷ [])
-    -- "7. Set in order 2, 1: accepted, data of 1 first." "8. Numbers 2, 2 of two: 11. Only 2: 12."
+-- "4 keep alive", with no body
+abbrev pub keepAlive : List ℕ
+keepAlive = be 4 4 ++ be 4 0 ++ be 4 0
+
+abbrev pub limitCases : List Case
+limitCases =
+    -- 12: number 2 of three absent, and number 1; 9, after a segment that is good; 10, another N; 1 before all of these
+    refuses (frameWith 9 3 1 0x3132 ++ frameWith 9 3 3 0x3536) 12
+    ∷ refuses (frameWith 9 3 2 0x3334 ++ frameWith 9 3 3 0x3536) 12
+    ∷ refuses (frameWith 9 1 1 0x3132 ++ keepAlive) 9
+    ∷ refuses (frameWith 9 2 1 0x3132 ++ frameWith 9 3 2 0x3334) 10
+    ∷ refuses (frameWith 9 1 1 0x3132 ++ replicate 11 0) 1
+    -- 13: three segments of two bytes, and room for five
+    ∷ refuses (frameWith 9 3 1 0x3132 ++ (frameWith 9 3 2 0x3334 ++ frameWith 9 3 3 0x3536)) 13
+    -- K1: one segment with any number
+    ∷ accepts (frameWith 9 1 65535 0x3132) (headerWith 1 1) (0x31 ∷ 0x32 ∷ [])
     ∷ accepts (frameWith 9 2 2 0x3334 ++ frameWith 9 2 1 0x3132) (headerWith 2 1) (0x31 ∷ 0x32 ∷ 0x33 ∷ 0x34 ∷ [])
-    ∷ refuses (frameWith 9 2 2 0x3334 ++ frameWith 9 2 2 0x3334) 11
-    ∷ refuses (frameWith 9 2 2 0x3334) 12
     ∷ []
 
--- one statement over the list
-abbrev pub Starred : Type 0
-Starred = AllAnswered starredCases
+abbrev pub Limits : Type 0
+Limits = Each Answered limitCases

@@ -1,5 +1,5 @@
 -- What is proved of sets, as statements.
-use Prim.Native.Nat.{ℕ, _+_, _≤_}
+use Prim.Native.Nat.{ℕ, _+_, _-_, _*_, _≤_, _<_}
 use mathlib.Core.Path.{_≡_}
 use mathlib.Core.Logic.{_↔_}
 use mathlib.Core.List.{List, _++_, flatten, List·Memᴰ, List·Permᴰ}
@@ -7,21 +7,37 @@ use lib.ListN.{length, take}
 use Rattle.wire.specs.Answers.{refused, given, Outcome}
 use Rattle.wire.specs.Sizes.{bytes}
 use Rattle.wire.specs.Writing.{filled}
-use Rattle.frame.specs.Session.{headSize, sizeIn, bodyIn}
+use Rattle.frame.specs.Session.{headSize, sessionLimit, sizeIn, bodyIn}
 use Rattle.header.specs.declared.Header.{Header}
-use Rattle.header.specs.Header.{headerSize}
+use Rattle.header.specs.Header.{headerSize, radialType, mostSegments, segmentSize}
 use Rattle.header.specs.Theorems.{Lone, numberPlace, ButTwoBytes}
 use Rattle.set_spec.specs.Walk.{SetSays, setOf}
 use Rattle.set_spec.specs.Whole.{Whole}
 
 -- the outcome that accepts: segment 1's header h, and the body with its length at the start of the output
-abbrev pub accepted : Header → List ℕ → List ℕ → Outcome SetSays
+abbrev pub accepted : Header → List ℕ → List ℕ → Outcome (List ℕ) SetSays
 accepted h body out = record { answer = given (record { header = h; long = bytes (length body) }); output = filled body out }
 
 -- a set is accepted exactly if it is whole and the output has room for its body
 abbrev pub AcceptedExactlyIfWhole : Type 0
 AcceptedExactlyIfWhole = (frames out : List ℕ) (h : Header) (body : List ℕ)
     → (setOf frames out ≡ accepted h body out) ↔ (Whole frames h body × (length body ≤ length out))
+
+-- so many bytes at most are told and written: 128 segments of 1,208 halfwords, each without its header, and of type 31, which is one segment, a session's
+-- body without the header
+abbrev pub mostJoined : ℕ
+mostJoined = mostSegments * (2 * segmentSize .0 - headerSize)
+
+pub record AtMost (s : SetSays) : Type 0 where
+  pub body : s .long .0 ≤ mostJoined
+  pub radial : s .header .kind ≡ radialType → s .long .0 ≤ sessionLimit .0 - headerSize
+
+abbrev pub BodyMost : Type 0
+BodyMost = (frames out : List ℕ) (s : SetSays) → setOf frames out .answer ≡ given s → AtMost s
+
+-- and an output of so many bytes is never too small
+abbrev pub RoomForAny : Type 0
+RoomForAny = (frames out : List ℕ) → setOf frames out .answer ≡ refused 13 → length out < mostJoined
 
 -- a set's answer does not depend on what the output held before, only on how long it is; nor do the bytes of the body
 abbrev pub AnswerApartFromOutput : Type 0

@@ -2,11 +2,11 @@
 use Prim.Native.Nat.{ℕ, zero, suc}
 use mathlib.Core.Bool.{Bool, true, not}
 use mathlib.Core.List.{List, [], _∷_, _++_}
-use lib.Dec.{ltb, eqb}
+use lib.Dec.{eqb}
 use lib.ListN.{length}
 use Rattle.wire.specs.Checks.{pick, both, Check, check, decide}
 use Rattle.wire.specs.Answers.{Answer, refused, given, Outcome, refusal, outcome}
-use Rattle.wire.specs.Writing.{filled}
+use Rattle.wire.specs.Writing.{filled, roomCheck}
 use Rattle.wire.specs.Sizes.{bytes}
 use Rattle.wire.specs.declared.Bytes.{Bytes}
 use Rattle.frame.specs.Session.{after}
@@ -57,14 +57,14 @@ bodyOf gs = joined gs (count gs)
 -- "12: a number absent at the end; also the empty set", "13: output too small for the whole answer"
 abbrev pub endChecks : List Segment → ℕ → List Check
 endChecks gs room =
-    check 12 (not (seen gs 1)) ∷ check 12 (not (allSeen gs (count gs))) ∷ check 13 (ltb room (length (bodyOf gs))) ∷ []
+    check 12 (not (seen gs 1)) ∷ check 12 (not (allSeen gs (count gs))) ∷ roomCheck room (bodyOf gs) ∷ []
 
 -- "The answer is segment 1's header and, in the lent output, the data .. joined, with its length; output past that length stays"
 pub record SetSays : Type 0 where
   pub header : Header
   pub long : Bytes
 
-abbrev pub finish : Answer (List Segment) → List ℕ → Outcome SetSays
+abbrev pub finish : Answer (List Segment) → List ℕ → Outcome (List ℕ) SetSays
 finish (refused n) out = refusal out n
 finish (given gs) out =
     outcome (endChecks gs (length out)) out
@@ -72,5 +72,5 @@ finish (given gs) out =
     (filled (bodyOf gs) out)
 
 -- what a buffer of frames answers as a set, and what then stands in the output
-unfoldable pub setOf : List ℕ → List ℕ → Outcome SetSays
+unfoldable pub setOf : List ℕ → List ℕ → Outcome (List ℕ) SetSays
 setOf frames out = finish (walk (length frames) [] frames) out

@@ -16,7 +16,7 @@ ghost use Rattle.compare_spec.specs.Comparing.{comparisonOf};
 ghost use Rattle.c_lent.specs.Face.{Leaves, writtenFace};
 ghost use Rattle.c_frame.specs.Face.{frameFace, headerFace};
 ghost use Rattle.c_set.specs.Face.{setFace};
-ghost use Rattle.c_salvage.specs.Face.{LeavesBoth};
+ghost use Rattle.c_salvage.specs.Face.{salvageFace};
 ghost use Rattle.c_radial.specs.Face.{radialFace, blockFace};
 ghost use Rattle.c_gates.specs.Face.{gatesFace, worthFace};
 ghost use Rattle.c_request.specs.Face.{requestFace};
@@ -49,12 +49,12 @@ pub extern "C" fn ulm_frame(buf: &[u8], place: usize) -> UlmFrame
 pub extern "C" fn ulm_header(msg: &[u8]) -> UlmHeader
     ensures { λ r. ⌜ r ≡ headerFace (headerOf (now (msg .entry))) ⌝ }
 {
-    let h = header::stored(msg);
-    let number = header::check_header(h, msg.len());
+    let s = header::stored_in(msg);
+    let number = header::check_header(s, msg.len());
     if number != 0 {
         return c_frame::no_header(number);
     }
-    c_frame::header_face(header::reported(msg, h))
+    c_frame::header_face(header::reported(msg, s))
 }
 
 #[no_mangle]
@@ -66,7 +66,7 @@ pub extern "C" fn ulm_set(buf: &[u8], out: &mut [u8]) -> UlmSet
 
 #[no_mangle]
 pub extern "C" fn ulm_salvage(buf: &[u8], out: &mut [u8], runs: &mut [u64]) -> UlmSalvage
-    ensures { λ r. ⌜ LeavesBoth (salvageOf (now (buf .entry)) (now (out .entry)) (now (runs .entry))) r (now (out .exit)) (now (runs .exit)) ⌝ }
+    ensures { λ r. ⌜ Leaves salvageFace (salvageOf (now (buf .entry)) (now (out .entry)) (now (runs .entry))) r (now (out .exit), now (runs .exit)) ⌝ }
 {
     c_salvage::salvage(buf, out, runs)
 }

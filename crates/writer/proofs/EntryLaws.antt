@@ -5,7 +5,7 @@ use mathlib.Core.Path.{_≡_, refl, sym, ap, _∙_}
 use mathlib.Core.List.{List, [], _∷_}
 use lib.Dec.{ltb}
 use lib.ListN.{length}
-use Rattle.wire.specs.Checks.{pick, check, someBroken}
+use Rattle.wire.specs.Checks.{pick, Check, check, someBroken}
 use Rattle.wire.specs.Answers.{Outcome, refusal}
 use Rattle.wire.specs.Writing.{wrote}
 use Rattle.wire.specs.Sizes.{odd}
@@ -32,10 +32,10 @@ pub write-decides : (g : Given) (body out : List ℕ)
     (pick (ltb (length out) (length (framesOf g body))) (refusal out 13) (wrote (framesOf g body) out)))))
 unfolding writeOf
 write-decides g body out =
-    let last =
+    let last : List Check =
     check 25 (odd (length body)) ∷ check 26 (ltb (longest (g .kind) .0) (length body)) ∷ check 13 (ltb (length out) (length (framesOf g body))) ∷ []
     in
-    ap (λ (x : Outcome Bytes). pick (notPermitted (g .kind)) (refusal out 6) x)
+    ap (λ (x : Outcome (List ℕ) Bytes). pick (notPermitted (g .kind)) (refusal out 6) x)
     (decide-same 8 (timeChecks (g .date) (g .milliseconds)) last (refusal out) (wrote (framesOf g body) out) (refl, (refl, tt)))
 
 -- the length as it is computed

@@ -61,5 +61,5 @@ writeChecks given body =
     ∷ [])
 
 -- what the writer answers, and the output then
-unfoldable pub writeOf : Given → List ℕ → List ℕ → Outcome Bytes
+unfoldable pub writeOf : Given → List ℕ → List ℕ → Outcome (List ℕ) Bytes
 writeOf given body out = written (writeChecks given body) (framesOf given body) out

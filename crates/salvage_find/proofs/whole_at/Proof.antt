@@ -56,8 +56,8 @@ part-message-start c = let l = lies (c .before .before) in omega (arith, l .orde
 part-message-end : tie.Need-part-message-end
 part-message-end c = let l = lies (c .before .before) in omega (arith, l .order, l .within)
 
-stored-requires : tie.Need-stored-requires
-stored-requires c κs = search needs
+stored-in-requires : tie.Need-stored-in-requires
+stored-in-requires c κs = search needs
 
 check-header-requires : tie.Need-check-header-requires
 check-header-requires c κs = search needs
@@ -67,13 +67,13 @@ returns-2 c =
     let k = c .before .before .before .before .before .before in
     let l = lies k in
     let rest = left (c .before .before .before .before .before .before .before .before .before .before .before) in
-    let h = c .before .before .stored in
+    let s = c .before .before .stored-in in
     let n = c .before .check-header in
     none-whole rest
     (broken-none rest _
     (own-header rest (l .passes) (sym (l .kind) ∙ c .before .before .before .before .if1 .left)
     ∙ header-refused (bodyIn rest) (n .result)
-    (ap headerOf (sym (l .body)) ∙ header-broken (message-of k) (h .result) (n .result) (h .ensures) (n .ensures) (c .if2 .taken))))
+    (ap headerOf (sym (l .body)) ∙ header-broken (message-of k) (s .result) (n .result) (s .ensures) (n .ensures) (c .if2 .taken))))
 
 sub-result : tie.Need-sub-result
 sub-result c = let l = lies (c .before .before .before .before .before .before) in omega (arith, l .next)
@@ -93,13 +93,13 @@ returns-5 c =
     let k = c .before .before .before .before .before .before in
     let l = lies k in
     let rest = left (c .before .before .before .before .before .before .before .before .before .before .before) in
-    let h = c .before .before .stored in
+    let s = c .before .before .stored-in in
     let n = c .before .check-header in
     let m = message-of k in
     some-whole rest _
     (own-header rest (l .passes) (sym (l .kind) ∙ c .before .before .before .before .if1 .left)
-    ∙ header-given (bodyIn rest) (reportedFrom m (h .result))
-    (ap headerOf (sym (l .body)) ∙ header-read m (h .result) (n .result) (h .ensures) (n .ensures) (reportedFrom m (h .result)) refl (c .if2 .left)) .0)
+    ∙ header-given (bodyIn rest) (reportedFrom m (s .result))
+    (ap headerOf (sym (l .body)) ∙ header-read m (s .result) (n .result) (s .ensures) (n .ensures) (reportedFrom m (s .result)) refl (c .if2 .left)) .0)
     (omega (arith, l .next))
 
 pub whole-at-spec : {M : Type 1} → statement M
@@ -114,7 +114,7 @@ whole-at-spec =
     sub-message
     part-message-start
     part-message-end
-    stored-requires
+    stored-in-requires
     check-header-requires
     returns-2
     sub-result
