@@ -1,2 +1,3 @@
 -- What the crates above cite of lent memory.
 pub mod LentLaws
+pub mod Welds

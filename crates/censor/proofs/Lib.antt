@@ -4,4 +4,4 @@ pub mod Halfwords
 pub mod StepLaws
 pub mod Theorems
 pub mod CasesHold
-pub mod OneAnswer
+pub mod Welds

@@ -7,4 +7,4 @@ pub mod ZoneNumbers
 pub mod SameBytes
 pub mod AzimuthWalk
 pub mod EntryLaws
-pub mod OneAnswer
+pub mod Welds

@@ -2,4 +2,4 @@
 pub mod StepLaws
 pub mod BodyLaws
 pub mod QueryLaws
-pub mod OneAnswer
+pub mod Welds

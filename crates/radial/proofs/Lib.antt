@@ -6,4 +6,4 @@ pub mod HandedLaws
 pub mod FindLaws
 pub mod BlockLaws
 pub mod CodeLaws
-pub mod OneAnswer
+pub mod Welds

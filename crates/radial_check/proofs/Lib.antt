@@ -5,3 +5,4 @@ pub mod PartLaws
 pub mod ChainLaws
 pub mod LoopLaws
 pub mod WholeLaws
+pub mod Welds

@@ -1,3 +1,3 @@
 -- The laws between the code that hands gates over and the rule.
 pub mod GatesLaws
-pub mod OneAnswer
+pub mod Welds

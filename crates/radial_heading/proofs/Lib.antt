@@ -1,3 +1,3 @@
 -- The laws of the header, and that its promise has one answer.
 pub mod HeadingLaws
-pub mod OneAnswer
+pub mod Welds

@@ -4,6 +4,7 @@ pub mod Pieces
 pub mod Blocks
 pub mod Accepted
 pub mod Naming
+pub mod Finding
 pub mod CasesHold
 pub mod Names
 pub mod Held

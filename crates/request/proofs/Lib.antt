@@ -2,4 +2,4 @@
 pub mod StepLaws
 pub mod Theorems
 pub mod CasesHold
-pub mod OneAnswer
+pub mod Welds

@@ -3,4 +3,4 @@ pub mod LayLaws
 pub mod PlaceLaws
 pub mod GoingLaws
 pub mod RoomLaws
-pub mod OneAnswer
+pub mod Welds

@@ -4,4 +4,4 @@ pub mod TurnLaws
 pub mod GatherLaws
 pub mod ArrayLaws
 pub mod SetLaws
-pub mod OneAnswer
+pub mod Welds

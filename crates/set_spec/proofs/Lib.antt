@@ -9,5 +9,6 @@ pub mod OrderFree
 pub mod Accepted
 pub mod OutputApart
 pub mod AnyOrder
+pub mod BodyMost
 pub mod LoneNumber
 pub mod CasesHold

@@ -3,8 +3,11 @@ pub mod ListLaws
 pub mod NumberLaws
 pub mod TableLaws
 pub mod FiniteLaws
+pub mod EachLaws
 pub mod CheckLaws
 pub mod AnswerLaws
 pub mod WriteLaws
+pub mod SheetLaws
 pub mod CopyLaws
 pub mod FloatLaws
+pub mod Welds

@@ -3,5 +3,5 @@ pub mod CutLaws
 pub mod FrameLaws
 pub mod LoopLaws
 pub mod EntryLaws
-pub mod OneAnswer
-pub mod CasesHold
+pub mod Theorems
+pub mod Welds
