@@ -1,21 +1,36 @@
--- K1's lone segment, from the theorems of `header` and `set_spec`. Assumes nothing.
-use Prim.Native.Nat.{ℕ}
-use mathlib.Core.Path.{_≡_, sym, ap, _∙_}
-use mathlib.Core.List.{List}
+-- K1's lone segment, from the theorems of `header`, `set_spec` and `writer`. Assumes nothing.
+use Prim.Native.Nat.{ℕ, _+_}
+use mathlib.Core.Path.{_≡_, sym, ap, _∙_, subst}
+use mathlib.Core.Logic.{_↔_}
+use mathlib.Core.List.{List, _++_, flatten}
+use lib.ListN.{length}
+use denote.Ref.{now}
+use Rattle.wire.specs.Numbers.{num}
+use Rattle.wire.specs.Checks.{AllHold}
 use Rattle.wire.specs.Answers.{given, Outcome}
+use Rattle.frame.specs.Session.{headSize}
 use Rattle.header.specs.declared.Header.{Header}
+use Rattle.header.specs.declared.HeaderAnswer.{HeaderAnswer}
+use Rattle.header.specs.declared.HeaderAnswer.the-variants.{Read, Refused}
 use Rattle.header.specs.Header.{storedIn, headerIn, headerOf}
+use Rattle.header.specs.Told.{tellHeader}
+use Rattle.header.specs.Theorems.{Lone, numberPlace, ButTwoBytes, beforeNumber, afterNumber}
 use Rattle.header.proofs.HeaderLaws.{number-lone, number-other}
 use Rattle.header.proofs.LoneLaws.{lone-header}
-use Rattle.header.proofs.OneAnswer.{read-header-only}
+use Rattle.header.proofs.Theorems.{lone-by-other-checks, number-outside}
+use Rattle.header.proofs.Welds.{header-apart}
 use Rattle.set_spec.specs.Walk.{SetSays, setOf}
 use Rattle.set_spec.proofs.FrameFacts.{header-given}
 use Rattle.set_spec.proofs.LoneNumber.{lone-segment}
-use Rattle.set.proofs.OneAnswer.{read-set-only}
+use Rattle.set.proofs.Welds.{set-apart}
+use Rattle.writer.proofs.Theorems.{lone-number}
 use Rattle.c_frame.specs.Face.{headerFace}
 use Rattle.c_set.specs.Face.{setFace}
-use Rattle.demands.specs.LoneSegment.{SameHeader, SameSet, LoneSegment}
+use Rattle.demands.specs.Demand2.{givenBy}
+use Rattle.demands.specs.LoneSegment.{ButLoneNumber, LoneSegment}
+use Rattle.demands.proofs.Written.{wrote-for-c}
 
+-- ---- the number that is reported
 one : (b : List ℕ) (h : Header) → headerOf b ≡ given h → h .segments ≡ 1 → h .number ≡ 1
 unfolding headerIn
 one b h e n =
@@ -29,28 +44,45 @@ others b h e n =
     let other : storedIn b .segments ≡ 1 → ⊥ = λ x. n (sym (ap (λ (x : Header). x .segments) q) ∙ x) in
     sym (ap (λ (x : Header). x .number) q) ∙ number-other (storedIn b .segments) (storedIn b .number) other
 
-same-header : (b b′ : List ℕ) → headerOf b ≡ headerOf b′ → SameHeader b b′
-same-header b b′ e = record {
-  entry = λ r r′ p q. read-header-only b r r′ p (q ∙ sym e);
-  face = λ r r′ p q. p ∙ ap headerFace e ∙ sym q;
-}
+-- ---- what is accepted
+accepted : (b : List ℕ) (r : HeaderAnswer) → Lone b → tellHeader r ≡ headerOf b
+    → (r ≡ Read (headerIn b)) ↔ AllHold (beforeNumber (storedIn b) (length b) ++ afterNumber (storedIn b))
+accepted b r lone e = (
+  λ q. lone-by-other-checks b lone .0 (sym e ∙ ap tellHeader q),
+  λ h. header-apart r (Read (headerIn b)) (e ∙ lone-by-other-checks b lone .1 h),
+)
 
-same-set : (frames frames′ out : List ℕ) → setOf frames out ≡ setOf frames′ out → SameSet frames frames′ out
-same-set frames frames′ out e = record {
-  entry = λ r r′ left left′ p q.
-      read-set-only frames out r r′ left left′ p
-      (record { answers = q .answers ∙ ap (λ (o : Outcome SetSays). o .answer) (sym e); leaves = q .leaves ∙ ap (λ (o : Outcome SetSays). o .output) (sym e) });
-  face = λ r r′ left left′ p q. (
-    p .answers ∙ ap (λ (o : Outcome SetSays). setFace (o .answer)) e ∙ sym (q .answers),
-    p .leaves ∙ ap (λ (o : Outcome SetSays). o .output) e ∙ sym (q .leaves),
-  );
-}
+-- ---- two calls
+same-set : (frames frames′ out out′ : List ℕ) → ButLoneNumber frames frames′ → out ≡ out′ → setOf frames out ≡ setOf frames′ out′
+same-set frames frames′ out out′ b same =
+    ap (λ (x : List ℕ). setOf x out) (b .buffer)
+    ∙ lone-segment (b .each) (b .rest) frames′ out (b .whole) (b .lone) (subst (λ (x : List ℕ). ButTwoBytes (length (flatten (b .each)) + headSize + numberPlace) x frames′) (b .buffer) (b .but))
+    ∙ ap (λ (x : List ℕ). setOf frames′ x) same
 
 pub lone : LoneSegment
 unfolding storedIn
 lone = record {
-  one = one;
-  others = others;
-  header = λ b b′ l but. same-header b b′ (lone-header b b′ l but);
-  set = λ each rest frames′ out w f but. same-set _ frames′ out (lone-segment each rest frames′ out w f but);
+  one = λ κs message h s l. one (now message) h (sym l);
+  others = λ κs message h s l. others (now message) h (sym l);
+  accepted = λ κs message r s a l. accepted (now message) r a l;
+  outside = λ κs message r s other h out l. header-apart r (Refused 7) (l ∙ number-outside (now message) other h out);
+  header = λ κs κs′ message message′ r r′ s s′ a but l l′.
+      header-apart r r′ (l ∙ lone-header (now message) (now message′) a but ∙ sym l′);
+  headerForC = λ κs κs′ message message′ r r′ s s′ a but l l′. l ∙ ap headerFace (lone-header (now message) (now message′) a but) ∙ sym l′;
+  set = λ κs κs′ frames frames′ out out′ r r′ f f′ after after′ b same l l′.
+      let e = same-set (now frames) (now frames′) (now out) (now out′) b same in (
+        set-apart r r′ (l .answers ∙ ap (λ (o : Outcome (List ℕ) SetSays). o .answer) e ∙ sym (l′ .answers)),
+        l .leaves ∙ ap (λ (o : Outcome (List ℕ) SetSays). o .output) e ∙ sym (l′ .leaves),
+      );
+  setForC = λ κs κs′ frames frames′ out out′ r r′ f f′ after after′ b same l l′.
+      let e = same-set (now frames) (now frames′) (now out) (now out′) b same in (
+        l .answers ∙ ap (λ (o : Outcome (List ℕ) SetSays). setFace (o .answer)) e ∙ sym (l′ .answers),
+        l .leaves ∙ ap (λ (o : Outcome (List ℕ) SetSays). o .output) e ∙ sym (l′ .leaves),
+      );
+  written = λ κs given body out size g b after l one.
+      ap (λ (x : List ℕ). num 2 x (headSize + numberPlace)) (l .leaves) ∙ lone-number given (now body) (now out) size (sym (l .answers)) one;
+  writtenForC = λ κs channel kind sequence date ms body out r c k q d m b after l z one.
+      let g = givenBy channel kind sequence date ms in
+      let v = wrote-for-c g (now body) (now out) r (l .answers) z in
+      ap (λ (x : List ℕ). num 2 x (headSize + numberPlace)) (l .leaves) ∙ lone-number g (now body) (now out) (v .size) (v .is) one;
 }

@@ -1,39 +1,38 @@
 -- Generic laws of an answer by its checks. Assumes nothing.
 use Prim.Native.Nat.{ℕ}
-use mathlib.Core.Path.{_≡_, refl, sym, ap, _∙_}
+use mathlib.Core.Path.{_≡_, refl, sym, ap, subst, _∙_}
 use mathlib.Core.Bool.{Bool, true, false}
 use mathlib.Core.Option.{Option, none, some}
 use mathlib.Core.Logic.{_⊎_, inl, inr, ⊎-elim}
 use mathlib.Core.List.{List, [], _∷_, _++_, append-assoc}
-use lib.Dec.{leb}
-use borrow.Author.Tests.{leb-true}
-use Rattle.wire.specs.Checks.{pick, both, Check, first, decide, AllHold, Blamed}
+use Rattle.wire.specs.Checks.{pick, both, among, Check, first, decide, AllHold, Blamed}
 use Rattle.wire.specs.Answers.{Answer, refused, given, rule, Outcome, outcome, Promise}
 use Rattle.wire.proofs.CheckLaws.{never, both-true, passed, decide-none, decide-some, all-hold, all-hold-join, blame}
-use Rattle.wire.proofs.AnswerLaws.{rule-given, rule-refused, outcome-answer, outcome-refused}
-use Rattle.demands.specs.Notions.{lastNumber, OfTheTable, ByChecks, Kept, KeptLent}
+use Rattle.wire.proofs.AnswerLaws.{rule-given, rule-refused, outcome-answer, outcome-refused, only, only-answer}
+use Rattle.demands.specs.Notions.{table, OfTheTable, ByChecks, Kept, KeptStruct, KeptLent}
 
 -- ---- numbers of the table, by a test that is computed
 abbrev pub inside : List Check → Bool
 inside [] = true
-inside (k ∷ ks) = both (both (leb 1 (k .number)) (leb (k .number) lastNumber)) (inside ks)
+inside (k ∷ ks) = both (among (k .number) table) (inside ks)
 
 pub inside-join : (a b : List Check) → inside a ≡ true → inside b ≡ true → inside (a ++ b) ≡ true
 inside-join [] b p q = q
-inside-join (k ∷ a) b p q =
-    let h = both-true (both (leb 1 (k .number)) (leb (k .number) lastNumber)) (inside a) p in
-    simp (h .0) (inside-join a b (h .1) q)
+inside-join (k ∷ a) b p q = let h = both-true (among (k .number) table) (inside a) p in simp (h .0) (inside-join a b (h .1) q)
 
 first-inside : (ks : List Check) (n : ℕ) → inside ks ≡ true → first ks ≡ some n → OfTheTable n
 first-inside [] n p e = never (cc e)
 first-inside (k ∷ ks) n p e =
-    let h = both-true (both (leb 1 (k .number)) (leb (k .number) lastNumber)) (inside ks) p in
-    let g = both-true (leb 1 (k .number)) (leb (k .number) lastNumber) (h .0) in
-    go (k .broken) e (leb-true 1 (k .number) (g .0), leb-true (k .number) lastNumber (g .1)) (λ q. first-inside ks n (h .1) q)
+    let h = both-true (among (k .number) table) (inside ks) p in
+    go (k .broken) e (h .0) (λ q. first-inside ks n (h .1) q)
   where
     go : (t : Bool) → pick t (some (k .number)) (first ks) ≡ some n → OfTheTable (k .number) → (first ks ≡ some n → OfTheTable n) → OfTheTable n
     go true q own later = let m : k .number ≡ n = cc q in rw (← m) own
     go false q own later = later q
+
+-- 0 is none of them
+pub above-0 : (n : ℕ) → OfTheTable n → n ≡ 0 → ⊥
+above-0 n t e = let z : false ≡ true = subst (λ (k : ℕ). among k table ≡ true) e t in never (cc z)
 
 -- ---- an answer by one list
 pub by-first : {A : Type 0} (ks : List Check) (right : Answer A) → inside ks ≡ true → ((n : ℕ) → right ≡ refused n → first ks ≡ some n)
@@ -93,33 +92,38 @@ module _ {A : Type 0} (ks ls : List Check) (next : Answer A) (i : inside ks ≡ 
     passed = λ v e. let p = went-on v e (first ks) refl in all-hold-join ks ls (all-hold ks (p .0)) (h .passed v (p .1));
   }
 
--- ---- entries: `show` makes an answer that tells what is right, and the crate's own theorem says that no two do
-module _ {R A : Type 0} (tell : R → Answer A) (show : Answer A → R) (back : (a : Answer A) → tell (show a) ≡ a) where
-  pub kept : (ks : List Check) (right : Answer A) → ((a b : R) → tell a ≡ right → tell b ≡ right → a ≡ b) → ByChecks ks right → Kept tell ks right
-  kept ks right only h = record {
-    one = record { the = show right; meets = back right; only = λ r e. only r (show right) e (back right) };
-    byChecks = h;
-  }
+-- ---- entries: `show` makes an answer that tells what is right, and no two tell the same
+module _ {R A : Type 0} (tell : R → Answer A) (show : Answer A → R) (back : (a : Answer A) → tell (show a) ≡ a) (apart : (a b : R) → tell a ≡ tell b → a ≡ b)
+  where
+    pub kept : (ks : List Check) (right : Answer A) → ByChecks ks right → Kept (λ (r : R). tell r ≡ right) tell ks right
+    kept ks right h = record {
+      one = record { the = show right; meets = back right; only = λ r e. only-answer tell apart right r (show right) e (back right) };
+      told = λ r e. e;
+      byChecks = h;
+    }
 
-  pub kept-lent : (ks : List Check) (right : Outcome A) (out : List ℕ)
-      → ((a b : R) (x y : List ℕ) → Promise tell right a x → Promise tell right b y → (a ≡ b) × (x ≡ y)) → ByChecks ks (right .answer)
-      → ((n : ℕ) → right .answer ≡ refused n → right .output ≡ out) → KeptLent tell ks right out
-  kept-lent ks right out only h u =
-      let meets : Promise tell right (show (right .answer)) (right .output) = record { answers = back (right .answer); leaves = refl } in
-      record {
-        one = record {
-          the = (show (right .answer), right .output);
-          meets = meets;
-          only = λ p e. let q = only (p .0) (show (right .answer)) (p .1) (right .output) e meets in λ i. (q .0 i, q .1 i);
-        };
-        byChecks = h;
-        untouched = u;
-      }
+    pub kept-lent : {O : Type 0} (ks : List Check) (right : Outcome O A) (out : O) → ByChecks ks (right .answer)
+        → ((n : ℕ) → right .answer ≡ refused n → right .output ≡ out) → KeptLent (Promise tell right) tell ks right out
+    kept-lent ks right out h u =
+        let meets : Promise tell right (show (right .answer)) (right .output) = record { answers = back (right .answer); leaves = refl } in
+        record {
+          one = record {
+            the = (show (right .answer), right .output);
+            meets = meets;
+            only = λ p e. let q = only tell apart right (p .0) (show (right .answer)) (p .1) (right .output) e meets in λ i. (q .0 i, q .1 i);
+          };
+          told = λ r after e. e;
+          byChecks = h;
+          untouched = λ r after n e q. e .leaves ∙ u n q;
+        }
+
+pub kept-struct : {R A : Type 0} (show : Answer A → R) (ks : List Check) (right : Answer A) → ByChecks ks right → KeptStruct (λ (r : R). r ≡ show right) show ks right
+kept-struct show ks right h = record { one = record { the = show right; meets = refl; only = λ r e. e }; shown = λ r e. e; byChecks = h }
 
 -- an outcome by one list
-pub by-outcome : {A : Type 0} (ks : List Check) (out : List ℕ) (v : A) (after : List ℕ) → inside ks ≡ true → ByChecks ks (outcome ks out v after .answer)
+pub by-outcome : {O A : Type 0} (ks : List Check) (out : O) (v : A) (after : O) → inside ks ≡ true → ByChecks ks (outcome ks out v after .answer)
 by-outcome ks out v after i = by-same ks (outcome ks out v after .answer) (rule ks v) (outcome-answer ks out v after) (by-rule ks v i)
 
-pub outcome-untouched : {A : Type 0} (ks : List Check) (out : List ℕ) (v : A) (after : List ℕ) (n : ℕ) → outcome ks out v after .answer ≡ refused n
+pub outcome-untouched : {O A : Type 0} (ks : List Check) (out : O) (v : A) (after : O) (n : ℕ) → outcome ks out v after .answer ≡ refused n
     → outcome ks out v after .output ≡ out
-outcome-untouched {A} ks out v after n e = ap (λ (o : Outcome A). o .output) (outcome-refused ks out v after n e)
+outcome-untouched {O} {A} ks out v after n e = ap (λ (o : Outcome O A). o .output) (outcome-refused ks out v after n e)

@@ -1,165 +1,112 @@
 -- Demand 1. Assumes nothing.
-use Prim.Native.Nat.{ℕ}
-use mathlib.Core.Path.{_≡_, refl, ap}
-use mathlib.Core.Bool.{true}
-use mathlib.Core.List.{List, [], _∷_, _++_}
-use lib.Dec.{eqb, ltb}
-use lib.ListN.{length, getD}
-use Rattle.wire.specs.Answers.{rule, Promise}
+use Prim.Native.Nat.{ℕ, _+_}
+use mathlib.Core.Path.{refl}
+use mathlib.Core.List.{List, _++_}
+use lib.Dec.{eqb}
+use lib.ListN.{length, drop}
+use denote.Ref.{now}
+use Rattle.wire.specs.Numbers.{num}
+use Rattle.wire.specs.Answers.{given, numberOf}
 use Rattle.frame.specs.Session.{frameAt}
 use Rattle.frame.specs.Told.{tellFrame}
-use Rattle.frame.proofs.OneAnswer.{frame-at-only}
+use Rattle.frame.proofs.Welds.{frame-apart}
 use Rattle.header.specs.Header.{headerIn, headerChecks, headerOf}
 use Rattle.header.specs.Told.{tellHeader}
-use Rattle.header.proofs.OneAnswer.{read-header-only}
-use Rattle.set_spec.specs.Walk.{setOf}
-use Rattle.set.specs.Told.{tellSet}
-use Rattle.set.proofs.OneAnswer.{read-set-only}
-use Rattle.salvage_spec.specs.Walk.{keptOf, skippedOf}
-use Rattle.salvage_spec.specs.Salvage.{Salvage, report, salvageOf}
-use Rattle.salvage.specs.Told.{Salvages}
-use Rattle.salvage.proofs.OneAnswer.{salvage-only}
+use Rattle.header.proofs.Welds.{header-apart}
+use Rattle.set_spec.specs.Segment.{ownChecks, placedIn, segmentAt}
+use Rattle.set_segment.specs.Told.{tellSegment}
+use Rattle.set_segment.proofs.Welds.{segment-apart}
 use Rattle.radial_spec.specs.Refusal.{radialChecks, radialOf}
-use Rattle.radial_spec.specs.Lookups.{momentOf, blockOf}
-use Rattle.radial.specs.Told.{shown, tellMoment, headShown, tellBlock, blockShown}
-use Rattle.radial.proofs.OneAnswer.{moment-only, block-only}
+use Rattle.radial_spec.specs.Lookups.{momentOf, codedOf, blockOf}
+use Rattle.radial_heading.specs.Told.{headingShown}
+use Rattle.radial.specs.Told.{shown, tellMoment, headShown, tellCoded, codeShown, tellBlock, blockShown}
+use Rattle.radial.proofs.Welds.{moment-apart, code-apart, block-apart}
 use Rattle.gate_value.specs.Value.{valueChecks, valueOf, gateOf}
 use Rattle.gate_value.specs.Told.{tellGate}
-use Rattle.gate_value.proofs.OneAnswer.{value-only, gate-value-only}
-use Rattle.wire.specs.Numbers.{num}
-use Rattle.wire.specs.Tables.{render}
-use Rattle.wire.specs.Checks.{Check, check}
-use Rattle.wire.specs.Sizes.{bytes}
-use Rattle.wire.specs.Writing.{tellWrite, filled, written}
-use Rattle.wire.specs.declared.WriteAnswer.{WriteAnswer}
-use Rattle.writer_head.specs.declared.Given.{Given}
-use Rattle.writer.specs.Writing.{framesOf, writeChecks, writeOf}
-use Rattle.writer.proofs.OneAnswer.{write-message-only}
-use Rattle.request.specs.Request.{requestTable, requestChecks, requestOf, requestWritten}
+use Rattle.gate_value.proofs.Welds.{gate-apart}
+use Rattle.request.specs.Request.{requestChecks, requestOf}
 use Rattle.request.specs.Told.{tellRequest}
-use Rattle.request.proofs.OneAnswer.{read-request-only, write-request-only}
-use Rattle.censor.specs.Censor.{bodyOf, count, fields, bodyChecks, listOf, listChecks, censorOf, censorWritten}
+use Rattle.request.proofs.Welds.{request-apart}
+use Rattle.censor.specs.Censor.{count, fields, bodyChecks, listOf, censorOf}
 use Rattle.censor.specs.Told.{shown as zonesShown}
-use Rattle.censor.proofs.OneAnswer.{write-censor-only}
 use Rattle.map_spec.specs.Map.{codeAt}
 use Rattle.map_spec.specs.Reading.{segmentsIn, mapChecks, mapIn, summary, askedChecks, summaryOf, codeOf}
 use Rattle.map.specs.Told.{tellMap, tellCode}
-use Rattle.map.proofs.OneAnswer.{check-map-only, code-at-only}
-use Rattle.compare_spec.specs.Differences.{differences}
-use Rattle.compare_spec.specs.Comparing.{comparison, halfwords, comparisonOf, roomChecks}
-use Rattle.compare.specs.Told.{tellCompare}
-use Rattle.compare.proofs.OneAnswer.{compare-only}
-use Rattle.demands.specs.Notions.{ByChecks, KeptLent, KeptBoth}
-use Rattle.demands.specs.Orders.{streamChecks, setChecks, momentChecks, gateChecks, writerChecks, comparisonChecks, salvageChecks}
+use Rattle.map.proofs.Welds.{map-apart, code-apart as map-code-apart}
+use Rattle.demands.specs.Notions.{ByChecks}
+use Rattle.demands.specs.Orders.{streamChecks, momentChecks, codedChecks, gateChecks}
 use Rattle.demands.specs.Demand1.{Demand1}
-use Rattle.demands.proofs.ByChecksLaws.{inside, inside-join, by-rule, by-same, by-outcome, outcome-untouched, kept, kept-lent}
+use Rattle.demands.proofs.ByChecksLaws.{inside-join, by-rule, kept, kept-struct}
 use Rattle.demands.proofs.Inside.{regions-inside, map-inside}
-use Rattle.demands.proofs.Shows.{showFrame, frame-back, showHeader, header-back, showSet, set-back, showMoment, moment-back, showBlock, block-back}
-use Rattle.demands.proofs.Shows.{showWrite, write-back, showRequest, request-back, showGate, gate-back, showMap, map-back, showCode, code-back}
-use Rattle.demands.proofs.Shows.{showCompare, compare-back, showSalvage, salvage-back}
-use Rattle.demands.proofs.Readers.{by-stream, by-set, set-untouched, by-radial, by-moment, by-block, by-value, by-gate}
-use Rattle.demands.proofs.SalvagedLaws.{salvaged-answer, salvaged-refused}
+use Rattle.demands.proofs.Shows.{showFrame, frame-back, showHeader, header-back, showSegment, segment-back, showMoment, moment-back}
+use Rattle.demands.proofs.Shows.{showCoded, coded-back, showBlock, block-back, showRequest, request-back, showGate, gate-back}
+use Rattle.demands.proofs.Shows.{showMap, map-back, showCode, code-back}
+use Rattle.demands.proofs.Readers.{by-stream, by-radial, by-moment, by-coded, by-block, by-value, by-gate}
+use Rattle.demands.proofs.Parts.{kept-gates, kept-lent-gates}
+use Rattle.demands.proofs.Lent.{set-kept, write-kept, request-kept, censor-kept, compare-kept, salvage-kept}
 
-by-header : (b : List ℕ) → ByChecks (headerChecks b) (headerOf b)
+pub by-header : (b : List ℕ) → ByChecks (headerChecks b) (headerOf b)
 unfolding headerOf
 by-header b = by-rule (headerChecks b) (headerIn b) refl
 
-by-query : (b : List ℕ) (elevation azimuth kilometre : ℕ)
+by-segment : (b : List ℕ) (place : ℕ) → ByChecks (ownChecks (drop place b)) (segmentAt b place)
+unfolding segmentAt
+by-segment b place = by-rule (ownChecks (drop place b)) (placedIn (drop place b) place) refl
+
+pub by-map : (b : List ℕ) → ByChecks (mapChecks b) (summaryOf b)
+by-map b = by-rule (mapChecks b) (summary (mapIn b)) (map-inside b)
+
+pub by-query : (b : List ℕ) (elevation azimuth kilometre : ℕ)
     → ByChecks (mapChecks b ++ askedChecks (segmentsIn b) elevation azimuth kilometre) (codeOf b elevation azimuth kilometre)
 by-query b elevation azimuth kilometre =
     by-rule (mapChecks b ++ askedChecks (segmentsIn b) elevation azimuth kilometre) (codeAt (mapIn b) elevation azimuth kilometre)
     (inside-join (mapChecks b) (askedChecks (segmentsIn b) elevation azimuth kilometre) (map-inside b) refl)
 
-compare-kept : (old new out : List ℕ) → KeptLent tellCompare (comparisonChecks old new (length out)) (comparisonOf old new out) out
-compare-kept old new out =
-    let all = comparisonChecks old new (length out) in
-    let m = mapIn old in
-    let n = mapIn new in
-    let list = halfwords (differences m n) in
-    let maps : inside (mapChecks old ++ mapChecks new) ≡ true = inside-join (mapChecks old) (mapChecks new) (map-inside old) (map-inside new) in
-    kept-lent tellCompare showCompare compare-back all (comparisonOf old new out) out (compare-only old new out)
-    (by-outcome all out (comparison m n) (filled list out) (inside-join (mapChecks old ++ mapChecks new) (roomChecks list out) maps refl))
-    (outcome-untouched all out (comparison m n) (filled list out))
-
--- ---- the writers
--- one law for all three: the checks, then 13
-written-kept : (ks : List Check) (whole out : List ℕ) → inside ks ≡ true
-    → ((a b : WriteAnswer) (x y : List ℕ) → Promise tellWrite (written ks whole out) a x → Promise tellWrite (written ks whole out) b y → (a ≡ b) × (x ≡ y))
-    → KeptLent tellWrite (writerChecks ks whole (length out)) (written ks whole out) out
-written-kept ks whole out i only =
-    let all = writerChecks ks whole (length out) in
-    kept-lent tellWrite showWrite write-back all (written ks whole out) out only
-    (by-outcome all out (bytes (length whole)) (filled whole out) (inside-join ks (check 13 (ltb (length out) (length whole)) ∷ []) i refl))
-    (outcome-untouched all out (bytes (length whole)) (filled whole out))
-
-write-kept : (g : Given) (body out : List ℕ) → KeptLent tellWrite (writerChecks (writeChecks g body) (framesOf g body) (length out)) (writeOf g body out) out
-unfolding writeOf
-write-kept g body out = written-kept (writeChecks g body) (framesOf g body) out refl (write-message-only g body out)
-
-by-request : (b : List ℕ) → ByChecks (requestChecks (eqb (length b) 2) (num 2 b 0)) (requestOf b)
+pub by-request : (b : List ℕ) → ByChecks (requestChecks (eqb (length b) 2) (num 2 b 0)) (requestOf b)
 unfolding requestOf
 by-request b = by-rule (requestChecks (eqb (length b) 2) (num 2 b 0)) (num 2 b 0) refl
 
-request-kept : (list out : List ℕ)
-    → KeptLent tellWrite (writerChecks (requestChecks (eqb (length list) 1) (getD list 0 0)) (render (requestTable (getD list 0 0))) (length out)) (requestWritten list out) out
-unfolding requestWritten
-request-kept list out =
-    written-kept (requestChecks (eqb (length list) 1) (getD list 0 0)) (render (requestTable (getD list 0 0))) out refl (write-request-only list out)
-
-by-censor : (b : List ℕ) → ByChecks (bodyChecks b) (censorOf b)
+pub by-censor : (b : List ℕ) → ByChecks (bodyChecks b) (censorOf b)
 unfolding censorOf
 by-censor b = by-rule (bodyChecks b) (listOf b) (regions-inside (count (listOf b)) (fields (listOf b)))
 
-censor-kept : (list out : List ℕ) → KeptLent tellWrite (writerChecks (listChecks list) (bodyOf list) (length out)) (censorWritten list out) out
-unfolding censorWritten
-censor-kept list out = written-kept (listChecks list) (bodyOf list) out (regions-inside (count list) (fields list)) (write-censor-only list out)
-
--- ---- two outputs
-salvage-kept : (b out runs : List ℕ) → KeptBoth (Salvages (salvageOf b out runs)) (salvageChecks b out runs) (salvageOf b out runs) out runs
-unfolding salvageOf
-salvage-kept b out runs =
-    let frames = keptOf b in
-    let skipped = skippedOf b in
-    let all = salvageChecks b out runs in
-    let right = salvageOf b out runs in
-    let shown = showSalvage (right .answer) in
-    let meets : Salvages right shown (right .output) (right .listed) = record { answers = salvage-back (right .answer); leaves = refl; lists = refl } in
-    record {
-      one = record {
-        the = (shown, right .output, right .listed);
-        meets = meets;
-        only = λ p e. let q = salvage-only b out runs (p .0) shown (p .1) (right .output) (p .2) (right .listed) e meets in λ i. (q .0 i, q .1 i, q .2 i);
-      };
-      byChecks = by-same all (right .answer) (rule all (report frames skipped)) (salvaged-answer frames skipped out runs) (by-rule all (report frames skipped) refl);
-      untouched = λ n e.
-          let q = salvaged-refused frames skipped out runs n e in
-          (ap (λ (s : Salvage). s .output) q, ap (λ (s : Salvage). s .listed) q);
-    }
-
 pub demand1 : Demand1
 demand1 = record {
-  frame = λ stream place.
-      kept tellFrame showFrame frame-back (streamChecks stream place) (frameAt stream place) (frame-at-only stream place) (by-stream stream place);
-  header = λ message. kept tellHeader showHeader header-back (headerChecks message) (headerOf message) (read-header-only message) (by-header message);
-  set = λ frames out.
-      kept-lent tellSet showSet set-back (setChecks frames (length out)) (setOf frames out) out (read-set-only frames out) (by-set frames out) (set-untouched frames out);
-  write = write-kept;
-  radial = λ body. (record { the = shown (radialOf body); meets = refl; only = λ r e. e }, by-radial body);
-  moment = λ body name.
-      kept tellMoment showMoment moment-back (momentChecks body name) (headShown (momentOf body name)) (moment-only body name) (by-moment body name);
-  block = λ body k. kept tellBlock showBlock block-back (radialChecks body) (blockShown (blockOf body k)) (block-only body k) (by-block body k);
-  gate = λ body name gate. kept tellGate showGate gate-back (gateChecks body name gate) (gateOf body name gate) (gate-value-only body name gate) (by-gate body name gate);
-  value = λ code scale offset.
-      kept tellGate showGate gate-back (valueChecks scale offset) (valueOf code scale offset) (value-only code scale offset) (by-value code scale offset);
-  request = λ body.
-      kept tellRequest showRequest request-back (requestChecks (eqb (length body) 2) (num 2 body 0)) (requestOf body) (read-request-only body) (by-request body);
-  writeRequest = request-kept;
-  censor = λ body. (record { the = zonesShown (censorOf body); meets = refl; only = λ r e. e }, by-censor body);
-  writeCensor = censor-kept;
-  map = λ body. kept tellMap showMap map-back (mapChecks body) (summaryOf body) (check-map-only body) (by-rule (mapChecks body) (summary (mapIn body)) (map-inside body));
-  code = λ body elevation azimuth kilometre.
-      kept tellCode showCode code-back (mapChecks body ++ askedChecks (segmentsIn body) elevation azimuth kilometre) (codeOf body elevation azimuth kilometre)
-      (code-at-only body elevation azimuth kilometre) (by-query body elevation azimuth kilometre);
-  compare = compare-kept;
-  salvage = salvage-kept;
+  frame = λ κs stream place s.
+      kept tellFrame showFrame frame-back frame-apart (streamChecks (now stream) place) (frameAt (now stream) place) (by-stream (now stream) place);
+  header = λ κs message s.
+      kept tellHeader showHeader header-back header-apart (headerChecks (now message)) (headerOf (now message)) (by-header (now message));
+  segment = λ κs frames at s.
+      kept tellSegment showSegment segment-back segment-apart (ownChecks (drop at (now frames))) (segmentAt (now frames) at) (by-segment (now frames) at);
+  set = λ κs frames out frames′. set-kept (now frames) (now out);
+  write = λ κs given body out given′ body′. write-kept given (now body) (now out);
+  checkRadial = λ κs body s. kept-struct numberOf (radialChecks (now body)) (radialOf (now body)) (by-radial (now body));
+  heading = λ κs body s. kept-struct headingShown (radialChecks (now body)) (radialOf (now body)) (by-radial (now body));
+  radial = λ κs body s. kept-struct shown (radialChecks (now body)) (radialOf (now body)) (by-radial (now body));
+  moment = λ κs body name s.
+      kept tellMoment showMoment moment-back moment-apart (momentChecks (now body) (num 4 name 0)) (headShown (momentOf (now body) (num 4 name 0)))
+      (by-moment (now body) (num 4 name 0));
+  block = λ κs body k s. kept tellBlock showBlock block-back block-apart (radialChecks (now body)) (blockShown (blockOf (now body) k)) (by-block (now body) k);
+  code = λ κs body name gate s.
+      kept tellCoded showCoded coded-back code-apart (codedChecks (now body) (num 4 name 0) gate) (codeShown (codedOf (now body) (num 4 name 0) gate))
+      (by-coded (now body) (num 4 name 0) gate);
+  gates = λ κs body name s. kept-gates body (num 4 name 0);
+  lent = kept-lent-gates;
+  gate = λ κs body name gate s.
+      kept tellGate showGate gate-back gate-apart (gateChecks (now body) (num 4 name 0) gate) (gateOf (now body) (num 4 name 0) gate)
+      (by-gate (now body) (num 4 name 0) gate);
+  value = λ κs code scale offset s.
+      kept tellGate showGate gate-back gate-apart (valueChecks scale offset) (valueOf code scale offset) (by-value code scale offset);
+  request = λ κs body s.
+      kept tellRequest showRequest request-back request-apart (requestChecks (eqb (length (now body)) 2) (num 2 (now body) 0)) (requestOf (now body))
+      (by-request (now body));
+  writeRequest = λ κs list out list′. request-kept (now list) (now out);
+  censor = λ κs body s. kept-struct zonesShown (bodyChecks (now body)) (censorOf (now body)) (by-censor (now body));
+  writeCensor = λ κs list out list′. censor-kept (now list) (now out);
+  map = λ κs body s. kept tellMap showMap map-back map-apart (mapChecks (now body)) (summaryOf (now body)) (by-map (now body));
+  mapCode = λ κs body elevation azimuth kilometre s.
+      kept tellCode showCode code-back map-code-apart (mapChecks (now body) ++ askedChecks (segmentsIn (now body)) elevation azimuth kilometre)
+      (codeOf (now body) elevation azimuth kilometre) (by-query (now body) elevation azimuth kilometre);
+  compare = λ κs old new out old′ new′. compare-kept (now old) (now new) (now out);
+  salvage = λ κs buf out runs buf′. salvage-kept (now buf) (now out) (now runs);
 }

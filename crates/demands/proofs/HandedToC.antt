@@ -5,10 +5,11 @@ use mathlib.Core.Path.{_≡_, refl, sym, ap, _∙_}
 use mathlib.Core.List.{List, [], _∷_, _++_, map, append-assoc}
 use lib.ListN.{length, getD, take, length-append}
 use lib.Seq.{getD-append-seam}
-use Rattle.wire.specs.Answers.{Answer, given}
+use denote.Ref.{now}
+use Rattle.wire.specs.Answers.{Answer, given, onward}
 use Rattle.radial_spec.specs.Description.{constants, Moment, Description, blockCount, RVOL, RELV, RRAD}
 use Rattle.radial_spec.specs.Refusal.{radialOf}
-use Rattle.radial_spec.specs.Lookups.{onward, Asked, noSuch, lies, blocks, constantLying, momentLying, blockOf}
+use Rattle.radial_spec.specs.Lookups.{Asked, noSuch, lies, blocks, constantLying, momentLying, blockOf}
 use Rattle.radial.specs.Told.{headOf, shown}
 use Rattle.radial.specs.Theorems.{momentFrom, blockFrom, handed}
 use Rattle.radial.proofs.HandedLaws.{heads-taken, handed-is}
@@ -42,9 +43,10 @@ run b before (m ∷ ms) =
     momentOne : List ℕ → Asked → Moment
     momentOne c a = momentFromC c (blockFace (given a))
 
-pub handed-to-c : HandedToC
+-- by the faces
+faces-handed : (b : List ℕ) (d : Description) → radialOf b ≡ given d → fromC (radialFace (radialOf b)) (λ k. blockFace (blockOf b k)) b ≡ d
 unfolding blockOf
-handed-to-c b d e =
+faces-handed b d e =
     let k = constants in
     let before = noSuch ∷ lies (constantLying RVOL (d .volumeBlock)) ∷ lies (constantLying RELV (d .elevationBlock)) ∷ lies (constantLying RRAD (d .radialBlock)) ∷ [] in
     let count : blockCount d - k ≡ length (d .moments) = omega arith in
@@ -75,3 +77,8 @@ handed-to-c b d e =
       moments = moments i;
     })
     ∙ cc whole
+
+-- structs that are the faces, one by one
+pub handed-to-c : HandedToC
+handed-to-c κs κs′ body r s s′ block d e u v =
+    (λ i. fromC (u i) (λ k. v k i) (now body)) ∙ faces-handed (now body) d e

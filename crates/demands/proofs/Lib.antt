@@ -1,10 +1,13 @@
 -- The proofs of what specs/ states.
 pub mod CasesHold
 pub mod ByChecksLaws
+pub mod ComesLaws
 pub mod Inside
 pub mod Shows
 pub mod Readers
-pub mod SalvagedLaws
+pub mod Parts
+pub mod Lent
+pub mod Written
 pub mod First
 pub mod Third
 pub mod Painted
@@ -14,3 +17,4 @@ pub mod HandedToC
 pub mod Alone
 pub mod TwoMapsHold
 pub mod DamagedRecordingHolds
+pub mod FiguresHold

@@ -9,17 +9,18 @@ use lib.ListN.{length, take, drop, length-drop}
 use lib.Seq.{take-take, drop-drop}
 use borrow.Author.Tests.{ltb-false}
 use denote.Ref.{RefT, now}
+use Rattle.wire.specs.Numbers.{num}
 use Rattle.wire.specs.Checks.{pick}
-use Rattle.wire.specs.Answers.{Answer, given, rule}
+use Rattle.wire.specs.Answers.{Answer, given, rule, onward}
 use Rattle.wire.proofs.CheckLaws.{never, all-hold}
 use Rattle.wire.proofs.AnswerLaws.{rule-given}
 use Rattle.frame.specs.Session.{end, frame, frameChecks, frameIn, frameAt}
 use Rattle.frame.specs.declared.Frame.{Frame}
-use Rattle.header.specs.Header.{headerIn, headerChecks, headerOf}
+use Rattle.header.specs.Header.{headerSize, headerIn, headerChecks, headerOf}
 use Rattle.header.specs.declared.Header.{Header}
-use Rattle.radial_spec.specs.Description.{Moment, gateBytes}
-use Rattle.radial_spec.specs.Lookups.{onward, momentOf, Part, gatesIn, gatesOf, bytesIn}
-use Rattle.radial_spec.proofs.Naming.{found-lies}
+use Rattle.radial_spec.specs.Description.{momentHead, Moment, gateBytes}
+use Rattle.radial_spec.specs.Lookups.{momentOf, Part, gatesIn, gatesOf, bytesIn}
+use Rattle.radial_spec.proofs.Naming.{found-lies, gate-words}
 use Rattle.radial_gates.specs.Told.{partOf, LiesAt}
 use Rattle.demands.specs.Wall.{onTheWall, Wall}
 
@@ -80,18 +81,20 @@ same-place : (x : RefT (List ℕ)) (r : RefT (List ℕ)) (p q : Part) → p .pla
 same-place x r p q a b h = let e : p ≡ q = λ i. record { place = a i; size = b i } in rw (← e) h
 
 pub wall : Wall
-wall buffer message body gates place name f h m w =
+wall κs₁ κs₂ κs₃ s₁ s₂ s₃ buffer message body gates place name f h m w =
+    let n = num 4 name 0 in
     let F = framed-so (now buffer) place f (w .framed) in
-    let sixteen : 16 ≤ f .size .0 = rw (← w .taken .size) (headed-so (now message) h (w .headed)) in
-    let lies = found-lies (now body) name m (w .bytes) (w .found) in
-    let part = gates-so (now body) name m (w .found) in
-    let fits : m .place + 28 + gateBytes m ≤ f .size .0 - 16 = omega (arith, lies .2, w .after .size) in
+    let sixteen : headerSize ≤ f .size .0 = rw (← w .taken .size) (headed-so (now message) h (w .headed)) in
+    let lies = found-lies (now body) n m (w .bytes) (w .found) in
+    let part = gates-so (now body) n m (w .found) in
+    let fits : m .place + momentHead + gateBytes m ≤ f .size .0 - headerSize = omega (arith, lies .2, w .after .size) in
     let lent : LiesAt body gates (gatesIn m) = rw (← part) (w .lent) in
-    let inMessage = within message body gates (record { place = 16; size = f .size .0 - 16 }) (gatesIn m) (w .after) lent (omega arith) in
+    let inMessage = within message body gates (record { place = headerSize; size = f .size .0 - headerSize }) (gatesIn m) (w .after) lent (omega arith) in
     let inBuffer =
-    within buffer message gates (record { place = f .start; size = f .size .0 }) (record { place = 16 + (m .place + 28); size = gateBytes m }) (w .taken) inMessage (omega arith)
-    in (
-      same-place buffer gates (record { place = f .start + (16 + (m .place + 28)); size = gateBytes m }) (onTheWall place m) (omega (arith, F .starts)) refl inBuffer,
+    within buffer message gates (record { place = f .start; size = f .size .0 }) (record { place = headerSize + (m .place + momentHead); size = gateBytes m }) (w .taken) inMessage
+    (omega arith) in (
+      same-place buffer gates (record { place = f .start + (headerSize + (m .place + momentHead)); size = gateBytes m }) (onTheWall place m) (omega (arith, F .starts)) refl inBuffer,
       omega (arith, F .ends),
       omega (arith, F .ends, F .inside),
+      lent .bytes ∙ gate-words (now body) n m (w .bytes) (w .found) .1,
     )

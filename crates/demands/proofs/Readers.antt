@@ -7,18 +7,18 @@ use mathlib.Core.List.{List, [], _∷_, _++_, map, append-nil}
 use lib.Dec.{leb, eqb}
 use lib.ListN.{length, getD, drop}
 use Rattle.wire.specs.Checks.{pick, Check, check, decide}
-use Rattle.wire.specs.Answers.{Answer, refused, given, rule, outcome}
+use Rattle.wire.specs.Answers.{Answer, refused, given, rule, onward}
 use Rattle.wire.proofs.CheckLaws.{never, decide-map}
 use Rattle.frame.specs.Session.{end, frame, frameChecks, frameIn, frameAt, after}
 use Rattle.set_spec.specs.Segment.{Segment, segmentIn}
 use Rattle.set_spec.specs.Walk.{walk, finish, setOf, turnChecks, endChecks}
 use Rattle.radial_spec.specs.Description.{Moment, Description, gates}
 use Rattle.radial_spec.specs.Refusal.{description, radialChecks, radialOf}
-use Rattle.radial_spec.specs.Lookups.{onward, momentNamed, momentOf, Asked, noSuch, lies, blocks, blockOf}
-use Rattle.radial.specs.Told.{headOf, headShown, toldOf, blockShown}
-use Rattle.gate_value.specs.Value.{Worth, valueChecks, worthOf, valueOf, gateIn, gateOf}
+use Rattle.radial_spec.specs.Lookups.{momentNamed, momentOf, Coded, codedIn, codedOf, Asked, noSuch, lies, blocks, blockOf, gatesIn, gatesOf}
+use Rattle.radial.specs.Told.{headOf, headShown, codeShown, toldOf, blockShown}
+use Rattle.gate_value.specs.Value.{valueChecks, worthOf, valueOf, gateIn, gateOf}
 use Rattle.demands.specs.Notions.{ByChecks}
-use Rattle.demands.specs.Orders.{streamChecks, turnsChecks, setChecks, missing, momentChecks, codeChecks, gateChecks}
+use Rattle.demands.specs.Orders.{streamChecks, turnsChecks, setChecks, missing, ofMoment, askedOf, momentChecks, codedChecks, gateChecks}
 use Rattle.demands.proofs.ByChecksLaws.{by-first, by-rule, by-same, by-then, by-outcome, outcome-untouched}
 use Rattle.demands.proofs.Inside.{radial-inside}
 
@@ -82,25 +82,54 @@ module _ {A : Type 0} (f : Description → Answer A) (ls : List Check) (b : List
       (decide-map (λ (a : Answer Description). onward a f) (radialChecks b) refused (given (description b)))
       (by-then (radialChecks b) ls (f (description b)) (radial-inside b) h)
 
-by-name : (name : ℕ) (ms : List Moment) → ByChecks (check 21 (missing name ms) ∷ []) (headShown (momentNamed name ms))
-by-name name [] = by-first (check 21 true ∷ []) (refused 21) refl (λ n e. let q : 21 ≡ n = cc e in ap some q) (λ v e. never (cc e))
-by-name name (m ∷ ms) = go (eqb (m .name) name) (by-name name ms)
-  where
-    go : (t : Bool) → ByChecks (check 21 (missing name ms) ∷ []) (headShown (momentNamed name ms))
-        → ByChecks (check 21 (pick t false (missing name ms)) ∷ []) (headShown (pick t (given m) (momentNamed name ms)))
-    go true h = by-first (check 21 false ∷ []) (given (headOf m)) refl (λ n e. never (cc e)) (λ v e. refl)
-    go false h = h
+-- what is asked of the moment with a name
+module _ {A : Type 0} (g : Moment → Answer A) (own : Moment → List Check) (h : (m : Moment) → ByChecks (own m) (g m)) where
+  by-name : (name : ℕ) (ms : List Moment) → ByChecks (check 21 (missing name ms) ∷ ofMoment (momentNamed name ms) own) (onward (momentNamed name ms) g)
+  by-name name [] = by-first (check 21 true ∷ []) (refused 21) refl (λ n e. let q : 21 ≡ n = cc e in ap some q) (λ v e. never (cc e))
+  by-name name (m ∷ ms) = go (eqb (m .name) name) (by-name name ms)
+    where
+      go : (t : Bool) → ByChecks (check 21 (missing name ms) ∷ ofMoment (momentNamed name ms) own) (onward (momentNamed name ms) g)
+          → ByChecks (check 21 (pick t false (missing name ms)) ∷ ofMoment (pick t (given m) (momentNamed name ms)) own)
+          (onward (pick t (given m) (momentNamed name ms)) g)
+      go true i = by-then (check 21 false ∷ []) (own m) (g m) refl (h m)
+      go false i = i
 
-head-onward : (a : Answer Description) (f : Description → Answer Moment) → headShown (onward a f) ≡ onward a (λ d. headShown (f d))
-head-onward (refused n) f = refl
-head-onward (given d) f = refl
+  twice : (a : Answer Description) (f : Description → Answer Moment) → onward (onward a f) g ≡ onward a (λ d. onward (f d) g)
+  twice (refused n) f = refl
+  twice (given d) f = refl
+
+  pub by-named : (b : List ℕ) (name : ℕ) → ByChecks (askedOf b name own) (onward (momentOf b name) g)
+  unfolding momentOf
+  by-named b name =
+      by-same (askedOf b name own) (onward (onward (radialOf b) (λ d. momentNamed name (d .moments))) g)
+      (onward (radialOf b) (λ d. onward (momentNamed name (d .moments)) g)) (twice (radialOf b) (λ d. momentNamed name (d .moments)))
+      (by-asked (λ d. onward (momentNamed name (d .moments)) g)
+      (check 21 (missing name (description b .moments)) ∷ ofMoment (momentNamed name (description b .moments)) own) b
+      (by-name name (description b .moments)))
+
+head-is : (a : Answer Moment) → headShown a ≡ onward a (λ m. given (headOf m))
+head-is (refused n) = refl
+head-is (given m) = refl
 
 pub by-moment : (b : List ℕ) (name : ℕ) → ByChecks (momentChecks b name) (headShown (momentOf b name))
-unfolding momentOf
 by-moment b name =
-    by-same (momentChecks b name) (headShown (onward (radialOf b) (λ d. momentNamed name (d .moments)))) (onward (radialOf b) (λ d. headShown (momentNamed name (d .moments))))
-    (head-onward (radialOf b) (λ d. momentNamed name (d .moments)))
-    (by-asked (λ d. headShown (momentNamed name (d .moments))) (check 21 (missing name (description b .moments)) ∷ []) b (by-name name (description b .moments)))
+    by-same (momentChecks b name) (headShown (momentOf b name)) (onward (momentOf b name) (λ m. given (headOf m))) (head-is (momentOf b name))
+    (by-named (λ m. given (headOf m)) (λ m. []) (λ m. by-rule [] (headOf m) refl) b name)
+
+pub by-gates : (b : List ℕ) (name : ℕ) → ByChecks (momentChecks b name) (gatesOf b name)
+unfolding gatesOf
+by-gates b name = by-named (λ m. given (gatesIn m)) (λ m. []) (λ m. by-rule [] (gatesIn m) refl) b name
+
+-- what is shown of a code is refused as it is
+code-shown : (ks : List Check) (a : Answer Coded) → ByChecks ks a → ByChecks ks (codeShown a)
+code-shown ks (refused n) h = record { numbered = λ k e. h .numbered k (cc e); blamed = λ k e. h .blamed k (cc e); passed = λ v e. never (cc e) }
+code-shown ks (given c) h = record { numbered = λ k e. never (cc e); blamed = λ k e. never (cc e); passed = λ v e. h .passed c refl }
+
+pub by-coded : (b : List ℕ) (name gate : ℕ) → ByChecks (codedChecks b name gate) (codeShown (codedOf b name gate))
+unfolding codedOf
+by-coded b name gate =
+    code-shown (codedChecks b name gate) (codedOf b name gate)
+    (by-named (λ m. codedIn m gate) (λ m. check 21 (leb (gates m) gate) ∷ []) (λ m. by-rule (check 21 (leb (gates m) gate) ∷ []) _ refl) b name)
 
 block-onward : (a : Answer Description) (f : Description → Asked) → blockShown (onward a (λ d. given (f d))) ≡ onward a (λ d. given (toldOf (f d)))
 block-onward (refused n) f = refl
@@ -121,29 +150,10 @@ pub by-value : (code scale offset : ℕ) → ByChecks (valueChecks scale offset)
 unfolding valueOf
 by-value code scale offset = by-rule (valueChecks scale offset) (worthOf code scale offset) refl
 
-by-code : (name gate : ℕ) (ms : List Moment)
-    → ByChecks (check 21 (missing name ms) ∷ codeChecks (momentNamed name ms) gate) (onward (momentNamed name ms) (λ m. gateIn m gate))
-by-code name gate [] = by-first (check 21 true ∷ []) (refused 21) refl (λ n e. let q : 21 ≡ n = cc e in ap some q) (λ v e. never (cc e))
-by-code name gate (m ∷ ms) = go (eqb (m .name) name) (by-code name gate ms)
-  where
-    go : (t : Bool) → ByChecks (check 21 (missing name ms) ∷ codeChecks (momentNamed name ms) gate) (onward (momentNamed name ms) (λ x. gateIn x gate))
-        → ByChecks (check 21 (pick t false (missing name ms)) ∷ codeChecks (pick t (given m) (momentNamed name ms)) gate)
-        (onward (pick t (given m) (momentNamed name ms)) (λ x. gateIn x gate))
-    go true h =
-        by-then (check 21 false ∷ check 21 (leb (gates m) gate) ∷ []) (valueChecks (m .scale) (m .offset))
-        (valueOf (getD (m .codes) gate 0) (m .scale) (m .offset)) refl (by-value (getD (m .codes) gate 0) (m .scale) (m .offset))
-    go false h = h
-
-gate-onward : (a : Answer Description) (f : Description → Answer Moment) (g : Moment → Answer Worth) → onward (onward a f) g ≡ onward a (λ d. onward (f d) g)
-gate-onward (refused n) f g = refl
-gate-onward (given d) f g = refl
-
 pub by-gate : (b : List ℕ) (name gate : ℕ) → ByChecks (gateChecks b name gate) (gateOf b name gate)
-unfolding gateOf momentOf
+unfolding gateOf
 by-gate b name gate =
-    by-same (gateChecks b name gate) (onward (onward (radialOf b) (λ d. momentNamed name (d .moments))) (λ m. gateIn m gate))
-    (onward (radialOf b) (λ d. onward (momentNamed name (d .moments)) (λ m. gateIn m gate)))
-    (gate-onward (radialOf b) (λ d. momentNamed name (d .moments)) (λ m. gateIn m gate))
-    (by-asked (λ d. onward (momentNamed name (d .moments)) (λ m. gateIn m gate))
-    (check 21 (missing name (description b .moments)) ∷ codeChecks (momentNamed name (description b .moments)) gate) b
-    (by-code name gate (description b .moments)))
+    by-named (λ m. gateIn m gate) (λ m. check 21 (leb (gates m) gate) ∷ valueChecks (m .scale) (m .offset))
+    (λ m.
+    by-then (check 21 (leb (gates m) gate) ∷ []) (valueChecks (m .scale) (m .offset)) (valueOf (getD (m .codes) gate 0) (m .scale) (m .offset)) refl
+    (by-value (getD (m .codes) gate 0) (m .scale) (m .offset))) b name

@@ -11,6 +11,10 @@ use Rattle.header.specs.declared.Header.{Header}
 use Rattle.header.specs.declared.HeaderAnswer.{HeaderAnswer}
 use Rattle.header.specs.declared.HeaderAnswer.the-variants.{Read as ReadHeader, Refused as NoHeader}
 use Rattle.header.specs.Told.{tellHeader}
+use Rattle.set_spec.specs.Segment.{Placed}
+use Rattle.set_segment.specs.declared.SegmentAnswer.{SegmentAnswer}
+use Rattle.set_segment.specs.declared.SegmentAnswer.the-variants.{Read as ReadSegment, Refused as NoSegment}
+use Rattle.set_segment.specs.Told.{tellSegment}
 use Rattle.set_spec.specs.Walk.{SetSays}
 use Rattle.set.specs.declared.SetAnswer.{SetAnswer}
 use Rattle.set.specs.declared.SetAnswer.the-variants.{Set, Refused as NoSet}
@@ -22,10 +26,13 @@ use Rattle.salvage.specs.Told.{tellSalvage}
 use Rattle.radial.specs.declared.MomentHead.{MomentHead}
 use Rattle.radial.specs.declared.MomentAnswer.{MomentAnswer}
 use Rattle.radial.specs.declared.MomentAnswer.the-variants.{Moment as Found, Refused as NotFound}
+use Rattle.radial.specs.declared.Coded.{Coded}
+use Rattle.radial.specs.declared.CodeAnswer.{CodeAnswer}
+use Rattle.radial.specs.declared.CodeAnswer.the-variants.{Code as GateCode, Refused as NoGateCode}
 use Rattle.radial.specs.declared.BlockAnswer.{BlockAnswer}
 use Rattle.radial.specs.declared.BlockAnswer.the-variants.{Constant, Moment as MomentBlock, NoSuch, Refused as NoBlock}
 use Rattle.radial.specs.declared.Lying.{Lying}
-use Rattle.radial.specs.Told.{Told, tellMoment, tellBlock}
+use Rattle.radial.specs.Told.{Told, tellMoment, tellCoded, tellBlock}
 use Rattle.gate_value.specs.Value.{Worth, belowThreshold, rangeFolded, worth}
 use Rattle.gate_value.specs.declared.GateAnswer.{GateAnswer}
 use Rattle.gate_value.specs.declared.GateAnswer.the-variants.{Value, BelowThreshold, RangeFolded, Refused as NoValue}
@@ -40,7 +47,7 @@ use Rattle.request.specs.Told.{tellRequest}
 use Rattle.map_spec.specs.Reading.{Summary}
 use Rattle.map.specs.declared.MapAnswer.{MapAnswer}
 use Rattle.map.specs.declared.MapAnswer.the-variants.{Map, Refused as NoMap}
-use Rattle.map.specs.declared.CodeAnswer.{CodeAnswer}
+use Rattle.map.specs.declared.CodeAnswer.{CodeAnswer as MapCodeAnswer}
 use Rattle.map.specs.declared.CodeAnswer.the-variants.{Code, Refused as NoCode}
 use Rattle.map.specs.Told.{tellMap, tellCode}
 use Rattle.compare_spec.specs.Comparing.{Comparison}
@@ -66,6 +73,14 @@ pub header-back : (a : Answer Header) → tellHeader (showHeader a) ≡ a
 header-back (refused n) = refl
 header-back (given h) = refl
 
+abbrev pub showSegment : Answer Placed → SegmentAnswer
+showSegment (refused n) = NoSegment n
+showSegment (given p) = ReadSegment (p .header) (p .start) (p .next)
+
+pub segment-back : (a : Answer Placed) → tellSegment (showSegment a) ≡ a
+segment-back (refused n) = refl
+segment-back (given p) = refl
+
 abbrev pub showSet : Answer SetSays → SetAnswer
 showSet (refused n) = NoSet n
 showSet (given s) = Set (s .header) (s .long)
@@ -81,6 +96,14 @@ showMoment (given h) = Found h
 pub moment-back : (a : Answer MomentHead) → tellMoment (showMoment a) ≡ a
 moment-back (refused n) = refl
 moment-back (given h) = refl
+
+abbrev pub showCoded : Answer Coded → CodeAnswer
+showCoded (refused n) = NoGateCode n
+showCoded (given c) = GateCode c
+
+pub coded-back : (a : Answer Coded) → tellCoded (showCoded a) ≡ a
+coded-back (refused n) = refl
+coded-back (given c) = refl
 
 abbrev blockWith : Lying → Option MomentHead → BlockAnswer
 blockWith k none = Constant k
@@ -122,7 +145,7 @@ pub map-back : (a : Answer Summary) → tellMap (showMap a) ≡ a
 map-back (refused n) = refl
 map-back (given s) = refl
 
-abbrev pub showCode : Answer ℕ → CodeAnswer
+abbrev pub showCode : Answer ℕ → MapCodeAnswer
 showCode (refused n) = NoCode n
 showCode (given c) = Code c
 

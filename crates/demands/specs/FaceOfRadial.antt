@@ -4,14 +4,15 @@ use Prim.Native.Nat.{ℕ, zero, suc, _-_, _/_}
 use mathlib.Core.Path.{_≡_}
 use mathlib.Core.List.{List, [], _∷_}
 use lib.ListN.{drop}
+use denote.Ref.{now}
 use Rattle.wire.specs.Numbers.{nums}
 use Rattle.wire.specs.Answers.{given}
 use Rattle.radial_spec.specs.Description.{constants, constantHead, momentHead, Block, Moment, Description}
 use Rattle.radial_spec.specs.Refusal.{radialOf}
-use Rattle.radial_spec.specs.Lookups.{blockOf}
 use Rattle.c_radial.specs.declared.UlmRadial.{UlmRadial}
 use Rattle.c_radial.specs.declared.UlmBlock.{UlmBlock}
-use Rattle.c_radial.specs.Face.{radialFace, blockFace}
+use Rattle.ulm.proofs.ulm_radial.Reads as ulm-radial
+use Rattle.ulm.proofs.ulm_block.Reads as ulm-block
 
 -- a constant block: its bytes after name and length are the body's
 abbrev pub blockFromC : List ℕ → UlmBlock → Block
@@ -60,5 +61,8 @@ fromC r block b = record {
   moments = momentsFromC b block 4 (r .blocks - constants);
 }
 
+-- whatever struct `ulm_radial` answers, and `ulm_block` for each block
 abbrev pub HandedToC : Type 0
-HandedToC = (b : List ℕ) (d : Description) → radialOf b ≡ given d → fromC (radialFace (radialOf b)) (λ k. blockFace (blockOf b k)) b ≡ d
+HandedToC =
+    (κs κs′ body r s s′ : _) (block : ℕ → UlmBlock) (d : Description) → radialOf (now body) ≡ given d → ulm-radial.Learnt κs (body, tt) r s
+    → ((k : ℕ) → ulm-block.Learnt κs′ (body, (k, tt)) (block k) s′) → fromC r block (now body) ≡ d

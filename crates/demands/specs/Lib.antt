@@ -1,4 +1,4 @@
--- The demands of the order, and document 01's starred cases, stated over the definitions that the contracts cite.
+-- The demands of the order, stated over the contracts of the compiled functions, and document 01's starred cases, over the rules.
 pub mod Notions
 pub mod Orders
 pub mod Demand1
@@ -11,3 +11,4 @@ pub mod FaceOfRadial
 pub mod LoneSegment
 pub mod TwoMaps
 pub mod DamagedRecording
+pub mod Figures

@@ -1,42 +1,67 @@
 -- K1. "Where N is 1, any segment number is accepted and reported as 1; no header or set answer then depends on its two bytes."
-use Prim.Native.Nat.{ℕ, _+_}
+-- Of every call of the compiled functions, as Notions says it.
+use Prim.Native.Nat.{ℕ, _+_, _<_}
 use mathlib.Core.Path.{_≡_}
+use mathlib.Core.Logic.{_⊎_, _↔_}
 use mathlib.Core.List.{List, _++_, flatten}
 use lib.ListN.{length}
+use denote.Ref.{now, at-last}
 use Rattle.wire.specs.Numbers.{num}
-use Rattle.wire.specs.Answers.{given, Promise}
+use Rattle.wire.specs.Checks.{AllHold}
+use Rattle.wire.specs.declared.WriteAnswer.the-variants.{Written}
 use Rattle.frame.specs.Session.{headSize}
-use Rattle.header.specs.declared.Header.{Header}
-use Rattle.header.specs.declared.HeaderAnswer.{HeaderAnswer}
-use Rattle.header.specs.Header.{headerOf}
-use Rattle.header.specs.Told.{tellHeader}
-use Rattle.header.specs.Theorems.{Lone, numberPlace, ButTwoBytes}
-use Rattle.set_spec.specs.Walk.{setOf}
+use Rattle.header.specs.declared.HeaderAnswer.the-variants.{Read, Refused}
+use Rattle.header.specs.Header.{storedIn, headerIn}
+use Rattle.header.specs.Theorems.{Lone, numberPlace, ButTwoBytes, beforeNumber, afterNumber}
+use Rattle.header.proofs.read_header.Reads as read-header
 use Rattle.set_spec.specs.Theorems.{WholeFrames, LoneFrame}
-use Rattle.set.specs.declared.SetAnswer.{SetAnswer}
-use Rattle.set.specs.Told.{tellSet}
-use Rattle.c_lent.specs.Face.{Leaves}
-use Rattle.c_frame.specs.declared.UlmHeader.{UlmHeader}
-use Rattle.c_set.specs.declared.UlmSet.{UlmSet}
-use Rattle.c_frame.specs.Face.{headerFace}
-use Rattle.c_set.specs.Face.{setFace}
+use Rattle.set.proofs.read_set.Reads as read-set
+use Rattle.writer.specs.Writing.{segmentsOf}
+use Rattle.writer.proofs.write_message.Reads as write-message
+use Rattle.ulm.proofs.ulm_header.Reads as ulm-header
+use Rattle.ulm.proofs.ulm_set.Reads as ulm-set
+use Rattle.ulm.proofs.ulm_write.Reads as ulm-write
 
--- whatever meets the promise of `read_header`, or of `ulm_header`, for the one message and for the other is the same
-pub record SameHeader (b b′ : List ℕ) : Type 0 where
-  pub entry : (r r′ : HeaderAnswer) → tellHeader r ≡ headerOf b → tellHeader r′ ≡ headerOf b′ → r ≡ r′
-  pub face : (r r′ : UlmHeader) → r ≡ headerFace (headerOf b) → r′ ≡ headerFace (headerOf b′) → r ≡ r′
+-- a buffer, in whole frames and what is left from a frame of one segment on, and another that is the same but for the two bytes of that frame's number
+pub record ButLoneNumber (frames frames′ : List ℕ) : Type 0 where
+  pub each : List (List ℕ)
+  pub rest : List ℕ
+  pub buffer : frames ≡ flatten each ++ rest
+  pub whole : WholeFrames each
+  pub lone : LoneFrame rest
+  pub but : ButTwoBytes (length (flatten each) + headSize + numberPlace) frames frames′
 
--- the same of `read_set` and `ulm_set`, and of what they leave in the output
-pub record SameSet (frames frames′ out : List ℕ) : Type 0 where
-  pub entry : (r r′ : SetAnswer) (left left′ : List ℕ) → Promise tellSet (setOf frames out) r left → Promise tellSet (setOf frames′ out) r′ left′
-      → (r ≡ r′) × (left ≡ left′)
-  pub face : (r r′ : UlmSet) (left left′ : List ℕ) → Leaves setFace (setOf frames out) r left → Leaves setFace (setOf frames′ out) r′ left′
-      → (r ≡ r′) × (left ≡ left′)
-
-pub record LoneSegment : Type 0 where
+pub record LoneSegment : Type 1 where
   -- "reported as 1", and where N is not 1 the number is the stored one
-  pub one : (b : List ℕ) (h : Header) → headerOf b ≡ given h → h .segments ≡ 1 → h .number ≡ 1
-  pub others : (b : List ℕ) (h : Header) → headerOf b ≡ given h → (h .segments ≡ 1 → ⊥) → h .number ≡ num 2 b numberPlace
-  pub header : (b b′ : List ℕ) → Lone b → ButTwoBytes numberPlace b b′ → SameHeader b b′
-  pub set : (each : List (List ℕ)) (rest frames′ out : List ℕ) → WholeFrames each → LoneFrame rest
-      → ButTwoBytes (length (flatten each) + headSize + numberPlace) (flatten each ++ rest) frames′ → SameSet (flatten each ++ rest) frames′ out
+  pub one : (κs message h s : _) → read-header.Learnt κs (message, tt) (Read h) s → h .segments ≡ 1 → h .number ≡ 1
+  pub others : (κs message h s : _) → read-header.Learnt κs (message, tt) (Read h) s → (h .segments ≡ 1 → ⊥) → h .number ≡ num 2 (now message) numberPlace
+  -- "any segment number is accepted": a message of one segment is, exactly if all other checks hold
+  pub accepted : (κs message r s : _) → Lone (now message) → read-header.Learnt κs (message, tt) r s
+      → (r ≡ Read (headerIn (now message))) ↔ AllHold (beforeNumber (storedIn (now message)) (length (now message)) ++ afterNumber (storedIn (now message)))
+  -- "number 7 loses that cause for N = 1 only"
+  pub outside : (κs message r s : _) → (Lone (now message) → ⊥) → AllHold (beforeNumber (storedIn (now message)) (length (now message)))
+      → (storedIn (now message) .number ≡ 0) ⊎ (storedIn (now message) .segments < storedIn (now message) .number)
+      → read-header.Learnt κs (message, tt) r s
+      → r ≡ Refused 7
+  -- two calls, of `read_header` and of `ulm_header`, answer the same
+  pub header : (κs κs′ message message′ r r′ s s′ : _) → Lone (now message) → ButTwoBytes numberPlace (now message) (now message′)
+      → read-header.Learnt κs (message, tt) r s → read-header.Learnt κs′ (message′, tt) r′ s′ → r ≡ r′
+  pub headerForC : (κs κs′ message message′ r r′ s s′ : _) → Lone (now message) → ButTwoBytes numberPlace (now message) (now message′)
+      → ulm-header.Learnt κs (message, tt) r s → ulm-header.Learnt κs′ (message′, tt) r′ s′ → r ≡ r′
+  -- and of `read_set` and of `ulm_set`, which leave the same in outputs that held the same
+  pub set : (κs κs′ frames frames′ out out′ r r′ f f′ after after′ : _) → ButLoneNumber (now frames) (now frames′) → now out ≡ now out′
+      → read-set.Learnt κs (frames, (out, tt)) r (f, (at-last out after, tt)) → read-set.Learnt κs′ (frames′, (out′, tt)) r′ (f′, (at-last out′ after′, tt))
+      → (r ≡ r′) × (after ≡ after′)
+  pub setForC : (κs κs′ frames frames′ out out′ r r′ f f′ after after′ : _) → ButLoneNumber (now frames) (now frames′) → now out ≡ now out′
+      → ulm-set.Learnt κs (frames, (out, tt)) r (f, (at-last out after, tt)) → ulm-set.Learnt κs′ (frames′, (out′, tt)) r′ (f′, (at-last out′ after′, tt))
+      → (r ≡ r′) × (after ≡ after′)
+  -- what `write_message` and `ulm_write` write of one segment spells 1 in these bytes
+  pub written : (κs given body out size g b after : _)
+      → write-message.Learnt κs (given, (body, (out, tt))) (Written size) (g, (b, (at-last out after, tt)))
+      → length (segmentsOf (given .kind) (now body)) ≡ 1
+      → num 2 after (headSize + numberPlace) ≡ 1
+  pub writtenForC : (κs channel kind sequence date ms body out r c k q d m b after : _)
+      → ulm-write.Learnt κs (channel, (kind, (sequence, (date, (ms, (body, (out, tt))))))) r (c, (k, (q, (d, (m, (b, (at-last out after, tt)))))))
+      → r .refusal ≡ 0
+      → length (segmentsOf kind (now body)) ≡ 1
+      → num 2 after (headSize + numberPlace) ≡ 1

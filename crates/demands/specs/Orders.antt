@@ -2,10 +2,11 @@
 use Prim.Native.Nat.{ℕ, zero, suc}
 use mathlib.Core.Bool.{Bool, true, false}
 use mathlib.Core.List.{List, [], _∷_, _++_, flatten}
-use lib.Dec.{eqb, leb, ltb}
+use lib.Dec.{eqb, leb}
 use lib.ListN.{length, drop}
 use Rattle.wire.specs.Checks.{pick, Check, check}
 use Rattle.wire.specs.Answers.{Answer, refused, given}
+use Rattle.wire.specs.Writing.{thenRoom}
 use Rattle.frame.specs.Session.{after, frameChecks}
 use Rattle.set_spec.specs.Segment.{Segment, segmentIn}
 use Rattle.set_spec.specs.Walk.{turnChecks, endChecks}
@@ -37,25 +38,29 @@ abbrev pub missing : ℕ → List Moment → Bool
 missing name [] = true
 missing name (m ∷ ms) = pick (eqb (m .name) name) false (missing name ms)
 
+-- the checks of what is asked of the moment with a name: those, then the moment's own
+abbrev pub ofMoment : Answer Moment → (Moment → List Check) → List Check
+ofMoment (refused n) own = []
+ofMoment (given m) own = own m
+
+abbrev pub askedOf : List ℕ → ℕ → (Moment → List Check) → List Check
+askedOf b name own =
+    radialChecks b ++ (check 21 (missing name (description b .moments)) ∷ ofMoment (momentNamed name (description b .moments)) own)
+
 abbrev pub momentChecks : List ℕ → ℕ → List Check
-momentChecks b name = radialChecks b ++ (check 21 (missing name (description b .moments)) ∷ [])
+momentChecks b name = askedOf b name (λ m. [])
+
+-- a gate's code: 21 of the gate
+abbrev pub codedChecks : List ℕ → ℕ → ℕ → List Check
+codedChecks b name gate = askedOf b name (λ m. check 21 (leb (gates m) gate) ∷ [])
 
 -- "Gate: the radial's checks, 21, 22"
-abbrev pub codeChecks : Answer Moment → ℕ → List Check
-codeChecks (refused n) gate = []
-codeChecks (given m) gate = check 21 (leb (gates m) gate) ∷ valueChecks (m .scale) (m .offset)
-
 abbrev pub gateChecks : List ℕ → ℕ → ℕ → List Check
-gateChecks b name gate =
-    radialChecks b ++ (check 21 (missing name (description b .moments)) ∷ codeChecks (momentNamed name (description b .moments)) gate)
-
--- "Frame writer: 6, 8, 25, 26, 13." "Body writers: the reader's checks, then 13.": the checks of a writer whose whole answer is `whole`
-abbrev pub writerChecks : List Check → List ℕ → ℕ → List Check
-writerChecks ks whole room = ks ++ (check 13 (ltb room (length whole)) ∷ [])
+gateChecks b name gate = askedOf b name (λ m. check 21 (leb (gates m) gate) ∷ valueChecks (m .scale) (m .offset))
 
 -- K2: "A bad map is refused by its own number, the first map first; too little output is 13"
 abbrev pub comparisonChecks : List ℕ → List ℕ → ℕ → List Check
-comparisonChecks old new room = writerChecks (mapChecks old ++ mapChecks new) (halfwords (differences (mapIn old) (mapIn new))) room
+comparisonChecks old new room = thenRoom (mapChecks old ++ mapChecks new) (halfwords (differences (mapIn old) (mapIn new))) room
 
 -- K10: "Should either output be too small, 13"
 abbrev pub salvageChecks : List ℕ → List ℕ → List ℕ → List Check
