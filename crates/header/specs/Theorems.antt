@@ -2,7 +2,7 @@
 use Prim.Native.Nat.{ℕ, _+_, _≤_, _<_}
 use mathlib.Core.Path.{_≡_}
 use mathlib.Core.Logic.{_⊎_, _↔_}
-use mathlib.Core.List.{List, _∷_, _++_}
+use mathlib.Core.List.{List, [], _∷_, _++_}
 use lib.Dec.{ltb}
 use lib.ListN.{length, getD}
 use Rattle.wire.specs.Numbers.{num, Octets}
@@ -11,7 +11,7 @@ use Rattle.wire.specs.Checks.{Check, check, AllHold}
 use Rattle.wire.specs.Answers.{refused, given}
 use Rattle.header.specs.declared.Header.{Header}
 use Rattle.header.specs.declared.Stored.{Stored}
-use Rattle.header.specs.Header.{headerTable, headerSize, storedIn, withNumber, headerIn, sizeChecks, notPermitted, countChecks, kindChecks, timeChecks, headerOf}
+use Rattle.header.specs.Header.{headerTable, headerSize, storedIn, withNumber, headerIn, sizeChecks, notPermitted, segmentTooLarge, timeChecks, headerOf}
 
 -- where the two bytes of the segment number begin
 abbrev pub numberPlace : ℕ
@@ -43,20 +43,19 @@ pub record ButTwoBytes (place : ℕ) (b b′ : List ℕ) : Type 0 where
 abbrev pub LoneHeader : Type 0
 LoneHeader = (b b′ : List ℕ) → Lone b → ButTwoBytes numberPlace b b′ → headerOf b ≡ headerOf b′
 
--- the checks of a message of `long` bytes with the stored values s before those of the segment number: 4, the size's, the type's, N's own
-abbrev pub beforeNumber : Stored → ℕ → List Check
-beforeNumber s long = check 4 (ltb long headerSize) ∷ sizeChecks (s .size) long ++ (check 6 (notPermitted (s .kind)) ∷ countChecks (s .segments))
+-- the checks of a message of `long` bytes with the stored values s before those of its segments: 4, the size's, the type's
+abbrev pub beforeSegment : Stored → ℕ → List Check
+beforeSegment s long = check 4 (ltb long headerSize) ∷ sizeChecks (s .size) long ++ (check 6 (notPermitted (s .kind)) ∷ [])
 
--- and after those: of 31 and of 1,208, of date and time
-abbrev pub afterNumber : Stored → List Check
-afterNumber s = kindChecks (s .size) (s .kind) (s .segments) ++ timeChecks (s .date) (s .milliseconds)
+-- the checks of a message of one segment: those, 1,208, date and time. None of them asks for N or for the number
+abbrev pub loneChecks : Stored → ℕ → List Check
+loneChecks s long = beforeSegment s long ++ (check 7 (segmentTooLarge (s .size) (s .kind)) ∷ timeChecks (s .date) (s .milliseconds))
 
 -- "any segment number is accepted": a message of one segment is, exactly if all other checks hold
 abbrev pub LoneByOtherChecks : Type 0
-LoneByOtherChecks = (b : List ℕ) → Lone b
-    → (headerOf b ≡ given (headerIn b)) ↔ AllHold (beforeNumber (storedIn b) (length b) ++ afterNumber (storedIn b))
+LoneByOtherChecks = (b : List ℕ) → Lone b → (headerOf b ≡ given (headerIn b)) ↔ AllHold (loneChecks (storedIn b) (length b))
 
 -- "number 7 loses that cause for N = 1 only": of another N a stored number that is 0 or above N is 7
 abbrev pub NumberOutside : Type 0
-NumberOutside = (b : List ℕ) → (Lone b → ⊥) → AllHold (beforeNumber (storedIn b) (length b))
+NumberOutside = (b : List ℕ) → (Lone b → ⊥) → AllHold (beforeSegment (storedIn b) (length b))
     → (storedIn b .number ≡ 0) ⊎ (storedIn b .segments < storedIn b .number) → headerOf b ≡ refused 7

@@ -7,7 +7,7 @@ use lib.ListN.{length, getD}
 use Rattle.wire.specs.Numbers.{Octets}
 use Rattle.wire.specs.Answers.{refused, given, rule}
 use Rattle.map_spec.specs.Map.{azimuths, mostCode, lastKilometre, Zone, FilterMap, mapBytes, InRange, zonesAt, codeAt, noZone, Covers}
-use Rattle.map_spec.specs.Reading.{mapOf, summary, summaryOf, askedChecks, codeOf}
+use Rattle.map_spec.specs.Reading.{mapOf, summaryOf, askedChecks, codeOf}
 
 -- the accepted bodies are exactly the bytes of the maps in range, and the map answered is the one whose bytes they are
 abbrev pub AcceptedExactly : Type 0
@@ -33,7 +33,8 @@ OneCode =
 
 -- the bytes of a map in range are answered by the map: its date, minutes and number of elevation segments
 abbrev pub CheckAnswers : Type 0
-CheckAnswers = (m : FilterMap) → InRange m → summaryOf (mapBytes m) ≡ given (summary m)
+CheckAnswers = (m : FilterMap) → InRange m
+    → summaryOf (mapBytes m) ≡ given (record { date = m .date; minutes = m .minutes; elevations = length (m .elevations) })
 
 -- and, of an elevation, azimuth and kilometre that exist, its code there
 abbrev pub QueryAnswers : Type 0
