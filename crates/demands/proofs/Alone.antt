@@ -2,7 +2,7 @@
 use Prim.Native.Nat.{ℕ, _+_}
 use mathlib.Core.Path.{_≡_, sym, ap, _∙_, subst}
 use mathlib.Core.Logic.{_↔_}
-use mathlib.Core.List.{List, _++_, flatten}
+use mathlib.Core.List.{List, flatten}
 use lib.ListN.{length}
 use denote.Ref.{now}
 use Rattle.wire.specs.Numbers.{num}
@@ -14,7 +14,7 @@ use Rattle.header.specs.declared.HeaderAnswer.{HeaderAnswer}
 use Rattle.header.specs.declared.HeaderAnswer.the-variants.{Read, Refused}
 use Rattle.header.specs.Header.{storedIn, headerIn, headerOf}
 use Rattle.header.specs.Told.{tellHeader}
-use Rattle.header.specs.Theorems.{Lone, numberPlace, ButTwoBytes, beforeNumber, afterNumber}
+use Rattle.header.specs.Theorems.{Lone, numberPlace, ButTwoBytes, loneChecks}
 use Rattle.header.proofs.HeaderLaws.{number-lone, number-other}
 use Rattle.header.proofs.LoneLaws.{lone-header}
 use Rattle.header.proofs.Theorems.{lone-by-other-checks, number-outside}
@@ -46,7 +46,7 @@ others b h e n =
 
 -- ---- what is accepted
 accepted : (b : List ℕ) (r : HeaderAnswer) → Lone b → tellHeader r ≡ headerOf b
-    → (r ≡ Read (headerIn b)) ↔ AllHold (beforeNumber (storedIn b) (length b) ++ afterNumber (storedIn b))
+    → (r ≡ Read (headerIn b)) ↔ AllHold (loneChecks (storedIn b) (length b))
 accepted b r lone e = (
   λ q. lone-by-other-checks b lone .0 (sym e ∙ ap tellHeader q),
   λ h. header-apart r (Read (headerIn b)) (e ∙ lone-by-other-checks b lone .1 h),

@@ -1,9 +1,9 @@
 -- Demand 2, from the theorems of the crates below. Assumes nothing.
-use Prim.Native.Nat.{ℕ, _*_, _≤_}
+use Prim.Native.Nat.{ℕ, _+_, _*_, _≤_}
 use mathlib.Core.Path.{_≡_, sym, ap, _∙_}
 use mathlib.Core.List.{List, _∷_}
 use lib.Dec.{eqb}
-use lib.ListN.{length, take}
+use lib.ListN.{length, take, drop}
 use denote.Ref.{now}
 use Rattle.wire.specs.Numbers.{Octets}
 use Rattle.wire.specs.Checks.{pick}
@@ -12,7 +12,9 @@ use Rattle.wire.specs.Sizes.{bytes}
 use Rattle.wire.specs.declared.Bytes.{Bytes}
 use Rattle.wire.proofs.CheckLaws.{all-hold}
 use Rattle.wire.proofs.AnswerLaws.{rule-given}
+use Rattle.frame.specs.Session.{headSize, sizeIn}
 use Rattle.frame.proofs.Theorems.{head-stands}
+use Rattle.header.specs.Header.{headerSize}
 use Rattle.header.specs.declared.Header.{Header}
 use Rattle.header.proofs.Theorems.{header-stands}
 use Rattle.request.proofs.Theorems.{body-is-table}
@@ -23,6 +25,7 @@ use Rattle.censor.proofs.Theorems.{struct-tells, body-is-table as zones-are-tab
 use Rattle.map_spec.specs.Reading.{Summary, mapChecks, mapIn, summary, summaryOf}
 use Rattle.map_spec.proofs.Theorems.{accepted-exactly}
 use Rattle.compare_spec.proofs.InTurn.{map-given}
+use Rattle.set_spec.specs.Segment.{ownChecks, Placed, placedIn, segmentAt}
 use Rattle.set_spec.specs.Walk.{SetSays, setOf}
 use Rattle.set_spec.specs.Theorems.{accepted}
 use Rattle.set_spec.proofs.Accepted.{answering, accepted-exactly-if-whole}
@@ -39,6 +42,14 @@ use Rattle.c_set.specs.Face.{setFace}
 use Rattle.demands.specs.Demand2.{MapStands, Joins, BackInC, givenBy, Demand2}
 use Rattle.demands.proofs.Written.{wrote-for-c}
 
+-- ---- a segment where it lies
+segment-lies : (b : List ℕ) (at : ℕ) (p : Placed) → given p ≡ segmentAt b at
+    → (p .start ≡ at + (headSize + headerSize)) × (p .next ≡ at + (headSize + sizeIn (drop at b) .0))
+unfolding segmentAt
+segment-lies b at p e =
+    let q = rule-given (ownChecks (drop at b)) (placedIn (drop at b) at) p (sym e) .1 in
+    (sym (ap (λ (x : Placed). x .start) q), sym (ap (λ (x : Placed). x .next) q))
+
 -- ---- message 8: the struct tells the list
 censor-stands : (body : List ℕ) (r : Censor) → Octets body → r ≡ shown (censorOf body) → r .number ≡ 0 → body ≡ bodyOf (r .count ∷ take (6 * r .count) (r .regions))
 censor-stands body r o e z =
@@ -51,7 +62,14 @@ map-stands : (body : List ℕ) (s : Summary) → Octets body → given s ≡ sum
 map-stands body s o e =
     let p = rule-given (mapChecks body) (summary (mapIn body)) s (sym e) in
     let m = accepted-exactly body o (mapIn body) .0 (map-given body (all-hold (mapChecks body) (p .0))) in
-    record { map = mapIn body; range = m .0; table = m .1; values = p .1 }
+    record {
+      map = mapIn body;
+      range = m .0;
+      table = m .1;
+      date = sym (ap (λ (x : Summary). x .date) (p .1));
+      minutes = sym (ap (λ (x : Summary). x .minutes) (p .1));
+      elevations = sym (ap (λ (x : Summary). x .elevations) (p .1));
+    }
 
 -- ---- a set accepted by the rule, and by a whole buffer
 module _ (frames out : List ℕ) (h : Header) (long : Bytes) (after : List ℕ) where
@@ -104,6 +122,7 @@ pub demand2 : Demand2
 demand2 = record {
   frame = λ κs stream place f s o l. head-stands (now stream) place f o (sym l);
   header = λ κs message h s o l. header-stands (now message) h o (sym l);
+  segment = λ κs frames at h start next s l. segment-lies (now frames) at (record { header = h; start = start; next = next }) l;
   request = λ κs body code s o l. body-is-table (now body) code o (sym l);
   censor = λ κs body r s o l z. censor-stands (now body) r o l z;
   map = λ κs body date minutes elevations s o l. map-stands (now body) (record { date = date; minutes = minutes; elevations = elevations }) o l;

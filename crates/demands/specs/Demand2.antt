@@ -1,11 +1,11 @@
 -- Demand 2. "What is read is what the interface document defines, as document 01 condenses it": of every call of the compiled functions that accepts, the
 -- table of what it reports stands in the bytes that it was given. And "a message that we write and then reassemble, given room, comes back with body,
 -- channel, type, sequence number, date and milliseconds". `Fits`, `Octets`: numbers given are of their types, bytes are bytes.
-use Prim.Native.Nat.{ℕ, _*_, _≤_}
+use Prim.Native.Nat.{ℕ, _+_, _*_, _≤_}
 use mathlib.Core.Path.{_≡_}
 use mathlib.Core.Logic.{_↔_}
 use mathlib.Core.List.{List, _∷_}
-use lib.ListN.{length, take}
+use lib.ListN.{length, take, drop}
 use denote.Ref.{now, at-last}
 use Rattle.wire.specs.Numbers.{Octets}
 use Rattle.wire.specs.Tables.{render, Holds}
@@ -13,9 +13,10 @@ use Rattle.wire.specs.Sizes.{bytes}
 use Rattle.wire.specs.Writing.{filled}
 use Rattle.wire.specs.declared.Bytes.{Bytes}
 use Rattle.wire.specs.declared.WriteAnswer.the-variants.{Written}
-use Rattle.frame.specs.Session.{headTable}
+use Rattle.frame.specs.Session.{headTable, headSize, sizeIn}
 use Rattle.frame.specs.declared.FrameAnswer.the-variants.{Read}
 use Rattle.frame.proofs.frame_at.Reads as frame-at
+use Rattle.header.specs.Header.{headerSize}
 use Rattle.header.specs.declared.Header.{Header}
 use Rattle.header.specs.declared.HeaderAnswer.the-variants.{Read as ReadHeader}
 use Rattle.header.specs.Theorems.{Stands}
@@ -26,9 +27,11 @@ use Rattle.request.proofs.read_request.Reads as read-request
 use Rattle.censor.specs.Censor.{bodyOf}
 use Rattle.censor.proofs.read_censor.Reads as read-censor
 use Rattle.map_spec.specs.Map.{FilterMap, InRange, mapBytes}
-use Rattle.map_spec.specs.Reading.{Summary, summary}
+use Rattle.map_spec.specs.Reading.{Summary}
 use Rattle.map.specs.declared.MapAnswer.the-variants.{Map}
 use Rattle.map.proofs.check_map.Reads as check-map
+use Rattle.set_segment.specs.declared.SegmentAnswer.the-variants.{Read as Segment}
+use Rattle.set_segment.proofs.segment_at.Reads as segment-at
 use Rattle.set_spec.specs.Whole.{Whole}
 use Rattle.set.specs.declared.SetAnswer.the-variants.{Set}
 use Rattle.set.proofs.read_set.Reads as read-set
@@ -45,7 +48,9 @@ pub record MapStands (body : List ℕ) (s : Summary) : Type 0 where
   pub map : FilterMap
   pub range : InRange map
   pub table : body ≡ mapBytes map
-  pub values : summary map ≡ s
+  pub date : s .date ≡ map .date
+  pub minutes : s .minutes ≡ map .minutes
+  pub elevations : s .elevations ≡ length (map .elevations)
 
 -- a whole set, segment 1's header h, and in an output that held `out` its body with what stood there after it
 pub record Joins (frames out : List ℕ) (h : Header) (long : Bytes) (after : List ℕ) : Type 0 where
@@ -77,6 +82,9 @@ pub record Demand2 : Type 1 where
   pub frame : (κs stream place f s : _) → Octets (now stream) → frame-at.Learnt κs (stream, (place, tt)) (Read f) s
       → Holds (now stream) place (render (headTable (f .kind) (f .second) (f .size)))
   pub header : (κs message h s : _) → Octets (now message) → read-header.Learnt κs (message, tt) (ReadHeader h) s → Stands (now message) h
+  -- a segment's data begins after both heads, and its frame ends with its body
+  pub segment : (κs frames at h start next s : _) → segment-at.Learnt κs (frames, (at, tt)) (Segment h start next) s
+      → (start ≡ at + (headSize + headerSize)) × (next ≡ at + (headSize + sizeIn (drop at (now frames)) .0))
   -- messages 9, 8 and 15: the whole body, and nothing else
   pub request : (κs body code s : _) → Octets (now body) → read-request.Learnt κs (body, tt) (Code code) s → now body ≡ render (requestTable code)
   pub censor : (κs body r s : _) → Octets (now body) → read-censor.Learnt κs (body, tt) r s → r .number ≡ 0

@@ -12,7 +12,7 @@ use Rattle.wire.specs.declared.WriteAnswer.the-variants.{Written}
 use Rattle.frame.specs.Session.{headSize}
 use Rattle.header.specs.declared.HeaderAnswer.the-variants.{Read, Refused}
 use Rattle.header.specs.Header.{storedIn, headerIn}
-use Rattle.header.specs.Theorems.{Lone, numberPlace, ButTwoBytes, beforeNumber, afterNumber}
+use Rattle.header.specs.Theorems.{Lone, numberPlace, ButTwoBytes, beforeSegment, loneChecks}
 use Rattle.header.proofs.read_header.Reads as read-header
 use Rattle.set_spec.specs.Theorems.{WholeFrames, LoneFrame}
 use Rattle.set.proofs.read_set.Reads as read-set
@@ -37,9 +37,9 @@ pub record LoneSegment : Type 1 where
   pub others : (κs message h s : _) → read-header.Learnt κs (message, tt) (Read h) s → (h .segments ≡ 1 → ⊥) → h .number ≡ num 2 (now message) numberPlace
   -- "any segment number is accepted": a message of one segment is, exactly if all other checks hold
   pub accepted : (κs message r s : _) → Lone (now message) → read-header.Learnt κs (message, tt) r s
-      → (r ≡ Read (headerIn (now message))) ↔ AllHold (beforeNumber (storedIn (now message)) (length (now message)) ++ afterNumber (storedIn (now message)))
+      → (r ≡ Read (headerIn (now message))) ↔ AllHold (loneChecks (storedIn (now message)) (length (now message)))
   -- "number 7 loses that cause for N = 1 only"
-  pub outside : (κs message r s : _) → (Lone (now message) → ⊥) → AllHold (beforeNumber (storedIn (now message)) (length (now message)))
+  pub outside : (κs message r s : _) → (Lone (now message) → ⊥) → AllHold (beforeSegment (storedIn (now message)) (length (now message)))
       → (storedIn (now message) .number ≡ 0) ⊎ (storedIn (now message) .segments < storedIn (now message) .number)
       → read-header.Learnt κs (message, tt) r s
       → r ≡ Refused 7
