@@ -17,13 +17,15 @@ rule-refused ks v n e = stopped ks refused (given v) n e (λ q. never (cc q)) (�
 
 -- the outcome's answer and output, by the same checks
 pub outcome-answer : {O A : Type 0} (ks : List Check) (out : O) (v : A) (after : O) → outcome ks out v after .answer ≡ rule ks v
-outcome-answer {O} {A} ks out v after = decide-map {Y = Answer A} (λ (o : Outcome O A). o .answer) ks (refusal out) (record { answer = given v; output = after })
+outcome-answer {O} {A} ks out v after = decide-map {Y = Answer A} (λ (o : Outcome O A). o .answer) ks (refusal out)
+    (record { answer = given v; output = after })
 
 -- "A refusal changes no lent byte"
 pub outcome-refused : {O A : Type 0} (ks : List Check) (out : O) (v : A) (after : O) (n : ℕ) → outcome ks out v after .answer ≡ refused n
     → outcome ks out v after ≡ refusal out n
 outcome-refused ks out v after n e =
-    decide-some ks (refusal out) (record { answer = given v; output = after }) n (rule-refused ks v n (sym (outcome-answer ks out v after) ∙ e))
+    decide-some ks (refusal out) (record { answer = given v; output = after }) n
+    (rule-refused ks v n (sym (outcome-answer ks out v after) ∙ e))
 
 pub outcome-given : {O A : Type 0} (ks : List Check) (out : O) (v : A) (after : O) (w : A) → outcome ks out v after .answer ≡ given w
     → (first ks ≡ none) × (v ≡ w) × (outcome ks out v after .output ≡ after)
@@ -32,7 +34,8 @@ outcome-given {O} {A} ks out v after w e =
     (p .0, p .1, ap (λ (o : Outcome O A). o .output) (decide-none ks (refusal out) (record { answer = given v; output = after }) (p .0)))
 
 -- a promise kept: the right outcome is what r tells with `left` in the output, and that is what it leaves
-pub kept : {R O A : Type 0} (tell : R → Answer A) (right : Outcome O A) (r : R) (after left : O) → right ≡ record { answer = tell r; output = left }
+pub kept : {R O A : Type 0} (tell : R → Answer A) (right : Outcome O A) (r : R) (after left : O)
+    → right ≡ record { answer = tell r; output = left }
     → after ≡ left → Promise tell right r after
 kept {R} {O} {A} tell right r after left e l =
     record { answers = sym (ap (λ (o : Outcome O A). o .answer) e); leaves = l ∙ sym (ap (λ (o : Outcome O A). o .output) e) }

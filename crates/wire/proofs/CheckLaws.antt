@@ -6,6 +6,7 @@ use mathlib.Core.Option.{Option, none, some}
 use mathlib.Core.List.{List, [], _∷_, _++_}
 use native.Mathlib.Omega.{arith}
 use lib.Dec.{eqb}
+use borrow.Author.Tests.{eqb-true, eqb-false}
 use Rattle.wire.specs.Properties.{Each}
 use Rattle.wire.specs.Checks.{pick, either, both, CheckOf, Check, first, decide, someBroken, AllHold, Blamed}
 use Rattle.wire.proofs.EachLaws.{each-append, each-split}
@@ -16,6 +17,19 @@ never e = absurd (no-way e)
   where
     no-way : _≡_ {A = ℕ} 0 1 → ⊥
     no-way p = omega (arith, p)
+
+-- what comes of a test that changes nothing
+pub pick-same {ℓ} : {X : Type ℓ} (t : Bool) (x : X) → pick t x x ≡ x
+pick-same true x = refl
+pick-same false x = refl
+
+-- two numbers are equal or not
+pub by-eq {ℓ} : {A : Type ℓ} (j k : ℕ) → (j ≡ k → A) → ((j ≡ k → ⊥) → A) → A
+by-eq {A} j k same other = go (eqb j k) refl
+  where
+    go : (t : Bool) → eqb j k ≡ t → A
+    go true p = same (eqb-true j k p)
+    go false p = other (eqb-false j k p)
 
 -- ---- tests joined
 pub either-false : (t : Bool) → either t false ≡ t
@@ -59,14 +73,16 @@ decide-first {ℓ} : {N : Type 0} {X : Type ℓ} (ks : List (CheckOf N)) (f : N 
 decide-first [] f ok = refl
 decide-first (k ∷ ks) f ok = go (k .broken) (decide-first ks f ok)
   where
-    go : (t : Bool) → decide ks f ok ≡ answered (first ks) f ok → pick t (f (k .number)) (decide ks f ok) ≡ answered (pick t (some (k .number)) (first ks)) f ok
+    go : (t : Bool) → decide ks f ok ≡ answered (first ks) f ok
+        → pick t (f (k .number)) (decide ks f ok) ≡ answered (pick t (some (k .number)) (first ks)) f ok
     go true h = refl
     go false h = h
 
 pub decide-none {ℓ} : {N : Type 0} {X : Type ℓ} (ks : List (CheckOf N)) (f : N → X) (ok : X) → first ks ≡ none → decide ks f ok ≡ ok
 decide-none {N} ks f ok p = decide-first ks f ok ∙ ap (λ (o : Option N). answered o f ok) p
 
-pub decide-some {ℓ} : {N : Type 0} {X : Type ℓ} (ks : List (CheckOf N)) (f : N → X) (ok : X) (n : N) → first ks ≡ some n → decide ks f ok ≡ f n
+pub decide-some {ℓ} : {N : Type 0} {X : Type ℓ} (ks : List (CheckOf N)) (f : N → X) (ok : X) (n : N) → first ks ≡ some n
+    → decide ks f ok ≡ f n
 decide-some {N} ks f ok n p = decide-first ks f ok ∙ ap (λ (o : Option N). answered o f ok) p
 
 -- an answer that is no refusal: no check was broken
@@ -88,12 +104,14 @@ stopped {N} ks f ok n e ne apart = go (first ks) refl
     go (some m) p = p ∙ ap some (apart m (sym (decide-some ks f ok m p) ∙ e))
 
 -- checks one list after the other
-pub decide-append {ℓ} : {N : Type 0} {X : Type ℓ} (a b : List (CheckOf N)) (f : N → X) (ok : X) → decide (a ++ b) f ok ≡ decide a f (decide b f ok)
+pub decide-append {ℓ} : {N : Type 0} {X : Type ℓ} (a b : List (CheckOf N)) (f : N → X) (ok : X)
+    → decide (a ++ b) f ok ≡ decide a f (decide b f ok)
 decide-append [] b f ok = refl
 decide-append {X = X} (k ∷ a) b f ok = ap (λ (x : X). pick (k .broken) (f (k .number)) x) (decide-append a b f ok)
 
--- what is made of the decision is the decision of what is made
-pub decide-map {ℓ κ} : {N : Type 0} {X : Type ℓ} {Y : Type κ} (g : X → Y) (ks : List (CheckOf N)) (f : N → X) (ok : X) → g (decide ks f ok) ≡ decide ks (λ n. g (f n)) (g ok)
+-- a function of a decision can be applied to each of its results instead
+pub decide-map {ℓ κ} : {N : Type 0} {X : Type ℓ} {Y : Type κ} (g : X → Y) (ks : List (CheckOf N)) (f : N → X) (ok : X)
+    → g (decide ks f ok) ≡ decide ks (λ n. g (f n)) (g ok)
 decide-map g [] f ok = refl
 decide-map g (k ∷ ks) f ok = go (k .broken) (decide-map g ks f ok)
   where
@@ -171,6 +189,31 @@ all-hold-append {N} a b = each-split (λ (k : CheckOf N). k .broken ≡ false) a
 
 pub all-hold-join : {N : Type 0} (a b : List (CheckOf N)) → AllHold a → AllHold b → AllHold (a ++ b)
 all-hold-join {N} a b = each-append (λ (k : CheckOf N). k .broken ≡ false) a b
+
+-- one list after the other: the first decides where one of its checks is broken, the second where none is
+first-append : (a b : List Check) → first (a ++ b) ≡ decide a some (first b)
+first-append [] b = refl
+first-append (k ∷ a) b = ap (λ (o : Option ℕ). pick (k .broken) (some (k .number)) o) (first-append a b)
+
+pub first-append-none : (a b : List Check) → first a ≡ none → first (a ++ b) ≡ first b
+first-append-none a b e = first-append a b ∙ decide-none a some (first b) e
+
+pub first-append-some : (a b : List Check) (n : ℕ) → first a ≡ some n → first (a ++ b) ≡ some n
+first-append-some a b n e = first-append a b ∙ decide-some a some (first b) n e
+
+-- whether some check is broken says all of checks that have one number
+pub first-same-some : (n : ℕ) (ks : List Check) → AllNumbered n ks → someBroken ks ≡ true → first ks ≡ some n
+first-same-some n [] a e = never (cc e)
+first-same-some n (k ∷ ks) a e = go (k .broken) e (λ q. first-same-some n ks (a .1) q)
+  where
+    go : (t : Bool) → pick t true (someBroken ks) ≡ true → (someBroken ks ≡ true → first ks ≡ some n)
+        → pick t (some (k .number)) (first ks) ≡ some n
+    go true q later = cc (a .0)
+    go false q later = later q
+
+pub first-none : (ks : List Check) → someBroken ks ≡ false → first ks ≡ none
+first-none [] e = refl
+first-none (k ∷ ks) e = let p = neither (k .broken) (someBroken ks) e in simp (p .0) (first-none ks (p .1))
 
 -- a refusal names its check
 pub blame : {N : Type 0} (ks : List (CheckOf N)) (n : N) → first ks ≡ some n → Blamed ks n

@@ -42,7 +42,8 @@ copy-end from before to i same c h =
     c .1 ∙ simp (take-all i from m, e, append-nil)
 
 -- a part more: the next n of the one in the place of the next n of the other
-module _ (from before to : List ℕ) (i n : ℕ) (same : length from ≡ length before) (c : Copied from before to i) (room : i + n ≤ length before)
+module _ (from before to : List ℕ) (i n : ℕ) (same : length from ≡ length before) (c : Copied from before to i)
+    (room : i + n ≤ length before)
     (j k : ℕ) (ys : List ℕ) (some : j ≡ n) (gone : k ≡ n) (part : ys ≡ take j (drop i from)) where
   part-in : take i to ++ (ys ++ drop k (drop i to)) ≡ take (i + n) from ++ drop (i + n) before
   part-in =
@@ -64,10 +65,12 @@ module _ (from before to : List ℕ) (i n : ℕ) (same : length from ≡ length 
 module _ (from before to : List ℕ) (i : ℕ) (same : length from ≡ length before) (c : Copied from before to i) (ys : List ℕ)
     (part : ys ≡ take (length from - i) (drop i from)) where
   all-in : Copied from before (take i to ++ (ys ++ drop (length to - i) (drop i to))) (i + (length before - i))
-  all-in = part-turn from before to i (length before - i) same c (omega arith) (length from - i) (length to - i) ys (omega arith) (omega (arith, c .2)) part
+  all-in = part-turn from before to i (length before - i) same c (omega arith) (length from - i) (length to - i) ys (omega arith)
+      (omega (arith, c .2)) part
 
   pub part-end : take i to ++ (ys ++ drop (length to - i) (drop i to)) ≡ from
-  part-end = copy-end from before (take i to ++ (ys ++ drop (length to - i) (drop i to))) (i + (length before - i)) same all-in (omega arith)
+  part-end = copy-end from before (take i to ++ (ys ++ drop (length to - i) (drop i to))) (i + (length before - i)) same all-in
+      (omega arith)
 
   pub part-end-long : length (take i to ++ (ys ++ drop (length to - i) (drop i to))) ≡ length before
   part-end-long = all-in .2

@@ -13,7 +13,8 @@ pub each-split : {A : Type 0} (P : A → Type 0) (xs ys : List A) → Each P (xs
 each-split P [] ys p = (tt, p)
 each-split P (x ∷ xs) ys p = let q = each-split P xs ys (p .1) in ((p .0, q .0), q .1)
 
-pub each-map : {A B : Type 0} (P : A → Type 0) (Q : B → Type 0) (f : A → B) (xs : List A) → ((x : A) → P x → Q (f x)) → Each P xs → Each Q (map f xs)
+pub each-map : {A B : Type 0} (P : A → Type 0) (Q : B → Type 0) (f : A → B) (xs : List A) → ((x : A) → P x → Q (f x)) → Each P xs
+    → Each Q (map f xs)
 each-map P Q f [] h p = tt
 each-map P Q f (x ∷ xs) h p = (h x (p .0), each-map P Q f xs h (p .1))
 

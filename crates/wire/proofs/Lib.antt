@@ -5,9 +5,13 @@ pub mod TableLaws
 pub mod FiniteLaws
 pub mod EachLaws
 pub mod CheckLaws
+pub mod TestLaws
 pub mod AnswerLaws
+pub mod OnwardLaws
 pub mod WriteLaws
 pub mod SheetLaws
 pub mod CopyLaws
+pub mod FormLaws
+pub mod PartLaws
 pub mod FloatLaws
 pub mod Welds

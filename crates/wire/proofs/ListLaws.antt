@@ -1,11 +1,11 @@
 -- Laws of lists that the toolchain's library lacks. Assumes nothing.
 use Prim.Native.Nat.{ℕ, zero, suc, _+_, _-_, _≤_, _<_}
 use mathlib.Core.Path.{_≡_, refl, sym, ap, _∙_}
-use mathlib.Core.List.{List, [], _∷_, _++_}
+use mathlib.Core.List.{List, [], _∷_, _++_, append-assoc, append-nil, flatten}
 use native.Mathlib.Omega.{arith}
-use native.Mathlib.Numerals.{add-one}
+use native.Mathlib.Numerals.{add-one, unary-clauses}
 use lib.ListN.{length, getD, take, drop, set, length-take, length-drop}
-use lib.Seq.{take-all, ext-getD, getD-take, getD-drop}
+use lib.Seq.{take-all, take-nil, ext-getD, getD-take, getD-drop}
 
 -- the part of a slice from a place on is what is left of its list
 pub part-is : (s : List ℕ) (p : ℕ) → take (length s - p) (drop p s) ≡ drop p s
@@ -18,7 +18,8 @@ same-bytes b b′ p n e f =
     ext-getD 0 (take n (drop p b′)) (take n (drop p b)) (simp (length-take, length-drop, e))
     (λ i h.
     let k : i < n = omega (arith, length-take n (drop p b′)) in
-    rw (getD-take n (drop p b′) i 0 k, getD-take n (drop p b) i 0 k, getD-drop p b′ i 0, getD-drop p b i 0) (f (p + i) (omega arith) (omega arith)))
+    rw (getD-take n (drop p b′) i 0 k, getD-take n (drop p b) i 0 k, getD-drop p b′ i 0, getD-drop p b i 0)
+    (f (p + i) (omega arith) (omega arith)))
 
 -- all bytes from p on
 pub same-rest : (b b′ : List ℕ) (p : ℕ) → length b′ ≡ length b → ((i : ℕ) → p ≤ i → getD b′ i 0 ≡ getD b i 0) → drop p b′ ≡ drop p b
@@ -27,7 +28,8 @@ same-rest b b′ p e f =
     (λ i h. getD-drop p b′ i 0 ∙ f (p + i) (omega arith) ∙ sym (getD-drop p b i 0))
 
 -- two bytes stored, one after the other
-two-at : (at : ℕ) (out : List ℕ) (a b : ℕ) → at + 2 ≤ length out → set (set out at a) (suc at) b ≡ take at out ++ (a ∷ b ∷ drop (suc (suc at)) out)
+two-at : (at : ℕ) (out : List ℕ) (a b : ℕ) → at + 2 ≤ length out
+    → set (set out at a) (suc at) b ≡ take at out ++ (a ∷ b ∷ drop (suc (suc at)) out)
 two-at at [] a b h = absurd (omega arith)
 two-at at (x ∷ []) a b h = absurd (omega arith)
 two-at zero (x ∷ y ∷ out) a b h = refl
@@ -41,7 +43,24 @@ two-stored at out a b h =
     ∙ two-at at out a b h
     ∙ ap (λ (k : ℕ). take at out ++ (a ∷ b ∷ drop k out)) (sym e)
 
--- a part of nothing, put back, leaves all as it was
+-- storing an empty part changes nothing
 pub none-put : (out last : List ℕ) → length last ≡ 0 → take 0 out ++ (last ++ drop 0 (drop 0 out)) ≡ out
 none-put out [] e = refl
 none-put out (x ∷ xs) e = absurd (omega arith)
+
+-- what is left of a part is a part of what is left
+pub drop-take : {A : Type 0} (n m : ℕ) (l : List A) → drop n (take m l) ≡ take (m - n) (drop n l)
+drop-take zero m l = simp unary-clauses
+drop-take (suc n) zero l = let z : 0 - suc n ≡ 0 = omega arith in rw z
+drop-take (suc n) (suc m) [] = simp (unary-clauses, take-nil)
+drop-take (suc n) (suc m) (x ∷ l) = simp unary-clauses (drop-take n m l)
+
+-- ---- lists one after the other
+pub flatten-append : (fs gs : List (List ℕ)) → flatten (fs ++ gs) ≡ flatten fs ++ flatten gs
+unfolding flatten
+flatten-append [] gs = refl
+flatten-append (x ∷ fs) gs = ap (λ (l : List ℕ). x ++ l) (flatten-append fs gs) ∙ sym (append-assoc x (flatten fs) (flatten gs))
+
+pub flatten-more : (fs : List (List ℕ)) (f : List ℕ) → flatten (fs ++ (f ∷ [])) ≡ flatten fs ++ f
+unfolding flatten
+flatten-more fs f = flatten-append fs (f ∷ []) ∙ ap (λ (l : List ℕ). flatten fs ++ l) (append-nil f)

@@ -7,7 +7,8 @@ use mathlib.Core.List.{List, [], _∷_, _++_, append-assoc}
 use lib.ListN.{length, getD, take, drop, length-append, length-drop, List·getD-append}
 use lib.Seq.{getD-drop, getD-take, getD-at, take-suc, length-take-le}
 use borrow.Author.Tests.{le-leb, lt-leb}
-use Rattle.wire.specs.Numbers.{num, fetched, nums, be, Octets}
+use Rattle.wire.specs.Numbers.{num, fetched, nums, be, stored, Octets}
+use Rattle.wire.specs.Sheets.{laid}
 
 -- ---- a fetch
 pub fetched-whole : (w : ℕ) (b : List ℕ) (p : ℕ) → p + w ≤ length b → fetched w b p ≡ num w b p
@@ -22,6 +23,15 @@ fetched-short w b p h = simp (lt-leb (p + w) (length b) h)
 pub number-is : (w : ℕ) (b : List ℕ) (p r : ℕ) → r ≡ fetched w b p → p + w ≤ length b → num w b p ≡ r
 number-is w b p r e h = sym (e ∙ fetched-whole w b p h)
 
+-- ---- a store
+pub stored-whole : (w : ℕ) (out : List ℕ) (p n : ℕ) → p + w ≤ length out → stored w out p n ≡ laid out p (be w n)
+unfolding stored
+stored-whole w out p n h = simp (le-leb (p + w) (length out) h)
+
+pub stored-short : (w : ℕ) (out : List ℕ) (p n : ℕ) → length out < p + w → stored w out p n ≡ out
+unfolding stored
+stored-short w out p n h = simp (lt-leb (p + w) (length out) h)
+
 -- ---- a number by its bytes
 pub num-one : (b : List ℕ) (p : ℕ) → num 1 b p ≡ getD b p 0
 unfolding num
@@ -31,7 +41,8 @@ pub num-two : (b : List ℕ) (p : ℕ) → num 2 b p ≡ getD b p 0 * 256 + getD
 unfolding num
 num-two b p = rw add-zero (omega arith)
 
-pub num-four : (b : List ℕ) (p : ℕ) → num 4 b p ≡ getD b p 0 * 16777216 + getD b (p + 1) 0 * 65536 + getD b (p + 2) 0 * 256 + getD b (p + 3) 0
+pub num-four : (b : List ℕ) (p : ℕ) → num 4 b p ≡ getD b p 0 * 16777216 + getD b (p + 1) 0 * 65536 + getD b (p + 2) 0 * 256 + getD
+    b (p + 3) 0
 unfolding num
 num-four b p = rw add-zero (omega arith)
 

@@ -4,19 +4,30 @@ use native.Mathlib.Nat.{add-zero}
 use native.Mathlib.Omega.{arith}
 use mathlib.Core.Path.{_≡_, refl, sym, ap, _∙_}
 use mathlib.Core.List.{List, [], _∷_, _++_, append-assoc, append-nil, flatten}
-use lib.ListN.{length, drop, length-append, length-drop}
-use lib.Seq.{drop-drop, drop-at, take-at}
+use lib.ListN.{length, take, drop, length-append, length-drop}
+use lib.Seq.{drop-drop, drop-at, take-at, sets, sets-eq, length-sets}
 use borrow.Author.Tests.{le-leb, lt-leb}
 use Rattle.wire.specs.Writing.{filled}
 use Rattle.wire.specs.Sheets.{laid, Sheet, sheet, lay, onto}
 
 -- ---- one part
+-- bytes stored one after the other from a place on, which have room there
+pub laid-sets : (vs out : List ℕ) (at : ℕ) → at + length vs ≤ length out → sets out at vs ≡ laid out at vs
+laid-sets vs out at h =
+    sets-eq vs out at h
+    ∙ append-assoc (take at out) vs (drop (at + length vs) out)
+    ∙ ap (λ (l : List ℕ). take at out ++ (vs ++ l)) (sym (drop-drop (length vs) at out))
+
+pub laid-long : (out : List ℕ) (at : ℕ) (part : List ℕ) → at + length part ≤ length out → length (laid out at part) ≡ length out
+laid-long out at part h = ap length (sym (laid-sets part out at h)) ∙ length-sets out at part
+
 pub lay-room : (part : List ℕ) (long : ℕ) (out : List ℕ) → long + length part ≤ length out
     → lay part (sheet long out) ≡ sheet (long + length part) (laid out long part)
 unfolding lay
 lay-room part long out h = simp (le-leb (long + length part) (length out) h)
 
-pub lay-none : (part : List ℕ) (long : ℕ) (out : List ℕ) → length out < long + length part → lay part (sheet long out) ≡ sheet (long + length part) out
+pub lay-none : (part : List ℕ) (long : ℕ) (out : List ℕ) → length out < long + length part
+    → lay part (sheet long out) ≡ sheet (long + length part) out
 unfolding lay
 lay-none part long out h = simp (lt-leb (long + length part) (length out) h)
 
@@ -39,20 +50,22 @@ onto-long (p ∷ parts) s =
     omega (arith, i, e, l)
 
 -- a part after what was laid before it
-laid-more : (out before part : List ℕ) → laid (filled before out) (length before) part ≡ filled (before ++ part) out
+pub laid-more : (out before part : List ℕ) → laid (filled before out) (length before) part ≡ filled (before ++ part) out
 laid-more out before part =
     let rest = drop (length before) out in
     rw (take-at before rest (length before) refl, drop-at before rest (length before) refl, append-assoc, drop-drop, length-append)
 
 onto-behind : (parts : List (List ℕ)) (before out : List ℕ) → length before + length (flatten parts) ≤ length out
-    → onto parts (sheet (length before) (filled before out)) ≡ sheet (length (before ++ flatten parts)) (filled (before ++ flatten parts) out)
+    → onto parts (sheet (length before) (filled before out))
+    ≡ sheet (length (before ++ flatten parts)) (filled (before ++ flatten parts) out)
 unfolding flatten
 onto-behind [] before out h = ap (λ (l : List ℕ). sheet (length l) (filled l out)) (sym (append-nil before))
 onto-behind (p ∷ parts) before out h =
     let n : length (p ++ flatten parts) ≡ length p + length (flatten parts) = length-append p (flatten parts) in
     let m : length (before ++ p) ≡ length before + length p = length-append before p in
     let d : length (drop (length before) out) ≡ length out - length before = length-drop (length before) out in
-    let l : length (filled before out) ≡ length before + length (drop (length before) out) = length-append before (drop (length before) out) in
+    let l : length (filled before out) ≡ length before + length (drop (length before) out) = length-append before
+    (drop (length before) out) in
     ap (onto parts)
     (lay-room p (length before) (filled before out) (omega (arith, h, n, d, l))
     ∙ (λ i. sheet (sym m i) (laid-more out before p i)))

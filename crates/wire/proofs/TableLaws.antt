@@ -77,4 +77,5 @@ total-run w (x ∷ xs) = omega (arith, total-run w xs)
 pub render-append : (fs gs : List Field) → render (fs ++ gs) ≡ render fs ++ render gs
 render-append [] gs = refl
 render-append (f ∷ fs) gs =
-    ap (λ (l : List ℕ). be (f .wide) (f .value) ++ l) (render-append fs gs) ∙ sym (append-assoc (be (f .wide) (f .value)) (render fs) (render gs))
+    ap (λ (l : List ℕ). be (f .wide) (f .value) ++ l) (render-append fs gs)
+    ∙ sym (append-assoc (be (f .wide) (f .value)) (render fs) (render gs))

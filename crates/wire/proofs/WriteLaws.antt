@@ -1,17 +1,18 @@
 -- Laws of writers: what an accepted call says, and that its answers are told apart. Assumes nothing.
-use Prim.Native.Nat.{ℕ}
+use Prim.Native.Nat.{ℕ, _≤_}
 use mathlib.Core.Path.{_≡_, ap, _∙_}
 use mathlib.Core.List.{List, [], _∷_, _++_}
 use lib.ListN.{length, take, drop}
 use lib.Seq.{take-at}
+use borrow.Author.Tests.{le-ltb}
 use Rattle.wire.specs.Checks.{Check, AllHold}
-use Rattle.wire.specs.Answers.{given}
+use Rattle.wire.specs.Answers.{given, refusal}
 use Rattle.wire.specs.Sizes.{bytes}
 use Rattle.wire.specs.declared.Bytes.{Bytes}
 use Rattle.wire.specs.declared.WriteAnswer.{WriteAnswer}
 use Rattle.wire.specs.declared.WriteAnswer.the-variants.{Written, Refused}
-use Rattle.wire.specs.Writing.{filled, roomCheck, written, tellWrite}
-use Rattle.wire.proofs.CheckLaws.{never, all-hold, all-hold-append}
+use Rattle.wire.specs.Writing.{filled, wrote, roomCheck, written, tellWrite}
+use Rattle.wire.proofs.CheckLaws.{never, decide-none, none-broken, all-hold, all-hold-append, all-hold-join}
 use Rattle.wire.proofs.AnswerLaws.{outcome-given}
 
 -- a call that wrote: its checks hold, and what stands in the length that it reports is the body
@@ -24,6 +25,13 @@ accepted ks body out size e =
       all-hold-append ks room (all-hold (ks ++ room) (o .0)) .0,
       ap (λ (x : List ℕ). take (size .0) x) (o .2) ∙ take-at body (drop (length body) out) (size .0) l,
     )
+
+-- and back: checks that hold, in an output with room
+pub wrote-all : (ks : List Check) (body out : List ℕ) → AllHold ks → length body ≤ length out → written ks body out ≡ wrote body out
+wrote-all ks body out h room =
+    let k = ks ++ (roomCheck (length out) body ∷ []) in
+    decide-none k (refusal out) (wrote body out)
+    (none-broken k (all-hold-join ks (roomCheck (length out) body ∷ []) h (le-ltb (length out) (length body) room, tt)))
 
 pub write-apart : (a b : WriteAnswer) → tellWrite a ≡ tellWrite b → a ≡ b
 write-apart (Written s) (Written t) e = cc e

@@ -4,7 +4,7 @@ use mathlib.Core.Path.{_≡_}
 use mathlib.Core.List.{List}
 use Rattle.wire.specs.Checks.{CheckOf, decide}
 
--- "Each ends with an answer or with one refusal number of document 01". N is what a refusal carries, as in a check
+-- "Each ends with an answer or with one refusal number". N is what a refusal carries, as in a check
 pub data AnswerOf (N A : Type 0) : Type 0 where
   refused : N → AnswerOf N A
   given : A → AnswerOf N A
@@ -17,7 +17,7 @@ abbrev pub numberOf : {A : Type 0} → Answer A → ℕ
 numberOf (refused n) = n
 numberOf (given v) = 0
 
--- a refusal stays; of what was given, what f answers
+-- a refusal stays; f is applied to any other answer
 abbrev pub onward : {N A B : Type 0} → AnswerOf N A → (A → AnswerOf N B) → AnswerOf N B
 onward (refused n) f = refused n
 onward (given v) f = f v
@@ -26,7 +26,7 @@ onward (given v) f = f v
 abbrev pub rule : {N A : Type 0} → List (CheckOf N) → A → AnswerOf N A
 rule ks v = decide ks refused (given v)
 
--- an answer, and what then stands in what was lent to be written: O is one output or a pair of two
+-- an answer, and the contents of the lent output after the call: O is one output or a pair of two
 pub record Outcome (O A : Type 0) : Type 0 where
   pub answer : Answer A
   pub output : O
@@ -39,7 +39,7 @@ refusal out n = record { answer = refused n; output = out }
 abbrev pub outcome : {O A : Type 0} → List (CheckOf ℕ) → O → A → O → Outcome O A
 outcome ks out v after = decide ks (refusal out) (record { answer = given v; output = after })
 
--- the promise of an entry that answers r, which `tell` puts into the paper's number and values, and leaves `after` in the lent output
+-- the promise of an entry: `tell` of its result r is the right answer, and `after` in the lent output is the right output
 pub record Promise {R O A : Type 0} (tell : R → Answer A) (right : Outcome O A) (r : R) (after : O) : Type 0 where
   pub answers : tell r ≡ right .answer
   pub leaves : after ≡ right .output

@@ -38,7 +38,7 @@ abbrev pub first : {N : Type 0} → List (CheckOf N) → Option N
 first [] = none
 first (k ∷ ks) = pick (k .broken) (some (k .number)) (first ks)
 
--- what follows from it: a refusal with that number, or what is accepted
+-- the result of a list of checks: `refused` with the number of the first broken one, or `accepted`
 abbrev pub decide {ℓ} : {N : Type 0} {X : Type ℓ} → List (CheckOf N) → (N → X) → X → X
 decide [] refused accepted = accepted
 decide (k ∷ ks) refused accepted = pick (k .broken) (refused (k .number)) (decide ks refused accepted)
@@ -52,7 +52,7 @@ someBroken (k ∷ ks) = either (k .broken) (someBroken ks)
 abbrev pub AllHold : {N : Type 0} → List (CheckOf N) → Type 0
 AllHold {N} ks = Each (λ (k : CheckOf N). k .broken ≡ false) ks
 
--- the check that a refusal with the number n names: it is broken, and every check before it holds
+-- a refusal with the number n is explained: a check with this number is broken, and every check before it holds
 pub record Blamed {N : Type 0} (ks : List (CheckOf N)) (n : N) : Type 0 where
   pub before : List (CheckOf N)
   pub blamed : CheckOf N

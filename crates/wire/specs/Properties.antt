@@ -1,4 +1,4 @@
--- What properties are said with: of each element of a list, of exactly one value.
+-- Properties of each element of a list, and of exactly one value.
 use mathlib.Core.Path.{_≡_}
 use mathlib.Core.List.{List, [], _∷_}
 

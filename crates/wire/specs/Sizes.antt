@@ -15,6 +15,6 @@ halfwords n = record { 0 = n }
 abbrev pub halved : Bytes → Halfwords
 halved b = halfwords (b .0 / 2)
 
--- a count of bytes that is no whole number of halfwords
+-- a count of bytes that is odd
 abbrev pub odd : ℕ → Bool
 odd n = not (eqb (n % 2) 0)

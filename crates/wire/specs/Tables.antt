@@ -1,7 +1,7 @@
 -- A table of fields, as the interface document prints one: how wide each is and what it holds. Readers and writers share the tables.
 use Prim.Native.Nat.{ℕ, _+_, _^_, _<_}
 use mathlib.Core.Path.{_≡_}
-use mathlib.Core.List.{List, [], _∷_, _++_}
+use mathlib.Core.List.{List, [], _∷_, _++_, map}
 use lib.ListN.{length, take, drop}
 use Rattle.wire.specs.Properties.{Each}
 use Rattle.wire.specs.Numbers.{num, be}
@@ -19,7 +19,11 @@ abbrev pub render : List Field → List ℕ
 render [] = []
 render (f ∷ fs) = be (f .wide) (f .value) ++ render fs
 
--- how many bytes that is
+-- numbers of one width, one after the other
+abbrev pub run : ℕ → List ℕ → List ℕ
+run w list = render (map (field w) list)
+
+-- how many bytes a table takes
 abbrev pub total : List Field → ℕ
 total [] = 0
 total (f ∷ fs) = f .wide + total fs

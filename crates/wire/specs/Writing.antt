@@ -10,7 +10,7 @@ use Rattle.wire.specs.declared.Bytes.{Bytes}
 use Rattle.wire.specs.declared.WriteAnswer.{WriteAnswer}
 use Rattle.wire.specs.declared.WriteAnswer.the-variants.{Written, Refused}
 
--- what stands in an output that held `out`, with `body` from its start
+-- the contents of an output that held `out`, after `body` was stored at its start
 abbrev pub filled : List ℕ → List ℕ → List ℕ
 filled body out = body ++ drop (length body) out
 
@@ -26,7 +26,7 @@ roomCheck room whole = check 13 (ltb room (length whole))
 abbrev pub thenRoom : List Check → List ℕ → ℕ → List Check
 thenRoom ks whole room = ks ++ (roomCheck room whole ∷ [])
 
--- what comes of them: v reported and the whole answer written, or a refusal and nothing written
+-- the outcome: v is reported and the whole answer written, or a refusal and nothing written
 abbrev pub wroteAll : {A : Type 0} → List Check → A → List ℕ → List ℕ → Outcome (List ℕ) A
 wroteAll ks v whole out = outcome (thenRoom ks whole (length out)) out v (filled whole out)
 
@@ -34,7 +34,11 @@ wroteAll ks v whole out = outcome (thenRoom ks whole (length out)) out v (filled
 abbrev pub written : List Check → List ℕ → List ℕ → Outcome (List ℕ) Bytes
 written ks body out = wroteAll ks (bytes (length body)) body out
 
--- one part onto another of the same length; parts of different lengths are left alone
+-- how many bytes a copy moves at once
+abbrev pub copyBlock : ℕ
+copyBlock = 1200
+
+-- copies one part onto another of the same length; does nothing if the lengths differ
 unfoldable pub copied : List ℕ → List ℕ → List ℕ
 copied from to = pick (eqb (length from) (length to)) from to
 

@@ -1,15 +1,17 @@
-// Bytes and numbers: the counts of bytes and of halfwords, the fetch of a number, a copy, what writers answer, and the refusals by name.
+// Bytes and numbers: counts of bytes and of halfwords, fetch and store of a number, a copy, the answers of writers,
+// and the refusals by name.
 ghost use mathlib.Core.Path.{_≡_};
 ghost use Prim.Native.Nat.{_+_, _<_, _≤_};
 ghost use lib.ListN.{length};
 ghost use lib.Ieee.{binary32, ofBits};
-ghost use Rattle.wire.specs.Numbers.{num, fetched};
+ghost use Rattle.wire.specs.Numbers.{num, fetched, be, stored};
 ghost use Rattle.wire.specs.Sizes.{halved};
-ghost use Rattle.wire.specs.Writing.{copied};
+ghost use Rattle.wire.specs.Sheets.{laid};
+ghost use Rattle.wire.specs.Writing.{copyBlock, copied};
 
 pub mod refusal;
 
-// A count of bytes, and a count of halfwords. Neither is taken for the other: `halfwords` is the one way between them.
+// A count of bytes and a count of halfwords are different types. Only `to_halfwords` converts between them.
 pub struct Bytes(pub u32);
 
 pub struct Halfwords(pub u32);
@@ -45,8 +47,8 @@ fn whole16(b: &[u8], at: usize) -> u16
     wide16(b[at]) * 256 + wide16(b[at + 1])
 }
 
-// The lowest byte comes first in the sum: where the number is also compared with one that ends in zero bits, the compiler
-// else takes the last byte out of it and loads each byte by itself.
+// The lowest byte comes first in the sum. In another order, where the number is also compared with one that ends in zero bits,
+// the compiler splits off the last byte and loads each byte separately.
 fn whole32(b: &[u8], at: usize) -> u32
     requires { ⌜ at + 4 ≤ length (now b) ⌝ }
     ensures { λ r. ⌜ r ≡ num 4 (now (b .entry)) at ⌝ }
@@ -90,10 +92,48 @@ pub fn fetch32(b: &[u8], at: u32) -> u32
     0
 }
 
-// How many bytes are moved at once: half of a segment's data, so that a full segment leaves no rest.
+fn put16(out: &mut [u8], at: usize, x: u16)
+    requires { ⌜ at + 2 ≤ length (now out) ⌝ }
+    ensures { λ r. ⌜ now (out .exit) ≡ laid (now (out .entry)) at (be 2 x) ⌝ }
+{
+    out[at] = (x / 256 % 256) as u8;
+    out[at + 1] = (x % 256) as u8;
+}
+
+fn put32(out: &mut [u8], at: usize, x: u32)
+    requires { ⌜ at + 4 ≤ length (now out) ⌝ }
+    ensures { λ r. ⌜ now (out .exit) ≡ laid (now (out .entry)) at (be 4 x) ⌝ }
+{
+    out[at] = (x / 256 / 256 / 256 % 256) as u8;
+    out[at + 1] = (x / 256 / 256 % 256) as u8;
+    out[at + 2] = (x / 256 % 256) as u8;
+    out[at + 3] = (x % 256) as u8;
+}
+
+// A number of 16 bits stored at a place, or nothing where its two bytes have no room.
+pub fn store16(out: &mut [u8], at: u32, x: u16)
+    ensures { λ r. ⌜ now (out .exit) ≡ stored 2 (now (out .entry)) at x ⌝ }
+{
+    let place = at as usize;
+    if place + 2 <= out.len() {
+        put16(out, place, x);
+    }
+}
+
+// A number of 32 bits stored at a place, or nothing where its four bytes have no room.
+pub fn store32(out: &mut [u8], at: u32, x: u32)
+    ensures { λ r. ⌜ now (out .exit) ≡ stored 4 (now (out .entry)) at x ⌝ }
+{
+    let place = at as usize;
+    if place + 4 <= out.len() {
+        put32(out, place, x);
+    }
+}
+
+// How many bytes are copied at once: half of a segment's data, so a full segment is two whole blocks.
 const BLOCK: usize = 1200;
 
-// One part onto another of the same length. Parts of different lengths are left alone.
+// Copies one part onto another of the same length. Does nothing if the lengths differ.
 pub fn copy(from: &[u8], to: &mut [u8])
     ensures { λ r. ⌜ now (to .exit) ≡ copied (now (from .entry)) (now (to .entry)) ⌝ }
 {
@@ -117,9 +157,9 @@ fn copy_all(from: &[u8], to: &mut [u8])
     copy_each(&from[done..], &mut to[done..]);
 }
 
-// By way of a block of its own, which the compiler knows to lie apart from both: so it moves each of them as a whole.
+// Copies through a local block. The compiler knows that it overlaps neither part, so it can move whole blocks.
 fn copy_block(from: &[u8], to: &mut [u8])
-    requires { ⌜ (length (now from) ≡ 1200) × (length (now to) ≡ 1200) ⌝ }
+    requires { ⌜ (length (now from) ≡ copyBlock) × (length (now to) ≡ copyBlock) ⌝ }
     ensures { λ r. ⌜ now (to .exit) ≡ now (from .entry) ⌝ }
 {
     let mut block = [0u8; BLOCK];
@@ -138,12 +178,12 @@ fn copy_each(from: &[u8], to: &mut [u8])
     }
 }
 
-// An infinity's 32 bits without the sign; above them lie the patterns of NaN. The sign's weight.
+// The 32 bits of an infinity without the sign, above which are those of NaN; and the value of the sign bit.
 pub const INFINITE: u32 = 2139095040;
 
 pub const SIGN: u32 = 2147483648;
 
-// The float of 32 bits, for every pattern: those of NaN are all the one NaN.
+// The float with these 32 bits, for every pattern. All patterns of NaN give the same NaN.
 pub fn float_of(bits: u32) -> f32
     ensures { λ r. ⌜ r ≡ ofBits binary32 bits ⌝ }
 {

@@ -8,14 +8,8 @@ use Rattle.wire.proofs.copy.Tie as tie
 returns : tie.Need-returns
 returns c = sym (copied-other _ _ (c .if1 .taken))
 
-copy-all-requires : tie.Need-copy-all-requires
-copy-all-requires c κs = search needs
-
-same-length : tie.Need-same-length
-same-length c = search needs
-
 returns-2 : tie.Need-returns-2
 returns-2 c = c .before .before .copy-all .ensures ∙ sym (copied-same _ _ (search needs))
 
 pub copy-spec : {M : Type 1} → statement M
-copy-spec = tie.close (tie.spec returns copy-all-requires same-length returns-2)
+copy-spec = tie.close (tie.spec returns (λ c κs. search needs) (λ c. search needs) returns-2)

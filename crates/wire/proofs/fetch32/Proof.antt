@@ -3,15 +3,6 @@ use Rattle.wire.proofs.NumberLaws.{fetched-whole, fetched-short}
 use borrow.Author.Needs.{needs}
 use Rattle.wire.proofs.fetch32.Statement.{statement}
 use Rattle.wire.proofs.fetch32.Tie as tie
-use Rattle.wire.proofs.fetch32.Reads as reads
-use Rattle.wire.proofs.fetch32.Lts as lts
-use Rattle.wire.proofs.whole32.Reads as whole32-reads
-
-add-if1 : tie.Need-add-if1
-add-if1 c = search needs
-
-whole32-requires : tie.Need-whole32-requires
-whole32-requires c κs = search needs
 
 returns : tie.Need-returns
 returns c = c .whole32 .ensures ∙ sym (fetched-whole 4 _ _ (search needs))
@@ -20,4 +11,4 @@ returns-2 : tie.Need-returns-2
 returns-2 c = sym (fetched-short 4 _ _ (search needs))
 
 pub fetch32-spec : {M : Type 1} → statement M
-fetch32-spec = tie.close (tie.spec add-if1 whole32-requires returns returns-2)
+fetch32-spec = tie.close (tie.spec (λ c. search needs) (λ c κs. search needs) returns returns-2)

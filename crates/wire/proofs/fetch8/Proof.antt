@@ -3,14 +3,6 @@ use Rattle.wire.proofs.NumberLaws.{fetched-whole, fetched-short, num-on
 use borrow.Author.Needs.{needs}
 use Rattle.wire.proofs.fetch8.Statement.{statement}
 use Rattle.wire.proofs.fetch8.Tie as tie
-use Rattle.wire.proofs.fetch8.Reads as reads
-use Rattle.wire.proofs.fetch8.Lts as lts
-
-add-if1 : tie.Need-add-if1
-add-if1 c = search needs
-
-shared-slice-read-result : tie.Need-shared-slice-read-result
-shared-slice-read-result c = search needs
 
 returns : tie.Need-returns
 returns c = sym (fetched-whole 1 _ _ (search needs) ∙ num-one _ _)
@@ -19,4 +11,4 @@ returns-2 : tie.Need-returns-2
 returns-2 c = sym (fetched-short 1 _ _ (search needs))
 
 pub fetch8-spec : {M : Type 1} → statement M
-fetch8-spec = tie.close (tie.spec add-if1 shared-slice-read-result returns returns-2)
+fetch8-spec = tie.close (tie.spec (λ c. search needs) (λ c. search needs) returns returns-2)

@@ -3,17 +3,12 @@ use mathlib.Core.Path.{sym, _∙_}
 use borrow.Author.Needs.{needs}
 use Rattle.wire.proofs.float_of.Statement.{statement}
 use Rattle.wire.proofs.float_of.Tie as tie
-use Rattle.wire.proofs.float_of.Reads as reads
-use Rattle.wire.proofs.float_of.Lts as lts
 
 float-from-bits-result : tie.Need-float-from-bits-result
 float-from-bits-result c = rw (no-nan _ (c .if1 .taken)) tt
-
-returns : tie.Need-returns
-returns c = search needs
 
 returns-2 : tie.Need-returns-2
 returns-2 c = zero-by-zero ∙ sym (nan-read _ (c .if1 .left))
 
 pub float-of-spec : {M : Type 1} → statement M
-float-of-spec = tie.close (tie.spec float-from-bits-result returns returns-2)
+float-of-spec = tie.close (tie.spec float-from-bits-result (λ c. search needs) returns-2)

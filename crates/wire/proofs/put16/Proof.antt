@@ -1,0 +1,20 @@
+use Prim.Native.Nat.{suc, _+_}
+use native.Mathlib.Omega.{arith}
+use mathlib.Core.Path.{_≡_}
+use denote.Ref.{now}
+use borrow.Author.Needs.{needs}
+use lib.ListN.{length-set}
+use Rattle.wire.specs.Numbers.{be}
+use Rattle.wire.proofs.SheetLaws.{laid-sets}
+use Rattle.wire.proofs.put16.Statement.{statement}
+use Rattle.wire.proofs.put16.Tie as tie
+
+returns : tie.Need-returns
+returns c =
+    let e1 : c .args .at + 1 ≡ suc (c .args .at) = omega arith in
+    rw (e1) (laid-sets (be 2 (c .args .x)) (now (c .args .out)) (c .args .at) (c .pre))
+
+pub put16-spec : {M : Type 1} → statement M
+put16-spec =
+    tie.close (tie.spec (λ c. search needs) (λ c. search needs) (λ c. search needs) (λ c. search needs)
+    (λ c. simp length-set (omega arith)) (λ c. search needs) returns)
