@@ -1,5 +1,4 @@
 -- The laws of message 8, its cases, and that each promise has one answer.
-pub mod Regions
 pub mod Halfwords
 pub mod StepLaws
 pub mod Theorems

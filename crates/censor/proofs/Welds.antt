@@ -1,5 +1,5 @@
--- What the contract of each public function says of a call, as Rattle reads it from src/ (`Learnt`): its promise, and that no two results of one call
--- meet it. Assumes nothing.
+-- What the contract of each public function says of a call, as Rattle reads it from src/ (`Learnt`): its promise, and that no two results
+-- of one call meet it. Assumes nothing.
 use denote.Ref.{now}
 use mathlib.Core.Path.{_≡_, sym, _∙_}
 use Rattle.wire.proofs.AnswerLaws.{only}
@@ -14,7 +14,8 @@ use Rattle.censor.proofs.write_censor.Reads as write-censor
 pub read-censor-says : (κs body r last : _) → read-censor.Learnt κs (body, tt) r last → r ≡ shown (censorOf (now body))
 read-censor-says κs body r last l = l
 
-pub read-censor-one : (κs body r r₂ last last₂ : _) → read-censor.Learnt κs (body, tt) r last → read-censor.Learnt κs (body, tt) r₂ last₂ → r ≡ r₂
+pub read-censor-one : (κs body r r₂ last last₂ : _) → read-censor.Learnt κs (body, tt) r last
+    → read-censor.Learnt κs (body, tt) r₂ last₂ → r ≡ r₂
 read-censor-one κs body r r₂ last last₂ l l₂ = l ∙ sym l₂
 
 pub write-censor-says : (κs list out r list′ out′ : _) → write-censor.Learnt κs (list, (out, tt)) r (list′, (out′, tt))

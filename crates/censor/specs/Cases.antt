@@ -5,8 +5,9 @@ use mathlib.Core.List.{List, [], _∷_, _++_, map}
 use lib.ListN.{replicate}
 use Rattle.wire.specs.Answers.{Answer, refused, given, Outcome, refusal}
 use Rattle.wire.specs.Sizes.{bytes}
+use Rattle.wire.specs.Tables.{run}
 use Rattle.wire.specs.declared.Bytes.{Bytes}
-use Rattle.censor.specs.Censor.{bodyOf, censorOf, censorWritten}
+use Rattle.censor.specs.Censor.{censorOf, censorWritten}
 
 -- a body with the reader's right answer; a list and the output before, with the writer's right outcome
 pub data Case : Type 0 where
@@ -25,11 +26,11 @@ abbrev pub right : Case → Result
 right (read body answer) = answered answer
 right (write list out outcome) = wrote outcome
 
--- of every case the rules say what is right
+-- in every case the rules give the right answer
 abbrev pub All : List Case → Type 0
 All cs = map found cs ≡ map right cs
 
--- a region, and n of them that are within every range
+-- a region, and n regions with every field in range
 abbrev pub zone : ℕ → ℕ → ℕ → ℕ → ℕ → ℕ → List ℕ
 zone startRange stopRange startAzimuth stopAzimuth segment code =
     startRange ∷ stopRange ∷ startAzimuth ∷ stopAzimuth ∷ segment ∷ code ∷ []
@@ -38,7 +39,7 @@ abbrev pub zones : ℕ → List ℕ
 zones zero = []
 zones (suc n) = zone 0 511 0 360 1 2 ++ zones n
 
--- one region: its list is accepted or refused as 24, its body and the list alike
+-- one region, as a list and as a body: both are accepted, or both are refused as 24
 abbrev pub one : List ℕ → List ℕ
 one fields = 1 ∷ fields
 
@@ -47,12 +48,12 @@ room = replicate 14 7
 
 abbrev pub passes : List ℕ → List Case
 passes fields =
-    read (bodyOf (one fields)) (given (one fields))
-    ∷ write (one fields) room (record { answer = given (bytes 14); output = bodyOf (one fields) })
+    read (run 2 (one fields)) (given (one fields))
+    ∷ write (one fields) room (record { answer = given (bytes 14); output = run 2 (one fields) })
     ∷ []
 
 abbrev pub breaks : List ℕ → List Case
-breaks fields = read (bodyOf (one fields)) (refused 24) ∷ write (one fields) room (refusal room 24) ∷ []
+breaks fields = read (run 2 (one fields)) (refused 24) ∷ write (one fields) room (refusal room 24) ∷ []
 
 abbrev pub fieldCases : List Case
 fieldCases =
@@ -80,13 +81,13 @@ bodyCases =
     ∷ read (0 ∷ 1 ∷ 1 ∷ 255 ∷ 0 ∷ 0 ∷ 1 ∷ 104 ∷ 0 ∷ 0 ∷ 0 ∷ 5 ∷ 0 ∷ 2 ∷ []) (given (1 ∷ zone 511 0 360 0 5 2))
     ∷ read (0 ∷ 1 ∷ 1 ∷ 255 ∷ 0 ∷ 0 ∷ 1 ∷ 104 ∷ 0 ∷ 0 ∷ 0 ∷ 5 ∷ 0 ∷ []) (refused 23)
     ∷ read (0 ∷ 1 ∷ 1 ∷ 255 ∷ 0 ∷ 0 ∷ 1 ∷ 104 ∷ 0 ∷ 0 ∷ 0 ∷ 5 ∷ 0 ∷ 2 ∷ 0 ∷ []) (refused 23)
-    ∷ read (bodyOf (2 ∷ zones 2)) (given (2 ∷ zones 2))
-    ∷ read (bodyOf (2 ∷ (zones 1 ++ zone 0 511 361 360 1 2))) (refused 24)
-    ∷ read (bodyOf (25 ∷ zones 25)) (given (25 ∷ zones 25))
-    ∷ read (bodyOf (26 ∷ zones 26)) (refused 24)
-    ∷ read (bodyOf (26 ∷ [])) (refused 24)
-    ∷ read (bodyOf (25 ∷ zones 24)) (refused 23)
-    ∷ read (bodyOf (25 ∷ zones 26)) (refused 23)
+    ∷ read (run 2 (2 ∷ zones 2)) (given (2 ∷ zones 2))
+    ∷ read (run 2 (2 ∷ (zones 1 ++ zone 0 511 361 360 1 2))) (refused 24)
+    ∷ read (run 2 (25 ∷ zones 25)) (given (25 ∷ zones 25))
+    ∷ read (run 2 (26 ∷ zones 26)) (refused 24)
+    ∷ read (run 2 (26 ∷ [])) (refused 24)
+    ∷ read (run 2 (25 ∷ zones 24)) (refused 23)
+    ∷ read (run 2 (25 ∷ zones 26)) (refused 23)
     ∷ []
 
 abbrev pub listCases : List Case
@@ -99,7 +100,7 @@ listCases =
     ∷ write (1 ∷ zone 511 0 360 0 5 2) (replicate 15 7)
     (record { answer = given (bytes 14); output = 0 ∷ 1 ∷ 1 ∷ 255 ∷ 0 ∷ 0 ∷ 1 ∷ 104 ∷ 0 ∷ 0 ∷ 0 ∷ 5 ∷ 0 ∷ 2 ∷ 7 ∷ [] })
     ∷ write (1 ∷ (zones 1 ++ (0 ∷ []))) room (refusal room 23)
-    ∷ write (25 ∷ zones 25) (replicate 302 7) (record { answer = given (bytes 302); output = bodyOf (25 ∷ zones 25) })
+    ∷ write (25 ∷ zones 25) (replicate 302 7) (record { answer = given (bytes 302); output = run 2 (25 ∷ zones 25) })
     ∷ write (25 ∷ zones 25) (replicate 301 7) (refusal (replicate 301 7) 13)
     ∷ write (26 ∷ zones 26) room (refusal room 24)
     ∷ write (26 ∷ []) room (refusal room 24)

@@ -2,4 +2,5 @@
 pub mod Censor
 pub mod Told
 pub mod Theorems
+pub mod Steps
 pub mod Cases

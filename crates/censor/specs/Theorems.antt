@@ -1,5 +1,5 @@
--- What holds of every body and list of message 8: what is read is what the table says, the reader and the writer undo each other, and the struct that is
--- handed back tells the answer.
+-- What holds of every body and list of message 8: what is read is what the table says, the reader and the writer undo each other, and the
+-- struct that is handed back tells the answer.
 use Prim.Native.Nat.{ℕ, _≤_, _<_}
 use mathlib.Core.Path.{_≡_}
 use mathlib.Core.List.{List}
@@ -19,16 +19,16 @@ Halfwords list = (i : ℕ) → getD list i 0 < 65536
 abbrev pub BodyIsTable : Type 0
 BodyIsTable = (body list : List ℕ) → Octets body → censorOf body ≡ given list → body ≡ bodyOf list
 
--- what the writer writes, the reader accepts with the same numbers
+-- the reader accepts what the writer wrote, and reports the same numbers
 abbrev pub WrittenIsRead : Type 0
 WrittenIsRead = (list out : List ℕ) (size : Bytes) → Halfwords list → censorWritten list out .answer ≡ given size
     → censorOf (take (size .0) (censorWritten list out .output)) ≡ given list
 
--- what the reader hands back, written, is the body again
+-- writing the numbers that the reader reports gives the same body
 abbrev pub ReadIsWritten : Type 0
 ReadIsWritten = (body out list : List ℕ) → Octets body → censorOf body ≡ given list → length body ≤ length out
     → censorWritten list out ≡ wrote body out
 
--- nothing of the answer is lost in the struct
+-- the struct holds the whole answer
 abbrev pub StructTells : Type 0
 StructTells = (body : List ℕ) → tellCensor (shown (censorOf body)) ≡ censorOf body

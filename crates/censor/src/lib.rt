@@ -1,13 +1,15 @@
 // Message 8, the censor zones: read from a body, and written as one.
 ghost use mathlib.Core.Path.{_≡_};
 ghost use Prim.Native.Nat.{_+_, _*_, _-_, _≤_};
-ghost use mathlib.Core.List.{_∷_, _++_};
-ghost use lib.ListN.{length, take, drop, replicate};
+ghost use mathlib.Core.List.{_++_};
+ghost use lib.ListN.{length, replicate};
 ghost use Rattle.wire.specs.Numbers.{nums};
-ghost use Rattle.wire.specs.Checks.{someBroken};
+ghost use Rattle.wire.specs.Tables.{run};
 ghost use Rattle.wire.specs.Answers.{refused, Promise};
-ghost use Rattle.wire.specs.Writing.{tellWrite};
-ghost use Rattle.censor.specs.Censor.{mostRegions, range, outside, region, fieldChecks, regionsChecks, bodyOf, censorOf, censorWritten};
+ghost use Rattle.wire.specs.Writing.{filled, tellWrite};
+ghost use Rattle.wire.specs.Forms.{within, outside};
+ghost use Rattle.censor.specs.Censor.{mostRegions, regionFields, censorOf, censorWritten};
+ghost use Rattle.censor.specs.Steps.{regionBytes, regionBroken, regionsBroken};
 ghost use Rattle.censor.specs.Told.{places, shown};
 use wire::Bytes;
 use wire::WriteAnswer;
@@ -15,7 +17,18 @@ use wire::refusal;
 
 const MOST_REGIONS: u16 = 25;
 
-const PLACES: usize = 150;
+// Halfwords of a region, bytes of the count and of a region, and the room for the most regions.
+const REGION_FIELDS: usize = 6;
+
+const COUNT: usize = 2;
+
+const FIRST_FIELD: u32 = COUNT as u32;
+
+const FIELDS: u32 = REGION_FIELDS as u32;
+
+const REGION: usize = 2 * REGION_FIELDS;
+
+const PLACES: usize = REGION_FIELDS * MOST_REGIONS as usize;
 
 const MOST_RANGE: u16 = 511;
 
@@ -35,7 +48,7 @@ pub struct Censor {
 }
 
 fn beyond(x: u16, least: u16, most: u16) -> bool
-    ensures { λ r. ⌜ r ≡ outside (range least most) x ⌝ }
+    ensures { λ r. ⌜ r ≡ outside (within least most) x ⌝ }
 {
     if x < least {
         return true;
@@ -43,10 +56,10 @@ fn beyond(x: u16, least: u16, most: u16) -> bool
     most < x
 }
 
-// A region is the first six numbers of the part.
+// The region's six fields are the first numbers of the part.
 fn region_broken(part: &[u16]) -> bool
-    requires { ⌜ 6 ≤ length (now part) ⌝ }
-    ensures { λ r. ⌜ r ≡ someBroken (fieldChecks region 0 (now (part .entry))) ⌝ }
+    requires { ⌜ regionFields ≤ length (now part) ⌝ }
+    ensures { λ r. ⌜ r ≡ regionBroken (now (part .entry)) ⌝ }
 {
     if beyond(part[0], 0, MOST_RANGE) {
         return true;
@@ -67,12 +80,12 @@ fn region_broken(part: &[u16]) -> bool
 }
 
 fn regions_broken(fields: &[u16], n: usize) -> bool
-    requires { ⌜ 6 * n ≤ length (now fields) ⌝ }
-    ensures { λ r. ⌜ r ≡ someBroken (regionsChecks n (now (fields .entry))) ⌝ }
+    requires { ⌜ regionFields * n ≤ length (now fields) ⌝ }
+    ensures { λ r. ⌜ r ≡ regionsBroken n (now (fields .entry)) ⌝ }
 {
     let mut i = 0;
     while i < n {
-        let at = 6 * i;
+        let at = REGION_FIELDS * i;
         if region_broken(&fields[at..]) {
             return true;
         }
@@ -93,14 +106,14 @@ fn refuse(number: u8) -> Censor
 
 // The fields of n regions, then 0.
 fn regions_of(body: &[u8], n: u32) -> [u16; PLACES]
-    requires { ⌜ (n ≤ mostRegions) × (2 + 12 * n ≤ length (now body)) ⌝ }
-    ensures { λ r. ⌜ r ≡ nums 2 (now (body .entry)) 2 (6 * n) ++ replicate (places - 6 * n) 0 ⌝ }
+    requires { ⌜ (n ≤ mostRegions) × (2 + regionBytes * n ≤ length (now body)) ⌝ }
+    ensures { λ r. ⌜ r ≡ nums 2 (now (body .entry)) 2 (regionFields * n) ++ replicate (places - regionFields * n) 0 ⌝ }
 {
     let mut regions = [0u16; PLACES];
     let mut i = 0;
-    while i < 6 * n {
+    while i < FIELDS * n {
         let k = i as usize;
-        regions[k] = wire::fetch16(body, 2 + 2 * i);
+        regions[k] = wire::fetch16(body, FIRST_FIELD + 2 * i);
         i += 1;
     }
     regions
@@ -109,7 +122,7 @@ fn regions_of(body: &[u8], n: u32) -> [u16; PLACES]
 pub fn read_censor(body: &[u8]) -> Censor
     ensures { λ r. ⌜ r ≡ shown (censorOf (now (body .entry))) ⌝ }
 {
-    if body.len() < 2 {
+    if body.len() < COUNT {
         return refuse(refusal::LENGTH);
     }
     let count = wire::fetch16(body, 0);
@@ -117,7 +130,7 @@ pub fn read_censor(body: &[u8]) -> Censor
         return refuse(refusal::FIELD);
     }
     let n = count as usize;
-    if body.len() != 2 + 12 * n {
+    if body.len() != COUNT + REGION * n {
         return refuse(refusal::LENGTH);
     }
     let regions = regions_of(body, count as u32);
@@ -131,24 +144,15 @@ pub fn read_censor(body: &[u8]) -> Censor
     }
 }
 
-fn put(out: &mut [u8], at: usize, first: u8, second: u8)
-    requires { ⌜ at + 2 ≤ length (now out) ⌝ }
-    ensures { λ r. ⌜ now (out .exit) ≡ take at (now (out .entry)) ++ (first ∷ second ∷ drop (at + 2) (now (out .entry))) ⌝ }
-{
-    out[at] = first;
-    out[at + 1] = second;
-}
-
+// The numbers of a list as halfwords from the output's start.
 fn put_all(list: &[u16], out: &mut [u8])
-    requires { ⌜ 2 * length (now list) ≤ length (now out) ⌝ }
-    ensures { λ r. ⌜ now (out .exit) ≡ bodyOf (now (list .entry)) ++ drop (2 * length (now (list .entry))) (now (out .entry)) ⌝ }
+    requires { ⌜ (length (now list) ≤ 1 + places) × (2 * length (now list) ≤ length (now out)) ⌝ }
+    ensures { λ r. ⌜ now (out .exit) ≡ filled (run 2 (now (list .entry))) (now (out .entry)) ⌝ }
 {
     let mut i = 0;
     while i < list.len() {
-        let x = list[i];
-        let high = (x / 256) as u8;
-        let low = (x % 256) as u8;
-        put(out, 2 * i, high, low);
+        let at = 2 * i as u32;
+        wire::store16(out, at, list[i]);
         i += 1;
     }
 }
@@ -164,13 +168,13 @@ pub fn write_censor(list: &[u16], out: &mut [u8]) -> WriteAnswer
         return WriteAnswer::Refused(refusal::FIELD);
     }
     let n = count as usize;
-    if list.len() != 1 + 6 * n {
+    if list.len() != 1 + REGION_FIELDS * n {
         return WriteAnswer::Refused(refusal::LENGTH);
     }
     if regions_broken(&list[1..], n) {
         return WriteAnswer::Refused(refusal::FIELD);
     }
-    let size = 2 + 12 * n;
+    let size = COUNT + REGION * n;
     if out.len() < size {
         return WriteAnswer::Refused(refusal::OUTPUT_SMALL);
     }

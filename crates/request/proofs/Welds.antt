@@ -1,5 +1,5 @@
--- What the contract of each public function says of a call, as Rattle reads it from src/ (`Learnt`): its promise, and that no two results of one call
--- meet it. Assumes nothing.
+-- What the contract of each public function says of a call, as Rattle reads it from src/ (`Learnt`): its promise, and that no two results
+-- of one call meet it. Assumes nothing.
 use denote.Ref.{now}
 use mathlib.Core.Path.{_≡_}
 use Rattle.wire.proofs.AnswerLaws.{only, only-answer}
@@ -23,7 +23,8 @@ request-apart (Refused n) (Refused m) e = cc e
 pub read-request-says : (κs body r last : _) → read-request.Learnt κs (body, tt) r last → tellRequest r ≡ requestOf (now body)
 read-request-says κs body r last l = l
 
-pub read-request-one : (κs body r r₂ last last₂ : _) → read-request.Learnt κs (body, tt) r last → read-request.Learnt κs (body, tt) r₂ last₂ → r ≡ r₂
+pub read-request-one : (κs body r r₂ last last₂ : _) → read-request.Learnt κs (body, tt) r last
+    → read-request.Learnt κs (body, tt) r₂ last₂ → r ≡ r₂
 read-request-one κs body r r₂ last last₂ l l₂ = only-answer tellRequest request-apart (requestOf (now body)) r r₂ l l₂
 
 pub write-request-says : (κs list out r list′ out′ : _) → write-request.Learnt κs (list, (out, tt)) r (list′, (out′, tt))

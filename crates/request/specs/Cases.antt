@@ -24,7 +24,7 @@ abbrev pub right : Case → Result
 right (read body answer) = answered answer
 right (write list out outcome) = wrote outcome
 
--- of every case the rules say what is right
+-- in every case the rules give the right answer
 abbrev pub All : List Case → Type 0
 All cs = map found cs ≡ map right cs
 

@@ -1,4 +1,4 @@
--- Document 01's number and values that the reader's answer tells.
+-- What the reader's answer means: the number of refusal, or the values.
 use Prim.Native.Nat.{ℕ}
 use Rattle.wire.specs.Answers.{Answer, refused, given}
 use Rattle.request.specs.declared.RequestAnswer.{RequestAnswer}

@@ -1,97 +1,61 @@
 use Prim.Native.Nat.{ℕ, _+_, _≤_, _*_, _-_}
 use native.Mathlib.Omega.{arith}
-use mathlib.Core.List.{List}
 use mathlib.Core.Path.{refl, _≡_, sym, _∙_, ap}
 use denote.Ref.{now}
 use borrow.Author.Needs.{needs}
 use lib.ListN.{drop}
-use Rattle.wire.specs.Checks.{either, someBroken}
+use Rattle.wire.specs.Checks.{either}
 use Rattle.wire.proofs.ListLaws.{part-is}
-use Rattle.censor.specs.Censor.{region, fieldChecks, regionsChecks}
 use Rattle.wire.proofs.CheckLaws.{hit, miss}
-use Rattle.censor.proofs.Regions.{one-more, no-more, all-left}
+use Rattle.wire.proofs.FormLaws.{times-next}
+use Rattle.censor.specs.Censor.{regionFields, region}
+use Rattle.censor.specs.Steps.{regionBroken, regionsBroken}
 use Rattle.censor.proofs.regions_broken.Statement.{statement}
 use Rattle.censor.proofs.regions_broken.Tie as tie
 
+-- the regions from number i on answer as all do
 abbrev Inv-loop : tie.InvT-loop
-Inv-loop fields n i₀ i = (i ≤ n) × (someBroken (regionsChecks (n - i) (drop (6 * i) fields)) ≡ someBroken (regionsChecks n fields))
+Inv-loop fields n i₀ i = (i ≤ n) × (regionsBroken (n - i) (drop (regionFields * i) fields) ≡ regionsBroken n fields)
 
 abbrev μ-loop : tie.MeasureT-loop
 μ-loop fields n i₀ i = n - i
 
--- the region from place 6 * i on
-turn : (c : tie.After-region-broken Inv-loop μ-loop)
-    → c .region-broken .result ≡ someBroken (fieldChecks region 0 (drop (6 * c .before .before .before .loop .i) (now (c .before .before .before .before .before .args .fields))))
-turn c =
-    c .region-broken .ensures
-    ∙ ap (λ (l : List ℕ). someBroken (fieldChecks region 0 l))
-    (part-is (now (c .before .before .before .before .before .args .fields)) (6 * c .before .before .before .loop .i))
-
--- the regions from number i on answer as all do
-whole : (c : tie.In-loop Inv-loop μ-loop)
-    → either
-    (someBroken (fieldChecks region 0 (drop (6 * c .before .loop .i) (now (c .before .before .before .args .fields)))))
-    (someBroken
-    (regionsChecks (c .before .before .before .args .n - (c .before .loop .i + 1))
-    (drop (6 * (c .before .loop .i + 1)) (now (c .before .before .before .args .fields)))))
-    ≡ someBroken (regionsChecks (c .before .before .before .args .n) (now (c .before .before .before .args .fields)))
+-- number i is broken, or one of those after it, exactly if some region is
+whole : (c : tie.After-region-broken Inv-loop μ-loop)
+    → let loop = c .before .before .before .loop in
+    let args = c .before .before .before .before .before .args in
+    either (c .region-broken .result) (regionsBroken (args .n - (loop .i + 1)) (drop (regionFields * (loop .i + 1)) (now (args .fields))))
+    ≡ regionsBroken (args .n) (now (args .fields))
 whole c =
-    sym (one-more (c .before .before .before .args .n) (c .before .loop .i) (now (c .before .before .before .args .fields)) (c .loop-test .taken))
-    ∙ c .before .loop .inv .1
+    let loop = c .before .before .before .loop in
+    let args = c .before .before .before .before .before .args in
+    let l = now (args .fields) in
+    let rest = regionsBroken (args .n - (loop .i + 1)) (drop (regionFields * (loop .i + 1)) l) in
+    ap (λ (t : _). either t rest)
+    (c .region-broken .ensures ∙ ap regionBroken (part-is l (regionFields * loop .i)))
+    ∙ sym (times-next region (args .n) (loop .i) l (c .before .before .loop-test .taken))
+    ∙ loop .inv .1
 
 loop-holds : tie.Need-loop-holds Inv-loop μ-loop
-loop-holds c = (omega arith, all-left (c .before .args .n) (now (c .before .args .fields)))
-
-mul-at : tie.Need-mul-at Inv-loop μ-loop
-mul-at c = search needs
-
-mul-region-broken : tie.Need-mul-region-broken Inv-loop μ-loop
-mul-region-broken c = search needs
-
-sub-region-broken : tie.Need-sub-region-broken Inv-loop μ-loop
-sub-region-broken c = search needs
-
-part-region-broken-start : tie.Need-part-region-broken-start Inv-loop μ-loop
-part-region-broken-start c = search needs
-
-part-region-broken-end : tie.Need-part-region-broken-end Inv-loop μ-loop
-part-region-broken-end c = search needs
-
-region-broken-requires : tie.Need-region-broken-requires Inv-loop μ-loop
-region-broken-requires c κs = search needs
+loop-holds c =
+    let args = c .before .args in
+    let m : args .n - 0 ≡ args .n = omega arith in
+    (omega arith, ap (λ (k : ℕ). regionsBroken k (now (args .fields))) m)
 
 returns : tie.Need-returns Inv-loop μ-loop
-returns c = hit _ _ (sym (turn (c .before)) ∙ c .if1 .taken) ∙ whole (c .before .before .before)
-
-add-i : tie.Need-add-i Inv-loop μ-loop
-add-i c = search needs
-
-loop-less : tie.Need-loop-less Inv-loop μ-loop
-loop-less c = search needs
+returns c = hit _ _ (c .if1 .taken) ∙ whole (c .before)
 
 loop-again : tie.Need-loop-again Inv-loop μ-loop
-loop-again c = (search needs, miss _ _ _ (sym (turn (c .before)) ∙ c .if1 .left) refl ∙ whole (c .before .before .before))
+loop-again c = (search needs, miss _ _ _ (c .if1 .left) refl ∙ whole (c .before))
 
 returns-2 : tie.Need-returns-2 Inv-loop μ-loop
 returns-2 c =
-    sym (no-more (c .before .before .before .args .n) (c .before .loop .i) (now (c .before .before .before .args .fields)) (c .loop-test .left))
-    ∙ c .before .loop .inv .1
+    let args = c .before .before .before .args in
+    let loop = c .before .loop in
+    let m : args .n - loop .i ≡ 0 = omega (arith, c .loop-test .left) in
+    ap (λ (k : ℕ). regionsBroken k (drop (regionFields * loop .i) (now (args .fields)))) (sym m) ∙ loop .inv .1
 
 pub regions-broken-spec : {M : Type 1} → statement M
 regions-broken-spec =
-    tie.close
-    (tie.spec
-    Inv-loop
-    μ-loop
-    loop-holds
-    mul-at
-    mul-region-broken
-    sub-region-broken
-    part-region-broken-start
-    part-region-broken-end
-    region-broken-requires
-    returns
-    add-i
-    loop-less
-    loop-again
-    returns-2)
+    tie.close (tie.spec Inv-loop μ-loop loop-holds (λ c. search needs) (λ c. search needs) (λ c. search needs) (λ c. search needs)
+    (λ c. search needs) (λ c κs. search needs) returns (λ c. search needs) (λ c. search needs) loop-again returns-2)
