@@ -1,5 +1,5 @@
--- What the contract of each public function says of a call, as Rattle reads it from src/ (`Learnt`): its promise, and that no two results of one call
--- meet it. Assumes nothing.
+-- What the contract of each public function says of a call, as Rattle reads it from src/ (`Learnt`): its promise, and that no two results
+-- of one call meet it. Assumes nothing.
 use Prim.Native.Nat.{ℕ}
 use denote.Ref.{now}
 use mathlib.Core.List.{List}
@@ -16,5 +16,9 @@ salvage-says κs buf out runs r buf′ out′ runs′ l = l
 pub salvage-one : (κs buf out runs r r₂ buf′ out′ runs′ buf″ out″ runs″ : _)
     → salvage.Learnt κs (buf, (out, (runs, tt))) r (buf′, (out′, (runs′, tt)))
     → salvage.Learnt κs (buf, (out, (runs, tt))) r₂ (buf″, (out″, (runs″, tt))) → (r ≡ r₂) × (now out′ ≡ now out″) × (now runs′ ≡ now runs″)
-salvage-one κs buf out runs r r₂ buf′ out′ runs′ buf″ out″ runs″ l l₂ =
-    (l .answers ∙ sym (l₂ .answers), ap (λ (p : List ℕ × List ℕ). p .0) (l .leaves ∙ sym (l₂ .leaves)), ap (λ (p : List ℕ × List ℕ). p .1) (l .leaves ∙ sym (l₂ .leaves)))
+salvage-one κs buf out runs r r₂ buf′ out′ runs′ buf″ out″ runs″ l l₂ = (
+  l .answers ∙ sym (l₂ .answers),
+  ap (λ (p : List ℕ × List ℕ). p .0) (l .leaves ∙ sym (l₂ .leaves)),
+  ap (λ (p : List ℕ
+      × List ℕ). p .1) (l .leaves ∙ sym (l₂ .leaves)),
+)

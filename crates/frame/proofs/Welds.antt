@@ -1,5 +1,5 @@
--- What the contract of each public function says of a call, as Rattle reads it from src/ (`Learnt`): its promise, and that no two results of one call
--- meet it. Assumes nothing.
+-- What the contract of each public function says of a call, as Rattle reads it from src/ (`Learnt`): its promise, and that no two results
+-- of one call meet it. Assumes nothing.
 use denote.Ref.{now}
 use mathlib.Core.Path.{_≡_, refl}
 use Rattle.wire.proofs.AnswerLaws.{only-answer}
@@ -21,7 +21,8 @@ frame-apart (Refused n) End e = never (cc e)
 frame-apart (Refused n) (Read g) e = never (cc e)
 frame-apart (Refused n) (Refused m) e = cc e
 
-pub frame-at-says : (κs stream place r last : _) → frame-at.Learnt κs (stream, (place, tt)) r last → tellFrame r ≡ frameAt (now stream) place
+pub frame-at-says : (κs stream place r last : _) → frame-at.Learnt κs (stream, (place, tt)) r last
+    → tellFrame r ≡ frameAt (now stream) place
 frame-at-says κs stream place r last l = l
 
 pub frame-at-one : (κs stream place r r₂ last last₂ : _) → frame-at.Learnt κs (stream, (place, tt)) r last

@@ -1,4 +1,5 @@
--- The session frame of document 01.
+-- The session frame, and the walk over a buffer of frames.
 pub mod Session
+pub mod Walk
 pub mod Told
 pub mod Theorems

@@ -40,12 +40,16 @@ secondIn rest = num 4 rest 4
 abbrev pub sizeIn : List ℕ → Bytes
 sizeIn rest = bytes (num 4 rest 8)
 
--- the body of the frame that `rest` begins with, and what follows the frame
+-- the size of the frame that `rest` begins with
+abbrev pub wholeLong : List ℕ → ℕ
+wholeLong rest = headSize + sizeIn rest .0
+
+-- its body, and what follows it
 abbrev pub bodyIn : List ℕ → List ℕ
 bodyIn rest = take (sizeIn rest .0) (drop headSize rest)
 
 abbrev pub after : List ℕ → List ℕ
-after rest = drop (headSize + sizeIn rest .0) rest
+after rest = drop (wholeLong rest) rest
 
 -- 1: "fewer than 12 bytes left"
 abbrev pub headCut : List ℕ → Bool
@@ -61,7 +65,7 @@ bodyTooLong rest = ltb (sessionLimit .0) (sizeIn rest .0)
 
 -- 1: "or frame body runs past the buffer"
 abbrev pub bodyCut : List ℕ → Bool
-bodyCut rest = ltb (length rest) (headSize + sizeIn rest .0)
+bodyCut rest = ltb (length rest) (wholeLong rest)
 
 -- "Frame: 1 (header), 2, 3, 1 (body)."
 abbrev pub frameChecks : List ℕ → List Check
@@ -79,7 +83,7 @@ frameIn rest place = record {
   second = secondIn rest;
   start = place + headSize;
   size = sizeIn rest;
-  next = place + (headSize + sizeIn rest .0);
+  next = place + wholeLong rest;
 }
 
 -- "A stream is read from a place in the buffer; a place equal to the length answers "end", a place past it is refusal 1."

@@ -8,7 +8,8 @@ use Rattle.wire.specs.Answers.{given}
 use Rattle.frame.specs.declared.Frame.{Frame}
 use Rattle.frame.specs.Session.{headTable, frame, frameAt}
 
--- "What is read is what the interface document defines, as document 01 condenses it": the table of the frame that is read stands at its place
+-- "What is read .. is what the interface document .. defines": the table of the frame that is read stands at its
+-- place
 abbrev pub HeadStands : Type 0
 HeadStands = (stream : List ℕ) (place : ℕ) (f : Frame) → Octets stream → frameAt stream place ≡ given (frame f)
     → Holds stream place (render (headTable (f .kind) (f .second) (f .size)))

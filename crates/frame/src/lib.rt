@@ -23,19 +23,21 @@ pub enum FrameAnswer {
     Refused(u8),
 }
 
-const HEAD: usize = 12;
+// The bytes before a frame's body.
+pub const HEAD: usize = 12;
 
 const LAST_KIND: u32 = 4;
 
 // The kind of a data frame.
 pub const DATA: u32 = 2;
 
-const SESSION_LIMIT: u32 = 131068;
+// The most bytes of a frame's body.
+pub const SESSION_LIMIT: u32 = 131068;
 
 // The bytes of the longest frame.
 pub const LONGEST: usize = HEAD + SESSION_LIMIT as usize;
 
-// What stands at a place of the stream. The place stays the caller's: a refused read leaves it where it was.
+// The frame at a place of the stream, or its end. The caller keeps the place: a refused read does not change it.
 pub fn frame_at(stream: &[u8], place: usize) -> FrameAnswer
     ensures { λ r. ⌜ tellFrame r ≡ frameAt (now (stream .entry)) place ⌝ }
 {
@@ -63,16 +65,17 @@ fn frame_in(rest: &[u8], place: usize) -> FrameAnswer
     if SESSION_LIMIT < size {
         return FrameAnswer::Refused(refusal::SESSION_BODY);
     }
-    let whole = HEAD + size as usize;
-    if rest.len() < whole {
+    let long = size as usize;
+    if rest.len() - HEAD < long {
         return FrameAnswer::Refused(refusal::FRAME_CUT_OFF);
     }
     let second = wire::fetch32(rest, 4);
+    let start = place + HEAD;
     FrameAnswer::Read(Frame {
         kind,
         second,
-        start: place + HEAD,
+        start,
         size: Bytes(size),
-        next: place + whole,
+        next: start + long,
     })
 }

@@ -7,6 +7,7 @@ use native.Mathlib.Omega.{arith}
 use lib.ListN.{length, take, drop, length-append, length-drop}
 use lib.Seq.{length-take-le}
 use lib.Dec.{eqb}
+use Rattle.wire.proofs.ListLaws.{flatten-append, flatten-more}
 use Rattle.wire.specs.Checks.{pick}
 use Rattle.wire.specs.Sheets.{Sheet, sheet, lay, onto}
 use Rattle.wire.proofs.SheetLaws.{onto-append, onto-long}
@@ -18,7 +19,7 @@ use Rattle.salvage.specs.declared.Stretch.{Stretch}
 use Rattle.salvage_find.specs.Steps.{FoundFrom}
 use Rattle.salvage.specs.Steps.{StretchFrom, WalkedOver}
 use Rattle.salvage.proofs.LayLaws.{all-counted, all-laid}
-use Rattle.salvage.proofs.PlaceLaws.{flatten-append, flatten-more, runs-closed, goes-forward}
+use Rattle.salvage.proofs.PlaceLaws.{runs-closed, goes-forward}
 use Rattle.salvage_find.proofs.PlaceLaws.{frames-there, runs-there, steps-over}
 
 -- one run at most
@@ -67,26 +68,26 @@ going-start b out runs = record {
   runsLong = refl;
 }
 
-module _ (b out₀ runs₀ : List ℕ) (at frames long count : ℕ) (out runs : List ℕ) (g : Going b out₀ runs₀ at frames long count out runs) where
-  -- a run, and the frames after it
-  module _ (more : at < length b) (place : ℕ) (f : FoundFrom b at place) (count′ : ℕ) (runs′ : List ℕ) (r : sheet (2 * count′) runs′ ≡ onto (map twoOf (run at place)) (sheet (2 * count) runs))
-      (runsLong : length runs′ ≡ length runs) (frames′ : Stretch) (s : StretchFrom b place frames′) (bytes : List ℕ)
-      (is : bytes ≡ take (frames′ .next - place) (drop place b)) (long′ : ℕ) (out′ : List ℕ) (l : sheet long′ out′ ≡ lay bytes (sheet long out))
-      (outLong : length out′ ≡ length out) where
+module _ {b out₀ runs₀ : List ℕ} {at frames long count : ℕ} {out runs : List ℕ} (g : Going b out₀ runs₀ at frames long count out runs) where
+  -- a run, and the frames after it: the run is listed, and their bytes are put
+  module _ (more : at < length b) {place : ℕ} (f : FoundFrom b at place) {frames′ : Stretch} (s : StretchFrom b place frames′)
+      (count′ : ℕ) (runs′ : List ℕ) (r : sheet (2 * count′) runs′ ≡ onto (map twoOf (run at place)) (sheet (2 * count) runs))
+      (runsLong : length runs′ ≡ length runs) (long′ : ℕ) (out′ : List ℕ)
+      (l : sheet long′ out′ ≡ lay (take (frames′ .next - place) (drop place b)) (sheet long out)) (outLong : length out′ ≡ length out) where
     abbrev next : ℕ
     next = frames′ .next
 
     abbrev each : List (List ℕ)
     each = s .frames .each
 
-    bytes-are : flatten each ≡ bytes
-    bytes-are = s .frames .bytes ∙ sym is
+    abbrev bytes : List ℕ
+    bytes = take (next - place) (drop place b)
 
     bytes-long : length bytes ≡ next - place
     bytes-long =
         let w = s .frames .within in
-        let d : length (drop place b) ≡ length b - place = length-drop place b in
-        ap length is ∙ length-take-le (next - place) (drop place b) (omega arith)
+        let d = length-drop place b in
+        length-take-le (next - place) (drop place b) (omega arith)
 
     longer : long′ ≡ long + length bytes
     unfolding lay
@@ -101,7 +102,7 @@ module _ (b out₀ runs₀ : List ℕ) (at frames long count : ℕ) (out runs : 
         omega (arith, e, numbers-length (run at place))
 
     parts-are : flatten (g .parts ++ (bytes ∷ [])) ≡ flatten (g .had ++ each)
-    parts-are = flatten-more (g .parts) bytes ∙ (λ i. g .partsAre i ++ sym bytes-are i) ∙ sym (flatten-append (g .had) each)
+    parts-are = flatten-more (g .parts) bytes ∙ (λ i. g .partsAre i ++ sym (s .frames .bytes) i) ∙ sym (flatten-append (g .had) each)
 
     out-is : sheet long′ out′ ≡ onto (g .parts ++ (bytes ∷ [])) (sheet 0 out₀)
     out-is = l ∙ ap (lay bytes) (g .output) ∙ sym (onto-append (g .parts) (bytes ∷ []) (sheet 0 out₀))
@@ -114,11 +115,12 @@ module _ (b out₀ runs₀ : List ℕ) (at frames long count : ℕ) (out runs : 
         ∙ ap (λ (ps : List (List ℕ)). onto ps (sheet 0 runs₀)) (sym (map-append twoOf (g .lost) (run at place)))
 
     frames-next : framesOf (stepsOf (drop at b)) ≡ each ++ framesOf (stepsOf (drop next b))
-    frames-next = frames-there b at place (f .before) ∙ s .frames .kept
+    frames-next = frames-there (f .before) ∙ s .frames .kept
 
     -- what the run before the frames adds
     runs-next : runsOf at at (stepsOf (drop at b)) ≡ run at place ++ runsOf next next (stepsOf (drop next b))
-    runs-next = runs-there b at place (f .before) ∙ runs-closed b at place (f .stood) (f .before .within) ∙ ap (λ (x : List Run). run at place ++ x) (s .frames .none)
+    runs-next = runs-there (f .before) ∙ runs-closed b at place (f .stood) (f .before .within)
+        ∙ ap (λ (x : List Run). run at place ++ x) (s .frames .none)
 
     pub going-on : Going b out₀ runs₀ next (frames + frames′ .frames) long′ count′ out′ runs′
     going-on =
@@ -127,14 +129,16 @@ module _ (b out₀ runs₀ : List ℕ) (at frames long count : ℕ) (out runs : 
         let o : length (run at place) ≤ 1 = run-most at place in
         let p = bytes-long in
         let z = s .frames .forward in
-        let n = goes-forward b at place frames′ more f s in record {
+        let n = goes-forward more f s in record {
           within = s .frames .within;
           had = g .had ++ each;
           lost = g .lost ++ run at place;
           parts = g .parts ++ (bytes ∷ []);
           partsAre = parts-are;
-          allFrames = g .allFrames ∙ ap (λ (x : List (List ℕ)). g .had ++ x) frames-next ∙ sym (append-assoc (g .had) each (framesOf (stepsOf (drop next b))));
-          allRuns = g .allRuns ∙ ap (λ (x : List Run). g .lost ++ x) runs-next ∙ sym (append-assoc (g .lost) (run at place) (runsOf next next (stepsOf (drop next b))));
+          allFrames = g .allFrames ∙ ap (λ (x : List (List ℕ)). g .had ++ x) frames-next
+              ∙ sym (append-assoc (g .had) each (framesOf (stepsOf (drop next b))));
+          allRuns = g .allRuns ∙ ap (λ (x : List Run). g .lost ++ x) runs-next
+              ∙ sym (append-assoc (g .lost) (run at place) (runsOf next next (stepsOf (drop next b))));
           framesIs = (λ i. g .framesIs i + s .frames .counted i) ∙ sym (length-append (g .had) each);
           framesFit = omega (arith, g .framesFit);
           longFits = omega (arith, g .longFits, longer);
@@ -153,7 +157,8 @@ module _ (b out₀ runs₀ : List ℕ) (at frames long count : ℕ) (out runs : 
     long = all-counted (g .parts) (flatten (keptOf b)) out₀ long out bytes-all (g .output);
     count = omega (arith, twice, numbers-length (skippedOf b));
     output = all-laid (g .parts) (flatten (keptOf b)) out₀ long out bytes-all (g .output);
-    listed = λ room. all-laid (map twoOf (g .lost)) (numbers (skippedOf b)) runs₀ (2 * count) runs numbers-all (g .listed) (omega (arith, room, numbers-length (skippedOf b)));
+    listed = λ room. all-laid (map twoOf (g .lost)) (numbers (skippedOf b)) runs₀ (2 * count) runs numbers-all (g .listed)
+        (omega (arith, room, numbers-length (skippedOf b)));
   }
     where
       over : stepsOf (drop at b) ≡ []
@@ -163,7 +168,8 @@ module _ (b out₀ runs₀ : List ℕ) (at frames long count : ℕ) (out runs : 
       frames-all = g .allFrames ∙ ap (λ (steps : List Step). g .had ++ framesOf steps) over ∙ append-nil (g .had)
 
       runs-all : skippedOf b ≡ g .lost
-      runs-all = g .allRuns ∙ ap (λ (steps : List Step). g .lost ++ runsOf at at steps) over ∙ ap (λ (x : List Run). g .lost ++ x) (run-none at) ∙ append-nil (g .lost)
+      runs-all = g .allRuns ∙ ap (λ (steps : List Step). g .lost ++ runsOf at at steps) over
+          ∙ ap (λ (x : List Run). g .lost ++ x) (run-none at) ∙ append-nil (g .lost)
 
       bytes-all : flatten (g .parts) ≡ flatten (keptOf b)
       bytes-all = g .partsAre ∙ sym (ap flatten frames-all)

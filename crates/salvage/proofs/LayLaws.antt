@@ -16,7 +16,8 @@ use Rattle.salvage_spec.specs.Salvage.{twoOf}
 use Rattle.salvage_spec.proofs.RunLaws.{run-none, run-some}
 
 -- all parts laid: so much is counted, and it stands in the output if there was room for it
-module _ (parts : List (List ℕ)) (whole out₀ : List ℕ) (long : ℕ) (out : List ℕ) (is : flatten parts ≡ whole) (s : sheet long out ≡ onto parts (sheet 0 out₀)) where
+module _ (parts : List (List ℕ)) (whole out₀ : List ℕ) (long : ℕ) (out : List ℕ) (is : flatten parts ≡ whole) (s : sheet long out
+    ≡ onto parts (sheet 0 out₀)) where
   pub all-counted : long ≡ length whole
   all-counted = ap (λ (s : Sheet). s .long) s ∙ onto-long parts (sheet 0 out₀) ∙ zero-add (length (flatten parts)) ∙ ap length is
 
@@ -26,7 +27,8 @@ module _ (parts : List (List ℕ)) (whole out₀ : List ℕ) (long : ℕ) (out :
       ∙ ap (λ (l : List ℕ). filled l out₀) is
 
 -- bytes, as `put` copies them
-pub put-laid : (out bytes : List ℕ) (long n : ℕ) (ys : List ℕ) → n ≡ length bytes → long + length bytes ≤ length out → ys ≡ copied bytes (take n (drop long out))
+pub put-laid : (out bytes : List ℕ) (long n : ℕ) (ys : List ℕ) → n ≡ length bytes → long + length bytes ≤ length out
+    → ys ≡ copied bytes (take n (drop long out))
     → sheet (long + length bytes) (take long out ++ (ys ++ drop n (drop long out))) ≡ lay bytes (sheet long out)
 put-laid out bytes long n ys e h c =
     let l : length (drop long out) ≡ length out - long = length-drop long out in
@@ -49,7 +51,8 @@ module _ (runs : List ℕ) (count first next : ℕ) where
     more : (runs′ : List ℕ) → lay two (sheet (2 * count) runs) ≡ sheet (2 * count + 2) runs′ → Listed (count + 1) runs′
     more runs′ e =
         let n : 2 * (count + 1) ≡ 2 * count + 2 = omega arith in
-        ap (λ (n : ℕ). sheet n runs′) n ∙ sym e ∙ sym (ap (λ (rs : List Run). onto (map twoOf rs) (sheet (2 * count) runs)) (run-some first next ne))
+        ap (λ (n : ℕ). sheet n runs′) n ∙ sym e ∙ sym (ap (λ (rs : List Run). onto (map twoOf rs) (sheet (2 * count) runs))
+        (run-some first next ne))
 
     pub list-counted : length runs < 2 * count + 2 → Listed (count + 1) runs
     list-counted h = more runs (lay-none two (2 * count) runs h)

@@ -8,24 +8,16 @@ use lib.ListN.{length, take, drop, length-append, length-drop}
 use lib.Seq.{drop-drop, take-add}
 use lib.Dec.{ltb}
 use borrow.Author.Tests.{ltb-true, ltb-false}
+use Rattle.wire.proofs.ListLaws.{flatten-more}
 use Rattle.wire.proofs.CheckLaws.{never}
-use Rattle.salvage_spec.specs.Walk.{stands, wholeLong, whole, Step, kept, Run, run, stepsOf, framesOf, runsOf}
+use Rattle.frame.specs.Session.{wholeLong}
+use Rattle.salvage_spec.specs.Walk.{stands, whole, Step, kept, Run, run, stepsOf, framesOf, runsOf}
 use Rattle.salvage_spec.proofs.WalkLaws.{stands-long, whole-length}
 use Rattle.salvage_spec.proofs.RunLaws.{run-none}
 use Rattle.salvage_find.specs.Steps.{FoundFrom}
 use Rattle.salvage_find.proofs.PlaceLaws.{steps-frame, steps-over}
 use Rattle.salvage.specs.declared.Stretch.{Stretch}
 use Rattle.salvage.specs.Steps.{Frames, StretchFrom}
-
--- ---- lists
-pub flatten-append : (fs gs : List (List ℕ)) → flatten (fs ++ gs) ≡ flatten fs ++ flatten gs
-unfolding flatten
-flatten-append [] gs = refl
-flatten-append (x ∷ fs) gs = ap (λ (l : List ℕ). x ++ l) (flatten-append fs gs) ∙ sym (append-assoc x (flatten fs) (flatten gs))
-
-pub flatten-more : (fs : List (List ℕ)) (f : List ℕ) → flatten (fs ++ (f ∷ [])) ≡ flatten fs ++ f
-unfolding flatten
-flatten-more fs f = flatten-append fs (f ∷ []) ∙ ap (λ (l : List ℕ). flatten fs ++ l) (append-nil f)
 
 -- ---- frames that follow one another
 -- a run ends where a frame begins, and at the end
@@ -49,9 +41,9 @@ runs-closed b first at stood h = go (ltb at (length b)) refl
         ∙ sym (append-nil (run first at))
         ∙ ap (λ (x : List Run). run first at ++ x) (sym (run-none at) ∙ sym (ap (λ (steps : List Step). runsOf at at steps) q))
 
-pub frames-none : (b : List ℕ) (at : ℕ) → at ≤ length b → Frames b at at 0
+pub frames-none : {b : List ℕ} {at : ℕ} → at ≤ length b → Frames b at at 0
 unfolding flatten
-frames-none b at h = record {
+frames-none {b} {at} h = record {
   forward = omega arith;
   within = h;
   each = [];
@@ -62,7 +54,8 @@ frames-none b at h = record {
 }
 
 -- one more that passes
-module _ (b : List ℕ) (from at count long : ℕ) (f : Frames b from at count) (e : stands (drop at b) ≡ true) (is : long ≡ wholeLong (drop at b)) where
+module _ {b : List ℕ} {from at count : ℕ} (f : Frames b from at count) (e : stands (drop at b) ≡ true) {long : ℕ}
+    (is : long ≡ wholeLong (drop at b)) where
   one-long : length (whole (drop at b)) ≡ long
   one-long = whole-length (drop at b) e ∙ sym is
 
@@ -92,21 +85,25 @@ module _ (b : List ℕ) (from at count long : ℕ) (f : Frames b from at count) 
         none =
             f .none
             ∙ ap (λ (steps : List Step). runsOf at at steps) steps-next
-            ∙ ap (λ (rs : List Run). rs ++ runsOf (at + length (whole (drop at b))) (at + length (whole (drop at b))) (stepsOf (drop (at + long) b))) (run-none at)
+            ∙ ap (λ (rs : List Run). rs ++ runsOf (at + length (whole (drop at b))) (at + length (whole (drop at b)))
+            (stepsOf (drop (at + long) b))) (run-none at)
             ∙ ap (λ (n : ℕ). runsOf (at + n) (at + n) (stepsOf (drop (at + long) b))) one-long;
       }
     where
       joined : take (at - from) (drop from b) ++ whole (drop at b) ≡ take (at + long - from) (drop from b)
       joined =
           let g = f .forward in
-          let there : drop (at - from) (drop from b) ≡ drop at b = let q : from + (at - from) ≡ at = omega arith in drop-drop (at - from) from b ∙ ap (λ (k : ℕ). drop k b) q in
+          let there : drop (at - from) (drop from b) ≡ drop at b = let q : from + (at - from) ≡ at = omega arith in
+          drop-drop (at - from) from b ∙ ap (λ (k : ℕ). drop k b) q in
           let q : at - from + long ≡ at + long - from = omega arith in
-          ap (λ (x : List ℕ). take (at - from) (drop from b) ++ x) (ap (λ (n : ℕ). take n (drop at b)) (sym is) ∙ ap (λ (x : List ℕ). take long x) (sym there))
+          ap (λ (x : List ℕ). take (at - from) (drop from b) ++ x) (ap (λ (n : ℕ). take n (drop at b)) (sym is)
+          ∙ ap (λ (x : List ℕ). take long x) (sym there))
           ∙ sym (take-add (at - from) long (drop from b))
           ∙ ap (λ (n : ℕ). take n (drop from b)) q
 
-pub stretch-ends : (b : List ℕ) (from to count : ℕ) → Frames b from to count → stands (drop to b) ≡ false → stands (drop from b) ≡ true → from < to
-stretch-ends b from to count f e s = go (ltb from to) refl
+pub stretch-ends : {b : List ℕ} {from to count : ℕ} → Frames b from to count → stands (drop to b) ≡ false → stands (drop from b) ≡ true
+    → from < to
+stretch-ends {b} {from} {to} f e s = go (ltb from to) refl
   where
     go : (t : Bool) → ltb from to ≡ t → from < to
     go true q = ltb-true from to q
@@ -117,8 +114,9 @@ stretch-ends b from to count f e s = go (ltb from to) refl
         never (cc (sym e ∙ ap (λ (k : ℕ). stands (drop k b)) (sym same) ∙ s))
 
 -- a run, and the frames after it, take bytes
-pub goes-forward : (b : List ℕ) (at place : ℕ) (r : Stretch) → at < length b → FoundFrom b at place → StretchFrom b place r → at < r .next
-goes-forward b at place r more f s = go (ltb at place) refl
+pub goes-forward : {b : List ℕ} {at place : ℕ} {r : Stretch} → at < length b → FoundFrom b at place → StretchFrom b place r
+    → at < r .next
+goes-forward {at = at} {place} {r} more f s = go (ltb at place) refl
   where
     go : (t : Bool) → ltb at place ≡ t → at < r .next
     go true e = let h = ltb-true at place e in let w = s .frames .forward in omega arith

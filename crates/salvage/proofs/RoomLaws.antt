@@ -1,5 +1,5 @@
 -- Room for what is kept and skipped of a buffer, and what comes of a salvage with it and without. Assumes nothing.
-use Prim.Native.Nat.{ℕ, _+_, _*_, _/_}
+use Prim.Native.Nat.{ℕ, suc, _+_, _*_, _/_}
 use mathlib.Core.Path.{_≡_, refl, sym, ap, subst, _∙_}
 use mathlib.Core.Bool.{Bool, true, false, _&&_}
 use mathlib.Core.List.{List, flatten}
@@ -13,7 +13,7 @@ use Rattle.wire.proofs.CheckLaws.{never}
 use Rattle.wire.proofs.AnswerLaws.{kept}
 use Rattle.salvage_spec.specs.Walk.{keptOf, skippedOf}
 use Rattle.salvage_spec.specs.Salvage.{numbers, salvaged, salvageOf}
-use Rattle.salvage_spec.specs.Theorems.{InTurn}
+use Rattle.salvage_spec.specs.Theorems.{leastFrame, InTurn}
 use Rattle.salvage_spec.proofs.Theorems.{refused-in-order, most-runs, most-kept}
 use Rattle.salvage.specs.declared.Totals.{Totals}
 use Rattle.salvage.specs.declared.SalvageAnswer.the-variants.{Salvaged, Refused}
@@ -26,11 +26,12 @@ both-of false t e = never (cc e)
 
 module _ (b out runs : List ℕ) where
   -- room for all bytes and for as many runs as there can be
-  pub any-room : leb (length b) (length out) && leb (2 * ((length b + 28) / 29)) (length runs) ≡ true → true ≡ roomFor b out runs
+  pub any-room : leb (length b) (length out) && leb (2 * ((length b + leastFrame) / suc leastFrame)) (length runs) ≡ true
+      → true ≡ roomFor b out runs
   any-room e =
-      let p = both-of (leb (length b) (length out)) (leb (2 * ((length b + 28) / 29)) (length runs)) e in
+      let p = both-of (leb (length b) (length out)) (leb (2 * ((length b + leastFrame) / suc leastFrame)) (length runs)) e in
       let o = leb-true (length b) (length out) (p .0) in
-      let r = leb-true (2 * ((length b + 28) / 29)) (length runs) (p .1) in
+      let r = leb-true (2 * ((length b + leastFrame) / suc leastFrame)) (length runs) (p .1) in
       let k = most-kept b in
       let m = most-runs b in
       sym
@@ -49,18 +50,22 @@ module _ (b out runs : List ℕ) where
       → Promise tellSalvage (salvageOf b out runs) (Refused 13) (out′, runs′)
   unfolding salvageOf
   no-room out′ runs′ o r e =
-      kept tellSalvage (salvageOf b out runs) (Refused 13) (out′, runs′) (out, runs) (by (leb (length (flatten (keptOf b))) (length out)) refl) (λ i. (o i, r i))
+      kept tellSalvage (salvageOf b out runs) (Refused 13) (out′, runs′) (out, runs)
+      (by (leb (length (flatten (keptOf b))) (length out)) refl) (λ i. (o i, r i))
     where
       turn : InTurn (keptOf b) (skippedOf b) out runs
       turn = refused-in-order (keptOf b) (skippedOf b) out runs
 
-      by : (t : Bool) → leb (length (flatten (keptOf b))) (length out) ≡ t → salvaged (keptOf b) (skippedOf b) out runs ≡ refusal (out, runs) 13
+      by : (t : Bool) → leb (length (flatten (keptOf b))) (length out) ≡ t
+          → salvaged (keptOf b) (skippedOf b) out runs ≡ refusal (out, runs) 13
       by false q = turn .littleOutput (leb-false (length (flatten (keptOf b))) (length out) q)
       by true q =
           turn .fewRuns
-          (leb-false (2 * length (skippedOf b)) (length runs) (sym (ap (λ (t : Bool). t && leb (2 * length (skippedOf b)) (length runs)) q) ∙ e))
+          (leb-false (2 * length (skippedOf b)) (length runs)
+          (sym (ap (λ (t : Bool). t && leb (2 * length (skippedOf b)) (length runs)) q) ∙ e))
 
-  pub with-room : (t : Totals) (out₁ runs₁ out′ runs′ : List ℕ) → out₁ ≡ out → runs₁ ≡ runs → roomFor b out runs ≡ true → WalkedOver b out₁ runs₁ t out′ runs′
+  pub with-room : (t : Totals) (out₁ runs₁ out′ runs′ : List ℕ) → out₁ ≡ out → runs₁ ≡ runs → roomFor b out runs ≡ true
+      → WalkedOver b out₁ runs₁ t out′ runs′
       → Promise tellSalvage (salvageOf b out runs) (Salvaged (t .kept) (t .long) (t .runs)) (out′, runs′)
   unfolding salvageOf
   with-room t out₁ runs₁ out′ runs′ o r e w₁ =

@@ -1,5 +1,5 @@
--- What the contract of each public function says of a call, as Rattle reads it from src/ (`Learnt`): its promise, and that no two results of one call
--- meet it. Assumes nothing.
+-- What the contract of each public function says of a call, as Rattle reads it from src/ (`Learnt`): its promise, and that no two results
+-- of one call meet it. Assumes nothing.
 use Prim.Native.Nat.{ℕ}
 use denote.Ref.{now}
 use mathlib.Core.List.{List}
@@ -29,5 +29,6 @@ pub salvage-one : (κs buf out runs r r₂ buf′ out′ runs′ buf″ out″ r
     → salvage.Learnt κs (buf, (out, (runs, tt))) r (buf′, (out′, (runs′, tt)))
     → salvage.Learnt κs (buf, (out, (runs, tt))) r₂ (buf″, (out″, (runs″, tt))) → (r ≡ r₂) × (now out′ ≡ now out″) × (now runs′ ≡ now runs″)
 salvage-one κs buf out runs r r₂ buf′ out′ runs′ buf″ out″ runs″ l l₂ =
-    let o = only tellSalvage salvage-apart (salvageOf (now buf) (now out) (now runs)) r r₂ (now out′, now runs′) (now out″, now runs″) l l₂ in
+    let o = only tellSalvage salvage-apart (salvageOf (now buf) (now out) (now runs)) r r₂ (now out′, now runs′)
+    (now out″, now runs″) l l₂ in
     (o .0, ap (λ (p : List ℕ × List ℕ). p .0) (o .1), ap (λ (p : List ℕ × List ℕ). p .1) (o .1))

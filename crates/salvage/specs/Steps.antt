@@ -11,7 +11,7 @@ use Rattle.salvage_spec.specs.Salvage.{numbers}
 use Rattle.salvage.specs.declared.Stretch.{Stretch}
 use Rattle.salvage.specs.declared.Totals.{Totals}
 
--- from a place on to another, frames that pass and nothing else: so many, and their bytes
+-- from one place to another there are only frames that pass: their number, and their bytes
 pub record Frames (b : List ℕ) (from to count : ℕ) : Type 0 where
   pub forward : from + count ≤ to
   pub within : to ≤ length b
@@ -21,12 +21,12 @@ pub record Frames (b : List ℕ) (from to count : ℕ) : Type 0 where
   pub kept : framesOf (stepsOf (drop from b)) ≡ each ++ framesOf (stepsOf (drop to b))
   pub none : runsOf from from (stepsOf (drop from b)) ≡ runsOf to to (stepsOf (drop to b))
 
--- as many as follow one another there
+-- frames in a row from a place on, at least one if a frame stands there
 pub record StretchFrom (b : List ℕ) (from : ℕ) (r : Stretch) : Type 0 where
   pub frames : Frames b from (r .next) (r .frames)
   pub some : stands (drop from b) ≡ true → from < r .next
 
--- all of it is counted, and each output holds it if there was room
+-- everything is counted, and each output that has room holds its part
 pub record WalkedOver (b out runs : List ℕ) (r : Totals) (out′ runs′ : List ℕ) : Type 0 where
   pub kept : r .kept ≡ length (keptOf b)
   pub long : r .long ≡ length (flatten (keptOf b))

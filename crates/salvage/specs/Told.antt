@@ -1,4 +1,4 @@
--- Document 01's number and values for each case of the answer.
+-- What each case of the answer means: the number of refusal, or the values.
 use Rattle.wire.specs.Answers.{Answer, refused, given}
 use Rattle.salvage_spec.specs.Salvage.{Report}
 use Rattle.salvage.specs.declared.SalvageAnswer.{SalvageAnswer}

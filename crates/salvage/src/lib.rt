@@ -1,4 +1,6 @@
 // A damaged recording salvaged: the frames that pass are copied one after the other, and each run of bytes between them is listed.
+use frame::HEAD;
+use header::HEADER;
 use wire::refusal;
 ghost use mathlib.Core.Path.{_≡_};
 ghost use mathlib.Core.List.{map};
@@ -11,8 +13,8 @@ ghost use Rattle.salvage_spec.specs.Salvage.{twoOf, salvageOf};
 ghost use Rattle.salvage.specs.Told.{tellSalvage};
 ghost use Rattle.salvage.specs.Steps.{StretchFrom, WalkedOver, roomFor};
 
-// The bytes of the least frame that passes: its head and a header.
-const LEAST: usize = 28;
+// The size of the shortest frame that passes: a session head and a message header.
+const LEAST: usize = HEAD + HEADER;
 
 // The frames kept, the bytes written and the runs listed, or the number of refusal.
 pub enum SalvageAnswer {
@@ -20,7 +22,7 @@ pub enum SalvageAnswer {
     Refused(u8),
 }
 
-// Frames one after the other: where the last one ends, and how many they are.
+// Frames in a row: where the last one ends, and how many there are.
 struct Stretch {
     next: usize,
     frames: usize,
@@ -32,7 +34,7 @@ struct Totals {
     runs: usize,
 }
 
-// The frames that follow one another from a place on, each of which passes.
+// The longest row of passing frames from a place on.
 fn follow(buf: &[u8], place: usize) -> Stretch
     requires { ⌜ place ≤ length (now buf) ⌝ }
     ensures { λ r. ⌜ StretchFrom (now (buf .entry)) place r ⌝ }
@@ -48,7 +50,7 @@ fn follow(buf: &[u8], place: usize) -> Stretch
     Stretch { next, frames }
 }
 
-// The bytes from `first` to the one before `next`, listed after so many runs where there is room for it, and counted.
+// Lists the bytes from `first` to before `next`, if any, as a run after `count` others where there is room. Returns the new count.
 fn list(runs: &mut [u64], count: usize, first: usize, next: usize) -> usize
     requires { ⌜ (first ≤ next) × (count ≤ first) × (first + 1 < 2 ^ 63) ⌝ }
     ensures { λ r. ⌜ sheet (2 * r) (now (runs .exit)) ≡ onto (map twoOf (run first next)) (sheet (2 * count) (now (runs .entry))) ⌝ }
@@ -65,7 +67,7 @@ fn list(runs: &mut [u64], count: usize, first: usize, next: usize) -> usize
     count + 1
 }
 
-// Bytes copied after so many where there is room for them, and counted.
+// Copies the bytes to place `long` of the output if there is room. Returns the new length, also where there was none.
 fn put(bytes: &[u8], out: &mut [u8], long: usize) -> usize
     requires { ⌜ long + length (now bytes) < 2 ^ 63 ⌝ }
     ensures { λ r. ⌜ sheet r (now (out .exit)) ≡ lay (now (bytes .entry)) (sheet long (now (out .entry))) ⌝ }
@@ -78,8 +80,8 @@ fn put(bytes: &[u8], out: &mut [u8], long: usize) -> usize
     end
 }
 
-// The walk: a run and the frames after it in turn, to the end of the buffer. Frames that follow one another are copied at once. What there is
-// no room for is only counted.
+// Finds a run of skipped bytes, then the frames in a row after it, and so on to the end of the buffer. Frames in a row are copied at once.
+// What has no room is only counted.
 fn walk(buf: &[u8], out: &mut [u8], runs: &mut [u64]) -> Totals
     ensures { λ r. ⌜ WalkedOver (now (buf .entry)) (now (out .entry)) (now (runs .entry)) r (now (out .exit)) (now (runs .exit)) ⌝ }
 {
@@ -103,8 +105,8 @@ fn walk(buf: &[u8], out: &mut [u8], runs: &mut [u64]) -> Totals
     }
 }
 
-// Whether both outputs have room. They have it for any recording of this length if all its bytes could be kept and as many runs listed as it can
-// have, with a frame between any two; else what there is is counted first, with no output at hand.
+// Whether both outputs have room. They do if `out` is as long as the buffer and `runs` has room for the most runs possible: any two
+// runs have a frame between them. Otherwise a walk with empty outputs counts what is needed.
 fn has_room(buf: &[u8], out: &mut [u8], runs: &mut [u64]) -> bool
     ensures { λ r. ⌜ (r ≡ roomFor (now (buf .entry)) (now (out .entry)) (now (runs .entry))) × (now (out .exit) ≡ now (out .entry)) × (now (runs .exit) ≡ now (runs .entry)) ⌝ }
 {

@@ -8,13 +8,14 @@ use lib.ListN.{length, drop, length-drop, drop-of-length-le}
 use lib.Seq.{drop-drop}
 use lib.Dec.{ltb}
 use borrow.Author.Tests.{ltb-true, ltb-false}
-use Rattle.salvage_spec.specs.Walk.{stands, wholeLong, whole, kept, stepsOf, framesOf, runsOf, skippedFirst, nextKept}
+use Rattle.frame.specs.Session.{wholeLong}
+use Rattle.salvage_spec.specs.Walk.{stands, whole, kept, stepsOf, framesOf, runsOf, skippedFirst, nextKept}
 use Rattle.salvage_spec.proofs.WalkLaws.{stands-not, steps-end, steps-kept, frames-run, runs-run, first-run}
 use Rattle.salvage_spec.proofs.NextLaws.{next-at}
 use Rattle.salvage_find.specs.Steps.{NoneFrom, FoundFrom}
 
 -- ---- a run of skipped bytes
-module _ (b : List ℕ) (at to : ℕ) (n : NoneFrom b at to) where
+module _ {b : List ℕ} {at to : ℕ} (n : NoneFrom b at to) where
   there : drop (to - at) (drop at b) ≡ drop to b
   there = let f = n .forward in let e : at + (to - at) ≡ to = omega arith in drop-drop (to - at) at b ∙ ap (λ (k : ℕ). drop k b) e
 
@@ -43,18 +44,19 @@ module _ (b : List ℕ) (at : ℕ) (e : stands (drop at b) ≡ true) where
   pub steps-frame : (next : ℕ) → next ≡ at + wholeLong (drop at b) → stepsOf (drop at b) ≡ kept (whole (drop at b)) ∷ stepsOf (drop next b)
   steps-frame next q =
       steps-kept (drop at b) e
-      ∙ ap (λ (l : List ℕ). kept (whole (drop at b)) ∷ stepsOf l) (drop-drop (wholeLong (drop at b)) at b ∙ ap (λ (k : ℕ). drop k b) (sym q))
+      ∙ ap (λ (l : List ℕ). kept (whole (drop at b)) ∷ stepsOf l) (drop-drop (wholeLong (drop at b)) at b
+      ∙ ap (λ (k : ℕ). drop k b) (sym q))
 
 pub steps-over : (b : List ℕ) (at : ℕ) → at ≡ length b → stepsOf (drop at b) ≡ []
 steps-over b at e = ap stepsOf (drop-of-length-le b {i = at} (omega arith)) ∙ steps-end
 
 -- the place found is where the next frame is kept
-pub next-found : (b : List ℕ) (at to : ℕ) → FoundFrom b at to → to ≡ nextKept b at
+pub next-found : {b : List ℕ} {at to : ℕ} → FoundFrom b at to → to ≡ nextKept b at
 unfolding skippedFirst
-next-found b at to f = go (ltb to (length b)) refl
+next-found {b} {at} {to} f = go (ltb to (length b)) refl
   where
     ends : skippedFirst (stepsOf (drop to b)) ≡ 0 → to ≡ nextKept b at
-    ends z = let s = first-there b at to (f .before) in let l = f .before .forward in omega arith
+    ends z = let s = first-there (f .before) in let l = f .before .forward in omega arith
 
     go : (t : Bool) → ltb to (length b) ≡ t → to ≡ nextKept b at
     go true e = ends (ap skippedFirst (steps-frame b to (f .stood (ltb-true to (length b) e)) _ refl))
@@ -63,12 +65,13 @@ next-found b at to f = go (ltb to (length b)) refl
 pub next-past : (b : List ℕ) (at : ℕ) → length b < at → at ≡ nextKept b at
 unfolding skippedFirst
 next-past b at h =
-    let z : skippedFirst (stepsOf (drop at b)) ≡ 0 = ap skippedFirst (ap stepsOf (drop-of-length-le b {i = at} (omega arith)) ∙ steps-end) in
+    let z : skippedFirst (stepsOf (drop at b)) ≡ 0 = ap skippedFirst (ap stepsOf (drop-of-length-le b {i = at} (omega arith))
+    ∙ steps-end) in
     omega arith
 
 -- and the next place where a frame is kept is the one that is found
-pub found-next : (b : List ℕ) (at to : ℕ) → at ≤ length b → to ≡ nextKept b at → FoundFrom b at to
-found-next b at to h e =
+pub found-next : {b : List ℕ} {at to : ℕ} → at ≤ length b → to ≡ nextKept b at → FoundFrom b at to
+found-next {b} {at} {to} h e =
     let n = next-at b at in
     subst (λ (k : ℕ). FoundFrom b at k) (sym e)
     (record {

@@ -3,17 +3,17 @@ use frame::DATA;
 use frame::FrameAnswer;
 ghost use mathlib.Core.Path.{_≡_};
 ghost use mathlib.Core.Bool.{false};
-ghost use Prim.Native.Nat.{_≤_};
+ghost use Prim.Native.Nat.{_+_, _≤_};
 ghost use lib.ListN.{length};
 ghost use Rattle.salvage_spec.specs.Walk.{wholeAt, nextKept};
-ghost use Rattle.salvage_find.specs.Steps.{Unmarked, NoneFrom, FoundFrom};
+ghost use Rattle.salvage_find.specs.Steps.{block, beyond, Unmarked, NoneFrom, FoundFrom};
 
-// How many places are looked at together, and the bytes that the number at the last of them takes beyond it.
+// How many places are tested together, and how many bytes the 32-bit number at the last of them reaches past it.
 const BLOCK: usize = 32;
 
 const BEYOND: usize = 3;
 
-// The bytes of the frame at a place of the buffer, if it is a data frame with a header that passes; 0 if none begins there.
+// The size of the frame at a place if it is a data frame with a header that passes, else 0.
 pub fn whole_at(buf: &[u8], place: usize) -> usize
     ensures { λ r. ⌜ r ≡ wholeAt (now (buf .entry)) place ⌝ }
 {
@@ -35,11 +35,11 @@ pub fn whole_at(buf: &[u8], place: usize) -> usize
     }
 }
 
-// Whether a frame may begin at one of 32 places: the last two bytes of its kind are 0 and 2. There is no branch in it, so that the compiler
-// looks at the bytes of many places at once.
+// Whether a data frame may begin in the block: a kind of 2 ends in the bytes 0 and 2. There is no branch in the loop, so the compiler
+// can test many places at once.
 fn may_begin(part: &[u8]) -> bool
-    requires { ⌜ length (now part) ≡ 35 ⌝ }
-    ensures { λ r. ⌜ (r ≡ false → Unmarked 32 (now (part .entry))) ⌝ }
+    requires { ⌜ length (now part) ≡ block + beyond ⌝ }
+    ensures { λ r. ⌜ (r ≡ false → Unmarked block (now (part .entry))) ⌝ }
 {
     let mut any = false;
     let mut i: usize = 0;
@@ -50,10 +50,10 @@ fn may_begin(part: &[u8]) -> bool
     any
 }
 
-// The first of 32 places that begins with a data frame's kind, or 32.
+// The first place in the block that holds a data frame's kind, or the block's end.
 fn first_mark(part: &[u8]) -> usize
-    requires { ⌜ length (now part) ≡ 35 ⌝ }
-    ensures { λ r. ⌜ (r ≤ 32) × Unmarked r (now (part .entry)) ⌝ }
+    requires { ⌜ length (now part) ≡ block + beyond ⌝ }
+    ensures { λ r. ⌜ (r ≤ block) × Unmarked r (now (part .entry)) ⌝ }
 {
     let mut i: usize = 0;
     while i < BLOCK {
@@ -65,7 +65,7 @@ fn first_mark(part: &[u8]) -> usize
     i
 }
 
-// The next place at which a frame may begin, by its kind; at none before it does one. Blocks without one are passed over whole.
+// The next place where a data frame may begin, by its kind: none begins from `from` to before it. Other blocks are skipped whole.
 fn next_mark(buf: &[u8], from: usize) -> usize
     requires { ⌜ from ≤ length (now buf) ⌝ }
     ensures { λ r. ⌜ NoneFrom (now (buf .entry)) from r ⌝ }
@@ -81,7 +81,7 @@ fn next_mark(buf: &[u8], from: usize) -> usize
     at
 }
 
-// Where the first frame that passes begins from a place on, or the end.
+// The first place from `from` on where a frame that passes begins, or the end.
 fn find(buf: &[u8], from: usize) -> usize
     requires { ⌜ from ≤ length (now buf) ⌝ }
     ensures { λ r. ⌜ FoundFrom (now (buf .entry)) from r ⌝ }
@@ -96,7 +96,7 @@ fn find(buf: &[u8], from: usize) -> usize
     at
 }
 
-// The place at which the walk from a place on keeps its first frame, or the end of the buffer.
+// Where the walk from a place on keeps its first frame, or the end of the buffer.
 pub fn next_kept(buf: &[u8], place: usize) -> usize
     ensures { λ r. ⌜ r ≡ nextKept (now (buf .entry)) place ⌝ }
 {

@@ -23,7 +23,7 @@ module _ (frames : List (List ℕ)) (skipped : List Run) (out runs : List ℕ) w
   abbrev written : Outcome (List ℕ × List ℕ) Report
   written = record { answer = given (report frames skipped); output = (filled (flatten frames) out, filled (numbers skipped) runs) }
 
-  -- the answers of both checks say all
+  -- the outcome follows from the two checks
   by-room : (t u : Bool) → ltb (length out) (length (flatten frames)) ≡ t → ltb (length runs) (length (numbers skipped)) ≡ u
       → salvaged frames skipped out runs ≡ pick t (refusal (out, runs) 13) (pick u (refusal (out, runs) 13) written)
   by-room t u p q = λ i. pick (p i) (refusal (out, runs) 13) (pick (q i) (refusal (out, runs) 13) written)
@@ -40,7 +40,8 @@ in-order frames skipped out runs =
     record {
       littleOutput = λ h. by-room frames skipped out runs true list (lt-ltb (length out) (length (flatten frames)) h) refl;
       fewRuns = λ h.
-          by-room frames skipped out runs bytes true refl (lt-ltb (length runs) (length (numbers skipped)) (omega arith)) ∙ few frames skipped out runs bytes;
+          by-room frames skipped out runs bytes true refl (lt-ltb (length runs) (length (numbers skipped)) (omega arith))
+          ∙ few frames skipped out runs bytes;
       enough = λ h k.
           by-room frames skipped out runs false false (le-ltb (length out) (length (flatten frames)) h)
           (le-ltb (length runs) (length (numbers skipped)) (omega arith));

@@ -27,7 +27,11 @@ first-skips byte rest n e f = record { upTo = omega (arith, f .upTo); none = non
 pub first-at : (rest : List ℕ) → FirstAt rest (skippedFirst (stepsOf rest))
 unfolding skippedFirst
 first-at =
-    walk-by (λ rest steps. FirstAt rest (skippedFirst steps)) (record { upTo = omega arith; none = λ i h. absurd (omega arith); here = λ h. absurd (omega arith) })
+    walk-by (λ rest steps. FirstAt rest (skippedFirst steps)) (record {
+      upTo = omega arith;
+      none = λ i h. absurd (omega arith);
+      here = λ h. absurd (omega arith);
+    })
     (λ frame rest steps p f. record { upTo = omega arith; none = λ i h. absurd (omega arith); here = λ h. passes-stands frame rest p })
     (λ byte rest steps e f. first-skips byte rest (skippedFirst steps) e f)
 
@@ -42,6 +46,7 @@ next-at b place =
       none = λ i low high e.
           let k : place + (i - place) ≡ i = omega arith in
           never
-          (cc (sym (f .none (i - place) (omega arith)) ∙ ap stands (drop-drop (i - place) place b) ∙ ap (λ (j : ℕ). stands (drop j b)) k ∙ e));
+          (cc (sym (f .none (i - place) (omega arith)) ∙ ap stands (drop-drop (i - place) place b)
+          ∙ ap (λ (j : ℕ). stands (drop j b)) k ∙ e));
       stands = λ h. ap stands (sym (drop-drop n place b)) ∙ f .here (omega arith);
     }

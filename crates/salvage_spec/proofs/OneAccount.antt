@@ -14,7 +14,7 @@ use Rattle.salvage_spec.proofs.WalkLaws.{stands-none, walk-by}
 use Rattle.salvage_spec.proofs.AccountLaws.{stepsIn, steps-told}
 
 -- ---- the pieces of a recording by its steps
--- one byte more before pieces: the run that they begin with grows, or it is a run
+-- one skipped byte put before the pieces: it joins the run that they begin with, or is a run of its own
 abbrev skipOne : ℕ → List Piece → List Piece
 skipOne byte [] = skippedPiece (byte ∷ []) ∷ []
 skipOne byte (keptPiece frame ∷ pieces) = skippedPiece (byte ∷ []) ∷ keptPiece frame ∷ pieces
@@ -27,7 +27,8 @@ piecesOf (skipped ∷ steps) [] = []
 piecesOf (skipped ∷ steps) (byte ∷ b) = skipOne byte (piecesOf steps b)
 
 -- ---- they are an account
-pub account-keeps : (frame rest : List ℕ) (pieces : List Piece) → Passes frame → Account rest pieces → Account (frame ++ rest) (keptPiece frame ∷ pieces)
+pub account-keeps : (frame rest : List ℕ) (pieces : List Piece) → Passes frame → Account rest pieces
+    → Account (frame ++ rest) (keptPiece frame ∷ pieces)
 unfolding flatten
 account-keeps frame rest pieces p a = record {
   cover = ap (λ (b : List ℕ). frame ++ b) (a .cover);
@@ -54,7 +55,8 @@ module _ (byte : ℕ) (rest : List ℕ) (e : stands (byte ∷ rest) ≡ false) w
       none zero h = none-here pieces a
       none (suc i) h = absurd (omega arith)
 
-  more-run : (bytes : List ℕ) (pieces : List Piece) → Account rest (skippedPiece bytes ∷ pieces) → Account (byte ∷ rest) (skippedPiece (byte ∷ bytes) ∷ pieces)
+  more-run : (bytes : List ℕ) (pieces : List Piece) → Account rest (skippedPiece bytes ∷ pieces)
+      → Account (byte ∷ rest) (skippedPiece (byte ∷ bytes) ∷ pieces)
   unfolding flatten
   more-run bytes pieces a = record {
     cover = ap (λ (b : List ℕ). byte ∷ b) (a .cover);
@@ -87,7 +89,8 @@ skip-new byte [] n = refl
 skip-new byte (keptPiece frame ∷ pieces) n = refl
 skip-new byte (skippedPiece bytes ∷ pieces) n = absurd n
 
-run-back : (bytes : List ℕ) (pieces : List Piece) → 0 < length bytes → NotSkipped pieces → piecesOf (stepsIn pieces) (joined pieces) ≡ pieces
+run-back : (bytes : List ℕ) (pieces : List Piece) → 0 < length bytes → NotSkipped pieces
+    → piecesOf (stepsIn pieces) (joined pieces) ≡ pieces
     → piecesOf (replicate (length bytes) skipped ++ stepsIn pieces) (bytes ++ joined pieces) ≡ skippedPiece bytes ∷ pieces
 run-back [] pieces h n e = absurd (omega arith)
 run-back (x ∷ []) pieces h n e = ap (skipOne x) e ∙ skip-new x pieces n

@@ -56,7 +56,8 @@ all-keeps frame rest steps p later first next h =
 all-steps : (b : List ℕ) → AllBytes b (stepsOf b)
 unfolding framesOf runsOf flatten
 all-steps =
-    walk-by AllBytes (λ first next h. run-by (λ rs. 0 + longAll rs ≡ 0 + (next - first)) first next h (λ e. omega arith) (λ some. omega arith)) all-keeps
+    walk-by AllBytes (λ first next h. run-by (λ rs. 0 + longAll rs ≡ 0 + (next - first)) first next h (λ e. omega arith)
+    (λ some. omega arith)) all-keeps
     (λ byte rest steps none later first next h. omega (arith, later first (suc next) (omega arith)))
 
 pub long-all : InAll
@@ -67,7 +68,8 @@ kept-most b = omega (arith, long-all b)
 
 -- ---- apart
 abbrev LieApart : List ℕ → List Step → Type 0
-LieApart rest steps = (from first next long : ℕ) → from ≤ first → first ≤ next → next + length rest ≡ long → Apart from long (runsOf first next steps)
+LieApart rest steps = (from first next long : ℕ) → from ≤ first → first ≤ next → next + length rest ≡ long
+    → Apart from long (runsOf first next steps)
 
 apart-keeps : (frame rest : List ℕ) (steps : List Step) → Passes frame → LieApart rest steps → LieApart (frame ++ rest) (kept frame ∷ steps)
 unfolding runsOf
@@ -96,7 +98,8 @@ pub apart-all : RunsApart
 apart-all b = apart-steps b 0 0 0 (length b) (omega arith) (omega arith) (omega arith)
 
 -- ---- so few
-few-apart : (rs : List Run) (from long : ℕ) → Apart from long rs → from ≤ long + leastFrame → suc leastFrame * length rs + from ≤ long + leastFrame
+few-apart : (rs : List Run) (from long : ℕ) → Apart from long rs → from ≤ long + leastFrame
+    → suc leastFrame * length rs + from ≤ long + leastFrame
 few-apart [] from long a h = omega arith
 few-apart (r ∷ rs) from long a h =
     omega (arith, a .0, a .1, a .2, few-apart rs (r .place + r .long + leastFrame) long (a .3) (omega (arith, a .2)))

@@ -28,7 +28,8 @@ no-runs (f ∷ fs) place = no-runs fs (place + length f)
 
 pub unchanged : Undamaged
 unchanged frames out runs p =
-    salvage-told (flatten frames) out runs (map kept frames) (all-kept frames p) ∙ (λ i. salvaged (kept-all frames i) (no-runs frames 0 i) out runs)
+    salvage-told (flatten frames) out runs (map kept frames) (all-kept frames p)
+    ∙ (λ i. salvaged (kept-all frames i) (no-runs frames 0 i) out runs)
 
 -- ---- what an account keeps
 kept-pass : (pieces : List Piece) → EachPasses pieces → AllPass (keptIn pieces)

@@ -1,34 +1,35 @@
 -- Where a frame stands, and the walk step by step. Assumes nothing.
-use Prim.Native.Nat.{ℕ, zero, suc, _+_, _-_, _≤_, _<_}
+use Prim.Native.Nat.{ℕ, zero, suc, _+_, _≤_, _<_}
 use native.Mathlib.Nat.{add-zero, zero-add, suc-add}
 use native.Mathlib.Omega.{arith}
 use mathlib.Core.Path.{_≡_, refl, sym, ap, subst, _∙_}
 use mathlib.Core.Bool.{Bool, true, false, not}
 use mathlib.Core.List.{List, [], _∷_, _++_}
 use lib.Dec.{eqb}
-use lib.ListN.{length, drop, replicate, length-take, length-drop, take-append-drop}
+use lib.ListN.{length, drop, replicate, length-take, take-append-drop}
 use lib.Seq.{length-take-le, take-at, drop-append-seam}
-use borrow.Author.Tests.{eqb-true, eq-eqb, ne-eqb, not-true, not-false}
-use Rattle.wire.specs.Checks.{pick, someBroken, AllHold}
-use Rattle.wire.proofs.CheckLaws.{never, all-hold, hold-none}
-use Rattle.frame.specs.Session.{headSize, dataKind, kindIn, sizeIn, bodyIn}
+use borrow.Author.Tests.{eqb-true, not-true, not-false}
+use Rattle.wire.specs.Checks.{pick, Check, someBroken, AllHold}
+use Rattle.wire.proofs.CheckLaws.{never, all-hold, hold-none, first-none}
+use Rattle.frame.specs.Session.{headSize, dataKind, kindIn, sizeIn, bodyIn, wholeLong}
 use Rattle.set_spec.specs.Segment.{ownChecks}
 use Rattle.set_spec.specs.Whole.{Passes}
-use Rattle.set_spec.proofs.OrderLaws.{first-same-none}
 use Rattle.set_spec.proofs.FrameFacts.{framed, header-fits}
-use Rattle.set_spec.proofs.PrefixLaws.{own-parts, passes-with, passes-alone, size-same, front-exact}
-use Rattle.salvage_spec.specs.Walk.{stands, wholeLong, whole, Step, kept, skipped, stepIn, stepLong, walk, stepsOf, framesOf, runsOf, skippedFirst}
+use Rattle.set_spec.proofs.PrefixLaws.{own-parts, own-same}
+use Rattle.frame.proofs.FrontLaws.{front-exact, whole-same}
+use Rattle.frame.proofs.WalkLaws.{TakesBytes, walked-end, walked-turn, walked-by}
+use Rattle.salvage_spec.specs.Walk.{stands, whole, Step, kept, skipped, stepIn, stepLong, walk, stepsOf, framesOf, runsOf, skippedFirst}
 use Rattle.salvage_spec.specs.Account.{NoneBegins}
 use Rattle.salvage_spec.specs.Theorems.{leastFrame, mostFrame}
 
 -- ---- a frame stands exactly if its own checks hold
 pub stands-holds : (rest : List ℕ) → stands rest ≡ true → AllHold (ownChecks rest)
-stands-holds rest e = all-hold (ownChecks rest) (first-same-none (ownChecks rest) (not-true (someBroken (ownChecks rest)) e))
+stands-holds rest e = all-hold (ownChecks rest) (first-none (ownChecks rest) (not-true (someBroken (ownChecks rest)) e))
 
 pub holds-stands : (rest : List ℕ) → AllHold (ownChecks rest) → stands rest ≡ true
 holds-stands rest a = ap not (hold-none (ownChecks rest) a)
 
--- what cannot stand does not
+-- `stands` is false if it is not true
 pub stands-not : (rest : List ℕ) → (stands rest ≡ true → ⊥) → stands rest ≡ false
 stands-not rest ne = go (stands rest) refl
   where
@@ -62,91 +63,56 @@ whole-length rest e = length-take-le (wholeLong rest) rest (stands-long rest e .
 pub whole-joined : (rest : List ℕ) → whole rest ++ drop (wholeLong rest) rest ≡ rest
 whole-joined rest = take-append-drop (wholeLong rest) rest
 
+-- whether a frame of exactly its own length stands does not depend on what follows it
+stands-alone : (f t : List ℕ) → length f ≡ wholeLong f → stands (f ++ t) ≡ stands f
+stands-alone f t exact = ap (λ (ks : List Check). not (someBroken ks)) (own-same f t exact)
+
 pub whole-passes : (rest : List ℕ) → stands rest ≡ true → Passes (whole rest)
 whole-passes rest e =
-    let a = stands-holds rest e in
-    let x = front-exact rest (framed rest (own-parts rest a .0)) in
-    record {
-      checks = passes-alone (whole rest) (drop (wholeLong rest) rest) x (subst (λ (b : List ℕ). AllHold (ownChecks b)) (sym (whole-joined rest)) a);
-      exact = x;
-    }
+    let exact = front-exact rest (stands-long rest e .inside) in
+    let alone = stands-alone (whole rest) (drop (wholeLong rest) rest) exact in
+    record { checks = stands-holds (whole rest) (sym alone ∙ ap stands (whole-joined rest) ∙ e); exact = exact }
 
 -- a frame that passes stands, whatever follows it
 pub passes-stands : (frame rest : List ℕ) → Passes frame → stands (frame ++ rest) ≡ true
-passes-stands frame rest p = holds-stands (frame ++ rest) (passes-with frame rest (p .exact) (p .checks))
+passes-stands frame rest p = stands-alone frame rest (p .exact) ∙ holds-stands frame (p .checks)
 
 pub passes-whole : (frame rest : List ℕ) → Passes frame → whole (frame ++ rest) ≡ frame
-passes-whole frame rest p =
-    take-at frame rest (wholeLong (frame ++ rest)) (p .exact ∙ ap (λ (n : ℕ). headSize + n) (sym (size-same frame rest (p .exact))))
+passes-whole frame rest p = take-at frame rest (wholeLong (frame ++ rest)) (sym (whole-same frame rest (p .exact)))
 
 pub passes-least : (frame : List ℕ) → Passes frame → leastFrame ≤ length frame
 passes-least frame p = omega (arith, stands-long frame (holds-stands frame (p .checks)) .least, p .exact)
 
 -- ---- none stands: another kind
 pub kind-none : (rest : List ℕ) → (kindIn rest ≡ dataKind → ⊥) → stands rest ≡ false
-kind-none rest ne = stands-not rest (λ e. ne (eqb-true (kindIn rest) dataKind (not-false (eqb (kindIn rest) dataKind) (own-parts rest (stands-holds rest e) .1))))
+kind-none rest ne = stands-not rest
+    (λ e. ne (eqb-true (kindIn rest) dataKind (not-false (eqb (kindIn rest) dataKind) (own-parts rest (stands-holds rest e) .1))))
 
 -- ---- a step by what stands
 step-by : (rest : List ℕ) (t : Bool) → stands rest ≡ t → stepIn rest ≡ pick t (kept (whole rest)) skipped
 step-by rest t e = ap (λ (u : Bool). pick u (kept (whole rest)) skipped) e
 
-step-some : (rest : List ℕ) → 0 < stepLong (stepIn rest)
-step-some rest = go (stands rest) refl
+steps-take : TakesBytes (walk .takes)
+steps-take s rest = go (stands rest) refl
   where
     go : (t : Bool) → stands rest ≡ t → 0 < stepLong (pick t (kept (whole rest)) skipped)
     go true e = omega (arith, whole-length rest e, stands-long rest e .least)
     go false e = omega arith
 
--- ---- turns to spare change nothing
-walk-ends : (turns : ℕ) (rest : List ℕ) → length rest ≡ 0 → walk turns rest ≡ []
-unfolding walk
-walk-ends zero rest e = refl
-walk-ends (suc turns) rest e = simp (eq-eqb (length rest) 0 e)
-
-walk-same : (turns more : ℕ) (rest : List ℕ) → length rest ≤ turns → length rest ≤ more → walk turns rest ≡ walk more rest
-unfolding walk
-walk-same zero more rest h k = sym (walk-ends more rest (omega arith))
-walk-same (suc turns) zero rest h k = walk-ends (suc turns) rest (omega arith)
-walk-same (suc turns) (suc more) rest h k = go (eqb (length rest) 0) refl (λ p q. walk-same turns more (drop (stepLong (stepIn rest)) rest) p q)
-  where
-    next : List ℕ
-    next = drop (stepLong (stepIn rest)) rest
-
-    go : (t : Bool) → eqb (length rest) 0 ≡ t → (length next ≤ turns → length next ≤ more → walk turns next ≡ walk more next)
-        → pick t [] (stepIn rest ∷ walk turns next) ≡ pick t [] (stepIn rest ∷ walk more next)
-    go true e later = refl
-    go false e later =
-        let l : length next ≡ length rest - stepLong (stepIn rest) = length-drop (stepLong (stepIn rest)) rest in
-        let s = step-some rest in
-        ap (λ (l : List Step). stepIn rest ∷ l) (later (omega arith) (omega arith))
-
-pub walk-turns : (turns : ℕ) (rest : List ℕ) → length rest ≤ turns → walk turns rest ≡ stepsOf rest
-walk-turns turns rest h = walk-same turns (length rest) rest h (omega arith)
-
 -- ---- the steps, one at a time
 pub steps-end : stepsOf [] ≡ []
-steps-end = walk-ends 0 [] refl
-
-steps-next : (rest : List ℕ) → 0 < length rest → stepsOf rest ≡ stepIn rest ∷ stepsOf (drop (stepLong (stepIn rest)) rest)
-unfolding walk
-steps-next [] h = absurd (omega arith)
-steps-next (x ∷ rest) h =
-    let b : List ℕ = x ∷ rest in
-    let next : List ℕ = drop (stepLong (stepIn b)) b in
-    let s = step-some b in
-    let l : length next ≡ suc (length rest) - stepLong (stepIn b) = length-drop (stepLong (stepIn b)) b in
-    ap (λ (t : Bool). pick t [] (stepIn b ∷ walk (length rest) next)) (ne-eqb (length b) 0 (λ e. omega arith))
-    ∙ ap (λ (l : List Step). stepIn b ∷ l) (walk-turns (length rest) next (omega arith))
+steps-end = walked-end walk steps-take tt [] refl
 
 pub steps-kept : (rest : List ℕ) → stands rest ≡ true → stepsOf rest ≡ kept (whole rest) ∷ stepsOf (drop (wholeLong rest) rest)
 steps-kept rest e =
     let s = stands-long rest e in
-    steps-next rest (omega (arith, s .inside, s .least))
+    walked-turn walk steps-take tt rest (omega (arith, s .inside, s .least))
     ∙ ap (λ (s : Step). s ∷ stepsOf (drop (stepLong s) rest)) (step-by rest true e)
     ∙ ap (λ (n : ℕ). kept (whole rest) ∷ stepsOf (drop n rest)) (whole-length rest e)
 
 pub steps-skipped : (rest : List ℕ) → 0 < length rest → stands rest ≡ false → stepsOf rest ≡ skipped ∷ stepsOf (drop 1 rest)
-steps-skipped rest h e = steps-next rest h ∙ ap (λ (s : Step). s ∷ stepsOf (drop (stepLong s) rest)) (step-by rest false e)
+steps-skipped rest h e =
+    walked-turn walk steps-take tt rest h ∙ ap (λ (s : Step). s ∷ stepsOf (drop (stepLong s) rest)) (step-by rest false e)
 
 pub steps-passes : (frame rest : List ℕ) → Passes frame → stepsOf (frame ++ rest) ≡ kept frame ∷ stepsOf rest
 steps-passes frame rest p =
@@ -157,31 +123,28 @@ steps-passes frame rest p =
     ∙ ap (λ (f : List ℕ). kept f ∷ stepsOf (drop (length f) (frame ++ rest))) e
     ∙ ap (λ (b : List ℕ). kept frame ∷ stepsOf b) (drop-append-seam frame rest)
 
--- what holds at the end, of a frame kept and what follows it, and of a byte skipped and what follows it, holds of the walk
+-- induction over the walk: P holds at the end, and before a frame kept or a byte skipped if it holds after it
 module _ (P : List ℕ → List Step → Type 0) (end : P [] [])
     (keeps : (frame rest : List ℕ) (steps : List Step) → Passes frame → P rest steps → P (frame ++ rest) (kept frame ∷ steps))
-    (skips : (byte : ℕ) (rest : List ℕ) (steps : List Step) → stands (byte ∷ rest) ≡ false → P rest steps → P (byte ∷ rest) (skipped ∷ steps)) where
-  by-turns : (turns : ℕ) (rest : List ℕ) → length rest ≤ turns → P rest (stepsOf rest)
-  by-turns zero [] h = subst (P []) (sym steps-end) end
-  by-turns zero (x ∷ rest) h = absurd (omega arith)
-  by-turns (suc turns) [] h = subst (P []) (sym steps-end) end
-  by-turns (suc turns) (x ∷ rest) h = go (stands (x ∷ rest)) refl (λ b l. by-turns turns b l)
+    (skips : (byte : ℕ) (rest : List ℕ) (steps : List Step) → stands (byte ∷ rest) ≡ false → P rest steps
+    → P (byte ∷ rest) (skipped ∷ steps)) where
+  step : (rest : List ℕ) (steps : List Step) → 0 < length rest → P (drop (stepLong (stepIn rest)) rest) steps
+      → P rest (stepIn rest ∷ steps)
+  step [] steps h p = absurd (omega arith)
+  step (x ∷ rest) steps h p = go (stands (x ∷ rest)) refl p
     where
-      after : List ℕ
-      after = drop (wholeLong (x ∷ rest)) (x ∷ rest)
+      b : List ℕ
+      b = x ∷ rest
 
-      go : (t : Bool) → stands (x ∷ rest) ≡ t → ((b : List ℕ) → length b ≤ turns → P b (stepsOf b)) → P (x ∷ rest) (stepsOf (x ∷ rest))
-      go true e later =
-          let s = stands-long (x ∷ rest) e in
-          let l : length after ≤ turns = omega (arith, length-drop (wholeLong (x ∷ rest)) (x ∷ rest), s .least) in
-          subst (λ (b : List ℕ). P b (stepsOf (x ∷ rest))) (whole-joined (x ∷ rest))
-          (subst (P (whole (x ∷ rest) ++ after)) (sym (steps-kept (x ∷ rest) e))
-          (keeps (whole (x ∷ rest)) after (stepsOf after) (whole-passes (x ∷ rest) e) (later after l)))
-      go false e later =
-          subst (P (x ∷ rest)) (sym (steps-skipped (x ∷ rest) (omega arith) e)) (skips x rest (stepsOf rest) e (later rest (omega arith)))
+      go : (t : Bool) → stands b ≡ t → P (drop (stepLong (pick t (kept (whole b)) skipped)) b) steps
+          → P b (pick t (kept (whole b)) skipped ∷ steps)
+      go true e q =
+          subst (λ (l : List ℕ). P l (kept (whole b) ∷ steps)) (whole-joined b)
+          (keeps (whole b) (drop (wholeLong b) b) steps (whole-passes b e) (rw (whole-length b e) at q))
+      go false e q = skips x rest steps e q
 
   pub walk-by : (b : List ℕ) → P b (stepsOf b)
-  walk-by b = by-turns (length b) b (omega arith)
+  walk-by b = walked-by walk steps-take (λ s rest steps. P rest steps) (λ s. end) (λ s. step) tt b
 
 -- ---- a run of skipped bytes
 pub steps-run : (n : ℕ) (rest : List ℕ) → n ≤ length rest → ((i : ℕ) → i < n → stands (drop i rest) ≡ false)
@@ -214,7 +177,8 @@ module _ (n : ℕ) (rest : List ℕ) (h : n ≤ length rest) (none : (i : ℕ) �
   frames-run = ap framesOf (steps-run n rest h none) ∙ frames-skipped n (stepsOf (drop n rest))
 
   pub runs-run : (first next : ℕ) → runsOf first next (stepsOf rest) ≡ runsOf first (next + n) (stepsOf (drop n rest))
-  runs-run first next = ap (λ (steps : List Step). runsOf first next steps) (steps-run n rest h none) ∙ runs-skipped n first next (stepsOf (drop n rest))
+  runs-run first next = ap (λ (steps : List Step). runsOf first next steps) (steps-run n rest h none)
+      ∙ runs-skipped n first next (stepsOf (drop n rest))
 
   pub first-run : skippedFirst (stepsOf rest) ≡ n + skippedFirst (stepsOf (drop n rest))
   first-run = ap skippedFirst (steps-run n rest h none) ∙ first-skipped n (stepsOf (drop n rest))

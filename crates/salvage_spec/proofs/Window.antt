@@ -8,18 +8,19 @@ use lib.ListN.{length, take, drop, length-drop, take-append-drop}
 use lib.Seq.{take-append-le, drop-append-le}
 use Rattle.wire.proofs.CheckLaws.{never}
 use Rattle.set_spec.specs.Whole.{Passes}
-use Rattle.salvage_spec.specs.Walk.{stands, wholeLong, whole}
+use Rattle.frame.specs.Session.{wholeLong}
+use Rattle.salvage_spec.specs.Walk.{stands, whole}
 use Rattle.salvage_spec.specs.Theorems.{mostFrame, ByWindow}
 use Rattle.salvage_spec.proofs.WalkLaws.{stands-not, stands-long, whole-joined, whole-passes, passes-stands}
 
--- what stands also stands with more bytes after it
+-- a frame that stands still stands with more bytes after it
 stands-more : (part rest : List ℕ) → stands part ≡ true → stands (part ++ rest) ≡ true
 stands-more part rest e =
     let after = drop (wholeLong part) part in
     ap stands (ap (λ (b : List ℕ). b ++ rest) (sym (whole-joined part)) ∙ append-assoc (whole part) after rest)
     ∙ passes-stands (whole part) (after ++ rest) (whole-passes part e)
 
--- and, where the longest frame fits in, with fewer
+-- and with fewer, if the longest frame fits in
 stands-less : (part rest : List ℕ) → mostFrame ≤ length part → stands (part ++ rest) ≡ true → stands part ≡ true
 stands-less part rest h e =
     let s = stands-long (part ++ rest) e in

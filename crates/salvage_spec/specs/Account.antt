@@ -1,4 +1,5 @@
--- What an account of a damaged recording has to be, apart from how it is made: the recording is its pieces, each a frame kept or a run skipped.
+-- What an account of a damaged recording has to be, apart from how it is made: it cuts the recording into pieces, each a kept frame or
+-- a skipped run.
 use Prim.Native.Nat.{ℕ, _+_, _<_}
 use mathlib.Core.Path.{_≡_}
 use mathlib.Core.List.{List, [], _∷_, _++_, map, flatten}
@@ -17,11 +18,11 @@ abbrev pub bytesIn : Piece → List ℕ
 bytesIn (kept frame) = frame
 bytesIn (skipped bytes) = bytes
 
--- the pieces one after the other
+-- the bytes of all pieces, joined
 abbrev pub joined : List Piece → List ℕ
 joined pieces = flatten (map bytesIn pieces)
 
--- no data frame with a header that passes begins a buffer
+-- the buffer does not begin with a data frame whose header passes
 abbrev pub NoneBegins : List ℕ → Type 0
 NoneBegins rest = AllHold (ownChecks rest) → ⊥
 
@@ -31,14 +32,14 @@ EachPasses [] = Unit {0}
 EachPasses (kept frame ∷ pieces) = Passes frame × EachPasses pieces
 EachPasses (skipped bytes ∷ pieces) = EachPasses pieces
 
--- at no place skipped does one begin, whatever follows it in the recording
+-- no such frame begins at a skipped byte, with all that follows it in the recording
 abbrev pub NoneSkipped : List Piece → Type 0
 NoneSkipped [] = Unit {0}
 NoneSkipped (kept frame ∷ pieces) = NoneSkipped pieces
 NoneSkipped (skipped bytes ∷ pieces) =
     ((i : ℕ) → i < length bytes → NoneBegins (drop i (bytes ++ joined pieces))) × NoneSkipped pieces
 
--- "each longest run": it has bytes, and what follows it is no other run
+-- "each longest run": a run is not empty, and no other run follows it directly
 abbrev pub NotSkipped : List Piece → Type 0
 NotSkipped [] = Unit {0}
 NotSkipped (kept frame ∷ pieces) = Unit {0}

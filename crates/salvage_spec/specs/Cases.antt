@@ -9,7 +9,7 @@ use Rattle.set_spec.specs.Cases.{frameWith, keepAlive}
 use Rattle.salvage_spec.specs.Walk.{Run, keptOf, skippedOf}
 use Rattle.salvage_spec.specs.Salvage.{Report, salvageOf}
 
--- document 01's request 129, 30 bytes
+-- a request for 129, 30 bytes
 abbrev pub request : List ℕ
 request = frameWith 9 1 1 0x0081
 

@@ -1,4 +1,4 @@
--- What comes of a salvage: what is reported, and what then stands in the two lent outputs, of bytes and of runs.
+-- The outcome of a salvage: what is reported, and what the two lent outputs, of bytes and of runs, then hold.
 use Prim.Native.Nat.{ℕ}
 use mathlib.Core.List.{List, [], _∷_, map, flatten}
 use lib.ListN.{length}
@@ -27,12 +27,12 @@ roomChecks clean list out runs = roomCheck (length out) clean ∷ roomCheck (len
 abbrev pub report : List (List ℕ) → List Run → Report
 report frames skipped = record { kept = length frames; long = length (flatten frames); runs = length skipped }
 
--- what comes of frames kept and runs skipped: "The output is exactly the kept frames in order"; on a refusal "nothing written"
+-- the outcome for frames kept and runs skipped: "The output is exactly the kept frames in order"; on a refusal "nothing written"
 abbrev pub salvaged : List (List ℕ) → List Run → List ℕ → List ℕ → Outcome (List ℕ × List ℕ) Report
 salvaged frames skipped out runs =
     outcome (roomChecks (flatten frames) (numbers skipped) out runs) (out, runs) (report frames skipped)
     (filled (flatten frames) out, filled (numbers skipped) runs)
 
--- what comes of a buffer, an output of bytes and one of runs
+-- the outcome for a buffer, an output of bytes and one of runs
 unfoldable pub salvageOf : List ℕ → List ℕ → List ℕ → Outcome (List ℕ × List ℕ) Report
 salvageOf b out runs = salvaged (keptOf b) (skippedOf b) out runs

@@ -18,18 +18,20 @@ use Rattle.salvage_spec.specs.Account.{Piece, Account, keptIn, runsIn}
 abbrev pub AccountedOnce : Type 0
 AccountedOnce = (b : List ℕ) → One (Account b)
 
--- and what comes of it is told by that account
+-- and that account gives the outcome of the salvage
 abbrev pub ByAccount : Type 0
-ByAccount = (b out runs : List ℕ) (pieces : List Piece) → Account b pieces → salvageOf b out runs ≡ salvaged (keptIn pieces) (runsIn 0 pieces) out runs
+ByAccount = (b out runs : List ℕ) (pieces : List Piece) → Account b pieces
+    → salvageOf b out runs ≡ salvaged (keptIn pieces) (runsIn 0 pieces) out runs
 
 -- "An undamaged recording of data frames alone with such headers comes out unchanged with no runs"
 abbrev pub AllPass : List (List ℕ) → Type 0
 AllPass frames = (f : List ℕ) → List·Memᴰ f frames → Passes f
 
 abbrev pub Undamaged : Type 0
-Undamaged = (frames : List (List ℕ)) (out runs : List ℕ) → AllPass frames → salvageOf (flatten frames) out runs ≡ salvaged frames [] out runs
+Undamaged = (frames : List (List ℕ)) (out runs : List ℕ) → AllPass frames
+    → salvageOf (flatten frames) out runs ≡ salvaged frames [] out runs
 
--- what was kept, salvaged again: nothing changes and nothing is skipped
+-- salvaging the kept frames again changes nothing and skips nothing
 abbrev pub Again : Type 0
 Again =
     (b out runs : List ℕ) (pieces : List Piece) → Account b pieces
@@ -46,7 +48,7 @@ pub record InTurn (frames : List (List ℕ)) (skipped : List Run) (out runs : Li
 abbrev pub RefusedInOrder : Type 0
 RefusedInOrder = (frames : List (List ℕ)) (skipped : List Run) (out runs : List ℕ) → InTurn frames skipped out runs
 
--- bytes kept and bytes skipped are all the bytes
+-- every byte is kept or skipped: the two counts add up to the length
 abbrev pub longAll : List Run → ℕ
 longAll [] = 0
 longAll (r ∷ rs) = r .long + longAll rs
@@ -54,14 +56,14 @@ longAll (r ∷ rs) = r .long + longAll rs
 abbrev pub InAll : Type 0
 InAll = (b : List ℕ) → length (flatten (keptOf b)) + longAll (skippedOf b) ≡ length b
 
--- the least frame that passes, and the longest: a header alone, and as much as a session carries
+-- the shortest frame that passes, a header alone, and the longest, with the most that a session body may hold
 abbrev pub leastFrame : ℕ
 leastFrame = headSize + headerSize
 
 abbrev pub mostFrame : ℕ
 mostFrame = headSize + sessionLimit .0
 
--- runs rise, with a frame or more between any two, and end within the recording
+-- runs are in rising order, have at least one frame between any two, and end within the recording
 abbrev pub Apart : ℕ → ℕ → List Run → Type 0
 Apart from long [] = Unit {0}
 Apart from long (r ∷ rs) = (from ≤ r .place) × (0 < r .long) × (r .place + r .long ≤ long) × Apart (r .place + r .long + leastFrame) long rs
@@ -69,7 +71,7 @@ Apart from long (r ∷ rs) = (from ≤ r .place) × (0 < r .long) × (r .place +
 abbrev pub RunsApart : Type 0
 RunsApart = (b : List ℕ) → Apart 0 (length b) (skippedOf b)
 
--- so many runs at most, and bytes of output that always suffice
+-- the most runs, and the output length that is always enough
 abbrev pub MostRuns : Type 0
 MostRuns = (b : List ℕ) → suc leastFrame * length (skippedOf b) ≤ length b + leastFrame
 
@@ -77,7 +79,7 @@ abbrev pub MostKept : Type 0
 MostKept = (b : List ℕ) → length (flatten (keptOf b)) ≤ length b
 
 -- ---- a recording seen through a window: its first bytes, and what follows them
--- a frame that stands in the window stands in the recording; and where the longest frame would end in the window, both say the same
+-- a frame that stands in the window stands in the recording; where even the longest frame would end in the window, both answers are equal
 pub record Through (window rest : List ℕ) (place : ℕ) : Type 0 where
   pub stays : stands (drop place window) ≡ true → stands (drop place (window ++ rest)) ≡ true
   pub same : place + mostFrame ≤ length window → stands (drop place (window ++ rest)) ≡ stands (drop place window)
@@ -85,7 +87,7 @@ pub record Through (window rest : List ℕ) (place : ℕ) : Type 0 where
 abbrev pub ByWindow : Type 0
 ByWindow = (window rest : List ℕ) (place : ℕ) → Through window rest place
 
--- the place of the next frame kept is the first from a place on where one stands
+-- the next frame kept begins at the first place, from a given one on, where a frame stands
 pub record Next (b : List ℕ) (place next : ℕ) : Type 0 where
   pub from : place ≤ next
   pub upTo : place ≤ length b → next ≤ length b

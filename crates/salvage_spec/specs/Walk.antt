@@ -1,25 +1,23 @@
 -- "Walk a buffer from its start": what is kept of it and what is skipped.
-use Prim.Native.Nat.{ℕ, zero, suc, _+_, _-_}
+use Prim.Native.Nat.{ℕ, suc, _+_, _-_}
 use mathlib.Core.Bool.{Bool, not}
 use mathlib.Core.List.{List, [], _∷_, _++_}
 use lib.Dec.{eqb}
 use lib.ListN.{length, take, drop}
 use Rattle.wire.specs.Checks.{pick, someBroken}
-use Rattle.frame.specs.Session.{headSize, sizeIn}
+use Rattle.frame.specs.Session.{wholeLong}
+use Rattle.frame.specs.Walk.{Walk, walked}
 use Rattle.set_spec.specs.Segment.{ownChecks}
 
--- "where a data frame with a message header that passes document 01 stands": what is left from a place on begins with one
+-- "where a data frame with a message header that passes .. stands": the buffer from a place on begins with such a frame
 abbrev pub stands : List ℕ → Bool
 stands rest = not (someBroken (ownChecks rest))
 
--- how many bytes that frame takes, and its bytes, "whole"
-abbrev pub wholeLong : List ℕ → ℕ
-wholeLong rest = headSize + sizeIn rest .0
-
+-- its bytes, "whole"
 abbrev pub whole : List ℕ → List ℕ
 whole rest = take (wholeLong rest) rest
 
--- how many bytes the frame takes that stands at a place, or 0 where none does
+-- the size of the frame that stands at a place, or 0 if there is none
 abbrev pub wholeAt : List ℕ → ℕ → ℕ
 wholeAt b place = pick (stands (drop place b)) (wholeLong (drop place b)) 0
 
@@ -37,13 +35,17 @@ abbrev pub stepLong : Step → ℕ
 stepLong (kept frame) = length frame
 stepLong skipped = 1
 
--- step by step to the end. A step takes bytes, so there are no more turns than bytes.
-unfoldable pub walk : ℕ → List ℕ → List Step
-walk zero rest = []
-walk (suc turns) rest = pick (eqb (length rest) 0) [] (stepIn rest ∷ walk turns (drop (stepLong (stepIn rest)) rest))
+-- all steps in order, to the end; the walk carries no state
+abbrev pub walk : Walk (Unit {0}) (List Step)
+walk = record {
+  takes = λ s rest. stepLong (stepIn rest);
+  next = λ s rest. s;
+  turn = λ s rest later. stepIn rest ∷ later;
+  end = λ s. [];
+}
 
 abbrev pub stepsOf : List ℕ → List Step
-stepsOf b = walk (length b) b
+stepsOf b = walked walk tt b
 
 -- "the kept frames in order"
 unfoldable pub framesOf : List Step → List (List ℕ)
@@ -56,11 +58,11 @@ pub record Run : Type 0 where
   pub place : ℕ
   pub long : ℕ
 
--- the bytes from `first` to the one before `next`: a run, unless there is none
+-- the bytes from `first` to before `next` as a run, or nothing if there are none
 abbrev pub run : ℕ → ℕ → List Run
 run first next = pick (eqb first next) [] (record { place = first; long = next - first } ∷ [])
 
--- the runs from the place `next` on, where the bytes from `first` to the one before it are skipped
+-- the runs from the place `next` on; the bytes from `first` to before `next` were skipped
 unfoldable pub runsOf : ℕ → ℕ → List Step → List Run
 runsOf first next [] = run first next
 runsOf first next (kept frame ∷ steps) = run first next ++ runsOf (next + length frame) (next + length frame) steps

@@ -1,1 +1,1 @@
-// What is kept and what is skipped of a damaged recording. Definitions and theorems, and no code. The code is in `salvage_find` and `salvage`.
+// What is kept and skipped of a damaged recording: definitions and theorems, and no code. The code is in `salvage_find` and `salvage`.

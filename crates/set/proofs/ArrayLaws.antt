@@ -9,13 +9,12 @@ use lib.ListN.{length, getD, take, drop, length-append, length-drop}
 use lib.Seq.{take-at, drop-at, drop-drop, length-take-le}
 use Rattle.wire.specs.Writing.{filled, copied}
 use Rattle.header.specs.Header.{mostSegments}
-use Rattle.wire.proofs.CheckLaws.{both-false}
+use Rattle.wire.proofs.CheckLaws.{both-false, by-eq}
 use Rattle.wire.proofs.CopyLaws.{copied-same}
-use Rattle.set_spec.proofs.NumberedLaws.{by-eq}
-use Rattle.set.specs.Steps.{Parts, Within, allSet, partsLong, parts}
+use Rattle.set.specs.Steps.{Parts, Within, allSet, partsLong, parts, Joinable}
 
 -- ---- the flags
--- one number more: its flag stands one place before it
+-- one number more; the flag of a number is at the index before it
 pub set-more : (flags : List Bool) (number : ℕ) → 1 ≤ number → allSet flags (number - 1) ≡ true → getD flags (number - 1) false ≡ true
     → allSet flags (number + 1 - 1) ≡ true
 unfolding allSet
@@ -43,10 +42,12 @@ module _ (starts ends : List ℕ) where
 
   -- the next part has room where all of them have
   pub long-next : (k n : ℕ) → k < n → partsLong starts ends k + (getD ends k 0 - getD starts k 0) ≤ partsLong starts ends n
-  long-next k n l = let m : partsLong starts ends (k + 1) ≤ partsLong starts ends n = long-least (k + 1) n (omega arith) in omega (arith, long-more k)
+  long-next k n l = let m : partsLong starts ends (k + 1) ≤ partsLong starts ends n = long-least (k + 1) n (omega arith) in
+      omega (arith, long-more k)
 
 module _ (s starts ends : List ℕ) where
-  pub parts-more : (k : ℕ) → parts s starts ends (k + 1) ≡ parts s starts ends k ++ take (getD ends k 0 - getD starts k 0) (drop (getD starts k 0) s)
+  pub parts-more : (k : ℕ) → parts s starts ends (k + 1) ≡ parts s starts ends k ++ take (getD ends k 0 - getD starts k 0)
+      (drop (getD starts k 0) s)
   unfolding parts
   parts-more k = rw add-one
 
@@ -61,53 +62,73 @@ module _ (s starts ends : List ℕ) where
       length-append (parts s starts ends n) (take (getD ends n 0 - getD starts n 0) (drop (getD starts n 0) s))
       ∙ rw (parts-long p w n (omega arith), part-long n (p n (omega arith) .0) (w n (omega arith)))
 
--- ---- one part more in the output: `out` holds the first k parts and then what it held before
-module _ (s starts ends : List ℕ) (p : Parts starts ends) (w : Within s ends) (k n : ℕ) (low : k < n) (most : n ≤ mostSegments) (out₀ out : List ℕ)
-    (room : partsLong starts ends n ≤ length out₀) (place : ℕ) (is : place ≡ partsLong starts ends k) (same : length out ≡ length out₀)
-    (holds : out ≡ parts s starts ends k ++ drop place out₀) where
-  abbrev pub more : ℕ
-  more = getD ends k 0 - getD starts k 0
+-- ---- the parts joined in an output: it holds the first k of them and then what it held before
+pub record Joining (s starts ends : List ℕ) (n : ℕ) (out₀ out : List ℕ) (place k : ℕ) : Type 0 where
+  pub upTo : k ≤ n
+  pub filled : place ≡ partsLong starts ends k
+  pub long : length out ≡ length out₀
+  pub holds : out ≡ parts s starts ends k ++ drop place out₀
 
-  abbrev pub part : List ℕ
-  part = take more (drop (getD starts k 0) s)
+-- where the next part stands in the buffer, and that there is room for it
+pub record NextFits (s starts ends out : List ℕ) (place k : ℕ) : Type 0 where
+  pub order : getD starts k 0 ≤ getD ends k 0
+  pub within : getD ends k 0 ≤ length s
+  pub room : place + (getD ends k 0 - getD starts k 0) ≤ length out
 
-  long : length part ≡ more
-  long = part-long s starts ends k (p k (omega arith) .0) (w k (omega arith))
-
-  fits : place + more ≤ length out₀
-  fits = omega (arith, long-next starts ends k n low)
-
-  back : place + more - place ≡ more
-  back = omega arith
-
+module _ {s starts ends : List ℕ} {n : ℕ} {out₀ : List ℕ} (j : Joinable s starts ends n out₀) {out : List ℕ} {place k : ℕ}
+    (g : Joining s starts ends n out₀ out place k) where
   filled-long : length (parts s starts ends k) ≡ place
-  filled-long = parts-long s starts ends p w k (omega arith) ∙ sym is
+  filled-long = parts-long s starts ends (j .lie) (j .within) k (omega arith) ∙ sym (g .filled)
 
-  fits-part : length part ≡ length (take (place + more - place) (drop place out))
-  fits-part =
-      let l : length (drop place out) ≡ length out - place = length-drop place out in
-      let m : place + more - place ≤ length (drop place out) = omega (arith, fits) in
-      long ∙ sym back ∙ sym (length-take-le (place + more - place) (drop place out) m)
+  -- one part more
+  module _ (low : k < n) where
+    pub next-fits : NextFits s starts ends out place k
+    next-fits = record {
+      order = j .lie k (omega arith) .0;
+      within = j .within k (omega arith);
+      room = omega (arith, long-next starts ends k n low);
+    }
 
-  pub join-more : (ys : List ℕ) → ys ≡ copied part (take (place + more - place) (drop place out))
-      → take place out ++ (ys ++ drop (place + more - place) (drop place out)) ≡ parts s starts ends (k + 1) ++ drop (place + more) out₀
-  join-more ys e =
-      let a : take place out ≡ parts s starts ends k = ap (λ (x : List ℕ). take place x) holds ∙ take-at (parts s starts ends k) (drop place out₀) place filled-long in
-      let b : drop place out ≡ drop place out₀ = ap (λ (x : List ℕ). drop place x) holds ∙ drop-at (parts s starts ends k) (drop place out₀) place filled-long in
-      let f : ys ≡ part = e ∙ copied-same part (take (place + more - place) (drop place out)) fits-part in
-      rw (a, b, f, back, parts-more s starts ends k, append-assoc, drop-drop)
+    abbrev more : ℕ
+    more = getD ends k 0 - getD starts k 0
 
-  pub join-long : (l : List ℕ) → l ≡ parts s starts ends (k + 1) ++ drop (place + more) out₀ → length l ≡ length out₀
-  join-long l e =
-      let a : length (parts s starts ends (k + 1)) ≡ partsLong starts ends (k + 1) = parts-long s starts ends p w (k + 1) (omega arith) in
-      let b : length (drop (place + more) out₀) ≡ length out₀ - (place + more) = length-drop (place + more) out₀ in
-      ap length e ∙ length-append (parts s starts ends (k + 1)) (drop (place + more) out₀) ∙ omega (arith, long-more starts ends k, fits)
+    abbrev part : List ℕ
+    part = take more (drop (getD starts k 0) s)
 
--- all parts are there
-pub joined-is : (s starts ends : List ℕ) → Parts starts ends → Within s ends → (k n : ℕ) → k ≡ n → n ≤ mostSegments → (out₀ out : List ℕ) (place : ℕ)
-    → place ≡ partsLong starts ends k
-    → out ≡ parts s starts ends k ++ drop place out₀
-    → out ≡ filled (parts s starts ends n) out₀
-joined-is s starts ends p w k n e most out₀ out place is holds =
-    let l : length (parts s starts ends n) ≡ place = parts-long s starts ends p w n most ∙ ap (λ (i : ℕ). partsLong starts ends i) (sym e) ∙ sym is in
-    holds ∙ rw (e, l)
+    back : place + more - place ≡ more
+    back = omega arith
+
+    -- what is copied is the part
+    copied-part : (ys : List ℕ) → ys ≡ copied part (take (place + more - place) (drop place out)) → ys ≡ part
+    copied-part ys e =
+        let f = next-fits in
+        let d = length-drop place out in
+        let long : length part ≡ more = part-long s starts ends k (f .order) (f .within) in
+        let room : length (take (place + more - place) (drop place out)) ≡ more =
+        length-take-le (place + more - place) (drop place out) (omega arith) ∙ back in
+        e ∙ copied-same part (take (place + more - place) (drop place out)) (long ∙ sym room)
+
+    pub join-more : {ys : List ℕ} → ys ≡ copied part (take (place + more - place) (drop place out))
+        → Joining s starts ends n out₀ (take place out ++ (ys ++ drop (place + more - place) (drop place out))) (place + more) (k + 1)
+    join-more {ys} e =
+        let f = next-fits in
+        let a : take place out ≡ parts s starts ends k = ap (λ (x : List ℕ). take place x) (g .holds)
+        ∙ take-at (parts s starts ends k) (drop place out₀) place filled-long in
+        let b : drop place out ≡ drop place out₀ = ap (λ (x : List ℕ). drop place x) (g .holds)
+        ∙ drop-at (parts s starts ends k) (drop place out₀) place filled-long in
+        let written : take place out ++ (ys ++ drop (place + more - place) (drop place out))
+        ≡ parts s starts ends (k + 1) ++ drop (place + more) out₀ =
+        rw (a, b, copied-part ys e, back, parts-more s starts ends k, append-assoc, drop-drop) in
+        let l = parts-long s starts ends (j .lie) (j .within) (k + 1) (omega arith) in
+        let d = length-drop (place + more) out₀ in
+        record {
+          upTo = omega arith;
+          filled = omega (arith, long-more starts ends k);
+          long = ap length written ∙ length-append (parts s starts ends (k + 1)) (drop (place + more) out₀)
+              ∙ omega (arith, long-more starts ends k);
+          holds = written;
+        }
+
+  -- all parts are there
+  pub joined-is : k ≡ n → out ≡ filled (parts s starts ends n) out₀
+  joined-is e = g .holds ∙ rw (← e, filled-long)

@@ -9,6 +9,7 @@ use lib.Seq.{drop-drop}
 use lib.Dec.{eqb}
 use borrow.Author.Tests.{eq-eqb}
 use mathlib.Core.Bool.{not}
+use Rattle.wire.proofs.ListLaws.{drop-take}
 use Rattle.wire.specs.Checks.{first, someBroken}
 use Rattle.wire.specs.Answers.{refused, given}
 use Rattle.wire.proofs.CheckLaws.{all-hold, either-false}
@@ -17,8 +18,8 @@ use Rattle.frame.specs.Session.{headSize, sizeIn, bodyIn}
 use Rattle.header.specs.declared.Header.{Header}
 use Rattle.header.specs.Header.{headerSize}
 use Rattle.set_spec.specs.Segment.{Placed, placedIn, ownChecks, segmentAt, agreeChecks}
-use Rattle.set_spec.proofs.OrderLaws.{drop-take}
 use Rattle.set_spec.proofs.FrameFacts.{framed, header-fits}
+use Rattle.set_spec.proofs.PrefixLaws.{own-parts}
 use Rattle.set.specs.Steps.{SegmentLies}
 
 pub segment-refused : (s : List ℕ) (at n : ℕ) → refused n ≡ segmentAt s at → first (ownChecks (drop at s)) ≡ some n
@@ -35,9 +36,9 @@ module _ (s : List ℕ) (at : ℕ) (passes : first (ownChecks (drop at s)) ≡ n
 
   lies-there : SegmentLies s at (placedIn rest at .header) (placedIn rest at .start) (placedIn rest at .next)
   lies-there =
-      let a = all-hold (ownChecks rest) passes in
-      let g = framed rest (a .0, (a .1 .0, (a .1 .1 .0, (a .1 .1 .1 .0, tt)))) in
-      let long = header-fits (bodyIn rest) (a .1 .1 .1 .1 .1) .long in
+      let p = own-parts rest (all-hold (ownChecks rest) passes) in
+      let g = framed rest (p .0) in
+      let long = header-fits (bodyIn rest) (p .2) .long in
       let room : headerSize ≤ z = omega (arith, long, length-take z (drop headSize rest)) in
       let w : headSize + z ≤ length s - at = subst (λ (n : ℕ). headSize + z ≤ n) (length-drop at s) (g .whole) in
       let d : at + (headSize + z) - (at + (headSize + headerSize)) ≡ z - headerSize = omega arith in
@@ -46,7 +47,8 @@ module _ (s : List ℕ) (at : ℕ) (passes : first (ownChecks (drop at s)) ≡ n
         header = refl;
         content =
             ap (λ (n : ℕ). take n (drop (at + (headSize + headerSize)) s)) d
-            ∙ ap (λ (l : List ℕ). take (z - headerSize) l) (sym (drop-drop headerSize headSize rest ∙ drop-drop (headSize + headerSize) at s))
+            ∙ ap (λ (l : List ℕ). take (z - headerSize) l) (sym (drop-drop headerSize headSize rest
+            ∙ drop-drop (headSize + headerSize) at s))
             ∙ sym (drop-take headerSize z (drop headSize rest));
         rest = sym (drop-drop (headSize + z) at s);
         forward = omega arith;
@@ -55,7 +57,8 @@ module _ (s : List ℕ) (at : ℕ) (passes : first (ownChecks (drop at s)) ≡ n
         small = omega (arith, g .small);
       }
 
-pub segment-lies : (s : List ℕ) (at : ℕ) (h : Header) (start next : ℕ) → given (record { header = h; start = start; next = next }) ≡ segmentAt s at
+pub segment-lies : (s : List ℕ) (at : ℕ) (h : Header) (start next : ℕ)
+    → given (record { header = h; start = start; next = next }) ≡ segmentAt s at
     → SegmentLies s at h start next
 unfolding segmentAt
 segment-lies s at h start next e =
@@ -63,9 +66,15 @@ segment-lies s at h start next e =
     subst (λ (x : Placed). SegmentLies s at (x .header) (x .start) (x .next)) (p .1) (lies-there s at (p .0))
 
 -- where all but N agree, N decides
-pub last-compared : (lead h : Header) → h .channel ≡ lead .channel → h .kind ≡ lead .kind → h .date ≡ lead .date → h .milliseconds ≡ lead .milliseconds
+pub last-compared : (lead h : Header) → h .channel ≡ lead .channel → h .kind ≡ lead .kind → h .date ≡ lead .date
+    → h .milliseconds ≡ lead .milliseconds
     → not (eqb (h .segments) (lead .segments)) ≡ someBroken (agreeChecks lead h)
 last-compared lead h a b c d =
-    simp
-    (eq-eqb (h .channel) (lead .channel) a, eq-eqb (h .kind) (lead .kind) b, eq-eqb (h .date) (lead .date) c, eq-eqb (h .milliseconds) (lead .milliseconds) d)
+    simp (
+      eq-eqb (h .channel) (lead .channel) a,
+      eq-eqb (h .kind) (lead .kind) b,
+      eq-eqb (h .date) (lead .date) c,
+      eq-eqb
+          (h .milliseconds) (lead .milliseconds) d,
+    )
     (sym (either-false _))

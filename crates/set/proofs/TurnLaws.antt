@@ -10,15 +10,15 @@ use lib.ListN.{length, getD, set, take, drop, length-set}
 use lib.Seq.{getD-set-same, getD-set-other}
 use borrow.Author.Tests.{eqb-true, eqb-false, ne-eqb}
 use Rattle.wire.specs.Checks.{pick, check, first, someBroken}
-use Rattle.wire.proofs.CheckLaws.{all-hold, all-hold-append}
-use Rattle.frame.specs.Session.{sessionLimit, bodyIn, after, frameChecks}
+use Rattle.wire.proofs.CheckLaws.{all-hold, first-append-none, first-append-some, first-same-some, first-none, by-eq}
+use Rattle.frame.specs.Session.{sessionLimit, bodyIn, after}
 use Rattle.header.specs.declared.Header.{Header}
-use Rattle.header.specs.Header.{mostSegments, headerChecks}
-use Rattle.set_spec.specs.Segment.{Segment, segmentIn, notData, ownChecks, agreeChecks, numbered, found, orNothing, headerNumbered, dataNumbered}
+use Rattle.header.specs.Header.{mostSegments}
+use Rattle.set_spec.specs.Segment.{Segment, segmentIn, ownChecks, agreeChecks, numbered, found, orNothing, headerNumbered, dataNumbered}
 use Rattle.set_spec.specs.Walk.{firstOr, seen, metChecks, turnChecks, count}
-use Rattle.set_spec.proofs.OrderLaws.{first-append-none, first-append-some, first-same-some, first-same-none}
 use Rattle.set_spec.proofs.FrameFacts.{HeaderFits, header-fits}
-use Rattle.set_spec.proofs.NumberedLaws.{by-eq, not-found, numbered-same, numbered-other, first-more}
+use Rattle.set_spec.proofs.PrefixLaws.{own-parts}
+use Rattle.set_spec.proofs.NumberedLaws.{not-found, numbered-same, numbered-other, first-more}
 use Rattle.set.specs.declared.Heads.{Heads}
 use Rattle.set.specs.Steps.{SegmentLies, Tells, GoesOn}
 
@@ -28,7 +28,8 @@ header o = orNothing o .header
 abbrev content : Option Segment → List ℕ
 content o = orNothing o .content
 
-disagree : (gs : List Segment) (h lead : Header) → firstOr gs h ≡ lead → someBroken (agreeChecks lead h) ≡ true → first (metChecks gs h) ≡ some 10
+disagree : (gs : List Segment) (h lead : Header) → firstOr gs h ≡ lead → someBroken (agreeChecks lead h) ≡ true
+    → first (metChecks gs h) ≡ some 10
 disagree gs h lead e b =
     first-append-some (agreeChecks (firstOr gs h) h) (check 11 (seen gs (h .number)) ∷ []) 10
     (ap (λ (x : Header). first (agreeChecks x h)) e ∙ first-same-some 10 (agreeChecks lead h) (refl, (refl, (refl, (refl, (refl, tt))))) b)
@@ -37,18 +38,17 @@ agreed : (gs : List Segment) (h lead : Header) → firstOr gs h ≡ lead → som
     → first (metChecks gs h) ≡ first (check 11 (seen gs (h .number)) ∷ [])
 agreed gs h lead e b =
     first-append-none (agreeChecks (firstOr gs h) h) (check 11 (seen gs (h .number)) ∷ [])
-    (ap (λ (x : Header). first (agreeChecks x h)) e ∙ first-same-none (agreeChecks lead h) b)
+    (ap (λ (x : Header). first (agreeChecks x h)) e ∙ first-none (agreeChecks lead h) b)
 
 -- a frame that its own checks refuse
-pub turn-refused : (s : List ℕ) (at : ℕ) (gs : List Segment) (n : ℕ) → first (ownChecks (drop at s)) ≡ some n → first (turnChecks gs (drop at s)) ≡ some n
+pub turn-refused : (s : List ℕ) (at : ℕ) (gs : List Segment) (n : ℕ) → first (ownChecks (drop at s)) ≡ some n
+    → first (turnChecks gs (drop at s)) ≡ some n
 turn-refused s at gs n e = first-append-some (ownChecks (drop at s)) (metChecks gs (segmentIn (drop at s) .header)) n e
 
-module _ (s : List ℕ) (at : ℕ) (h : Header) (start next : ℕ) (read : SegmentLies s at h start next) where
+module _ {s : List ℕ} {at : ℕ} {h : Header} {start next : ℕ} (read : SegmentLies s at h start next) where
   -- the header's own rules
   fits : HeaderFits (bodyIn (drop at s))
-  fits =
-      let a = all-hold (ownChecks (drop at s)) (read .passes) in
-      header-fits (bodyIn (drop at s)) (all-hold-append (frameChecks (drop at s)) (check 9 (notData (drop at s)) ∷ headerChecks (bodyIn (drop at s))) a .1 .1)
+  fits = header-fits (bodyIn (drop at s)) (own-parts (drop at s) (all-hold (ownChecks (drop at s)) (read .passes)) .2)
 
   pub number-low : 1 ≤ h .number
   number-low = subst (λ (x : Header). 1 ≤ x .number) (read .header) (fits .low)
@@ -69,8 +69,8 @@ module _ (s : List ℕ) (at : ℕ) (h : Header) (start next : ℕ) (read : Segme
       first-append-none (ownChecks (drop at s)) (metChecks gs (segmentIn (drop at s) .header)) (read .passes)
       ∙ ap (λ (x : Header). first (metChecks gs x)) (read .header)
 
-  module _ (heads : Heads) (flags : List Bool) (starts ends : List ℕ) (gs : List Segment) (t : Tells s at heads flags starts ends gs) (lead : Header)
-      (is : lead ≡ pick (eqb at 0) h (heads .first)) where
+  module _ {heads : Heads} {flags : List Bool} {starts ends : List ℕ} {gs : List Segment} (t : Tells s at heads flags starts ends gs)
+      {lead : Header} (is : lead ≡ pick (eqb at 0) h (heads .first)) where
     leads : firstOr gs h ≡ lead
     leads = t .first h ∙ sym is
 
@@ -80,14 +80,16 @@ module _ (s : List ℕ) (at : ℕ) (h : Header) (start next : ℕ) (read : Segme
     pub turn-disagrees : someBroken (agreeChecks lead h) ≡ true → first (turnChecks gs (drop at s)) ≡ some 10
     turn-disagrees b = own gs ∙ disagree gs h lead leads b
 
-    pub turn-seen : someBroken (agreeChecks lead h) ≡ false → getD flags (h .number - 1) false ≡ true → first (turnChecks gs (drop at s)) ≡ some 11
+    pub turn-seen : someBroken (agreeChecks lead h) ≡ false → getD flags (h .number - 1) false ≡ true
+        → first (turnChecks gs (drop at s)) ≡ some 11
     turn-seen b e = let q : seen gs (h .number) ≡ true = sym flagged ∙ e in own gs ∙ agreed gs h lead leads b ∙ simp q
 
-    turn-passes : someBroken (agreeChecks lead h) ≡ false → getD flags (h .number - 1) false ≡ false → first (turnChecks gs (drop at s)) ≡ none
+    turn-passes : someBroken (agreeChecks lead h) ≡ false → getD flags (h .number - 1) false ≡ false
+        → first (turnChecks gs (drop at s)) ≡ none
     turn-passes b e = let q : seen gs (h .number) ≡ false = sym flagged ∙ e in own gs ∙ agreed gs h lead leads b ∙ simp q
 
     -- the arrays with this segment in them
-    module _ (new : getD flags (h .number - 1) false ≡ false) (one : Header) (has : one ≡ pick (eqb (h .number) 1) h (heads .one)) where
+    module _ (new : getD flags (h .number - 1) false ≡ false) {one : Header} (has : one ≡ pick (eqb (h .number) 1) h (heads .one)) where
       abbrev pub k : ℕ
       k = h .number - 1
 
@@ -112,9 +114,15 @@ module _ (s : List ℕ) (at : ℕ) (h : Header) (start next : ℕ) (read : Segme
           let x : k < length starts = omega (arith, number-high, t .starts-long) in
           let y : k < length ends = omega (arith, number-high, t .ends-long) in
           by-eq j k
-          (λ e. subst (λ (i : ℕ). P i (getD (set flags k true) i false) (getD (set starts k start) i 0) (getD (set ends k next) i 0)) (sym e)
+          (λ e. subst (λ (i : ℕ). P i (getD (set flags k true) i false) (getD (set starts k start) i 0)
+          (getD (set ends k next) i 0)) (sym e)
           (rw (getD-set-same flags k true false f, getD-set-same starts k start 0 x, getD-set-same ends k next 0 y) here))
-          (λ ne. rw (getD-set-other flags k j true false ne, getD-set-other starts k j start 0 ne, getD-set-other ends k j next 0 ne) (there j low ne))
+          (λ ne. rw (
+            getD-set-other flags k j true false ne,
+            getD-set-other starts k j start 0 ne,
+            getD-set-other ends k j next 0
+                ne,
+          ) (there j low ne))
 
       is-first : (x : Header) → firstOr (gs ++ (g ∷ [])) x ≡ lead
       is-first x = first-more gs g x ∙ ap (λ (y : Header). firstOr gs y) (read .header) ∙ leads
@@ -128,13 +136,15 @@ module _ (s : List ℕ) (at : ℕ) (h : Header) (start next : ℕ) (read : Segme
           back′ : g .header .number ≡ 1 → h .number ≡ 1
           back′ q = sym (ap (λ (x : Header). x .number) (read .header)) ∙ q
 
-      pub tells-put : Tells s next (record { first = lead; one = one }) (set flags k true) (set starts k start) (set ends k next) (gs ++ (g ∷ []))
+      pub tells-put : Tells s next (record { first = lead; one = one }) (set flags k true) (set starts k start) (set ends k next)
+          (gs ++ (g ∷ []))
       tells-put = record {
         flags-long = length-set flags k true ∙ t .flags-long;
         starts-long = length-set starts k start ∙ t .starts-long;
         ends-long = length-set ends k next ∙ t .ends-long;
         flag =
-            at-place (λ j b x y. b ≡ found (numbered (gs ++ (g ∷ [])) (suc j))) (sym (ap found is-here)) (λ j low ne. t .flag j low ∙ sym (ap found (is-there j ne)));
+            at-place (λ j b x y. b ≡ found (numbered (gs ++ (g ∷ [])) (suc j))) (sym (ap found is-here))
+            (λ j low ne. t .flag j low ∙ sym (ap found (is-there j ne)));
         part =
             at-place (λ j b x y. take (y - x) (drop x s) ≡ dataNumbered (gs ++ (g ∷ [])) (suc j))
             (read .content ∙ sym (ap content is-here))
@@ -155,4 +165,9 @@ module _ (s : List ℕ) (at : ℕ) (h : Header) (start next : ℕ) (read : Segme
 
       pub turn-on : someBroken (agreeChecks lead h) ≡ false
           → GoesOn s at (record { first = lead; one = one }) next (set flags k true) (set starts k start) (set ends k next) gs
-      turn-on b = record { passes = turn-passes b new; tells = tells-put; rest = read .rest; forward = omega (arith, read .forward, read .order) }
+      turn-on b = record {
+        passes = turn-passes b new;
+        tells = tells-put;
+        rest = read .rest;
+        forward = omega (arith, read .forward, read .order);
+      }

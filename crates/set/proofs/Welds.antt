@@ -1,5 +1,5 @@
--- What the contract of each public function says of a call, as Rattle reads it from src/ (`Learnt`): its promise, and that no two results of one call
--- meet it. Assumes nothing.
+-- What the contract of each public function says of a call, as Rattle reads it from src/ (`Learnt`): its promise, and that no two results
+-- of one call meet it. Assumes nothing.
 use denote.Ref.{now}
 use mathlib.Core.Path.{_≡_}
 use Rattle.wire.proofs.AnswerLaws.{only}
@@ -25,4 +25,5 @@ read-set-says κs frames out r frames′ out′ l = l
 
 pub read-set-one : (κs frames out r r₂ frames′ out′ frames″ out″ : _) → read-set.Learnt κs (frames, (out, tt)) r (frames′, (out′, tt))
     → read-set.Learnt κs (frames, (out, tt)) r₂ (frames″, (out″, tt)) → (r ≡ r₂) × (now out′ ≡ now out″)
-read-set-one κs frames out r r₂ frames′ out′ frames″ out″ l l₂ = only tellSet set-apart (setOf (now frames) (now out)) r r₂ (now out′) (now out″) l l₂
+read-set-one κs frames out r r₂ frames′ out′ frames″ out″ l l₂ = only tellSet set-apart (setOf (now frames) (now out)) r r₂
+    (now out′) (now out″) l l₂

@@ -19,7 +19,7 @@ use Rattle.set.specs.declared.Turn.the-variants.{Next, Refused as Stoppe
 use Rattle.set.specs.declared.Gathered.{Gathered}
 use Rattle.set.specs.declared.Gathered.the-variants.{Ended, Refused as Broken}
 
--- a segment at a place of the buffer: its frame passes its own checks, its data stands from `start` to the frame's end, `next`
+-- a segment at a place: its frame passes its own checks, and its data stands from `start` to the frame's end, `next`
 pub record SegmentLies (s : List ℕ) (at : ℕ) (h : Header) (start next : ℕ) : Type 0 where
   pub passes : first (ownChecks (drop at s)) ≡ none
   pub header : segmentIn (drop at s) .header ≡ h
@@ -30,7 +30,7 @@ pub record SegmentLies (s : List ℕ) (at : ℕ) (h : Header) (start next : ℕ)
   pub within : next ≤ length s
   pub small : next ≤ start + sessionLimit .0
 
--- the arrays tell of the segments met: segment k + 1 at place k
+-- the arrays describe the segments met: segment k + 1 is at index k
 pub record Tells (s : List ℕ) (at : ℕ) (heads : Heads) (flags : List Bool) (starts ends : List ℕ) (gs : List Segment) : Type 0 where
   pub flags-long : length flags ≡ mostSegments
   pub starts-long : length starts ≡ mostSegments
@@ -46,8 +46,9 @@ pub record Tells (s : List ℕ) (at : ℕ) (heads : Heads) (flags : List Bool) (
   pub most : heads .first .segments ≤ mostSegments
   pub place : at ≤ length s
 
--- what one frame's turn leaves, where gs were met before it
-pub record GoesOn (s : List ℕ) (at : ℕ) (heads : Heads) (next : ℕ) (flags : List Bool) (starts ends : List ℕ) (gs : List Segment) : Type 0 where
+-- the state after one frame's turn, where gs were met before it
+pub record GoesOn (s : List ℕ) (at : ℕ) (heads : Heads) (next : ℕ) (flags : List Bool) (starts ends : List ℕ)
+    (gs : List Segment) : Type 0 where
   pub passes : first (turnChecks gs (drop at s)) ≡ none
   pub tells : Tells s next heads flags starts ends (gs ++ (segmentIn (drop at s) ∷ []))
   pub rest : drop next s ≡ after (drop at s)
@@ -57,26 +58,27 @@ abbrev pub Turned : List ℕ → ℕ → List Bool → List ℕ → List ℕ →
 Turned s at flags starts ends gs (Stopped n) = first (turnChecks gs (drop at s)) ≡ some n
 Turned s at flags starts ends gs (Next heads next) = GoesOn s at heads next flags starts ends gs
 
--- the turn, whatever was met before it
-pub record TurnTaken (s : List ℕ) (at : ℕ) (heads : Heads) (flags : List Bool) (starts ends : List ℕ) (flags′ : List Bool) (starts′ ends′ : List ℕ) (r : Turn)
+-- the turn, for any segments met before it
+pub record TurnTaken (s : List ℕ) (at : ℕ) (heads : Heads) (flags : List Bool) (starts ends : List ℕ) (flags′ : List Bool)
+    (starts′ ends′ : List ℕ) (r : Turn)
     : Type 0 where
   pub turned : (gs : List Segment) → Tells s at heads flags starts ends gs → Turned s at flags′ starts′ ends′ gs r
 
--- "all false at first": nothing was met
+-- "all false at first": no segment was met
 pub record Blank (flags : List Bool) (starts ends : List ℕ) : Type 0 where
   pub flags-blank : flags ≡ replicate mostSegments false
   pub starts-blank : starts ≡ replicate mostSegments 0
   pub ends-blank : ends ≡ replicate mostSegments 0
 
--- what the first pass leaves
+-- the state after the first pass
 pub record Met (s : List ℕ) (heads : Heads) (flags : List Bool) (starts ends : List ℕ) : Type 0 where
   pub gs : List Segment
   pub at : ℕ
-  pub walked : walk (length s) [] s ≡ given gs
+  pub walked : walk [] s ≡ given gs
   pub tells : Tells s at heads flags starts ends gs
 
 abbrev pub GatheredBy : List ℕ → List Bool → List ℕ → List ℕ → Gathered → Type 0
-GatheredBy s flags starts ends (Broken n) = walk (length s) [] s ≡ refused n
+GatheredBy s flags starts ends (Broken n) = walk [] s ≡ refused n
 GatheredBy s flags starts ends (Ended heads) = Met s heads flags starts ends
 
 pub record Gathers (s : List ℕ) (flags : List Bool) (starts ends : List ℕ) (r : Gathered) : Type 0 where
@@ -89,7 +91,7 @@ Parts starts ends = (k : ℕ) → k < mostSegments → (getD starts k 0 ≤ getD
 abbrev pub Within : List ℕ → List ℕ → Type 0
 Within s ends = (k : ℕ) → k < mostSegments → getD ends k 0 ≤ length s
 
--- of the arrays alone: the first n flags are all set, the length of the first n parts, and these joined
+-- from the arrays alone: whether the first n flags are set, the length of the first n parts, and these parts joined
 unfoldable pub allSet : List Bool → ℕ → Bool
 allSet flags zero = true
 allSet flags (suc n) = both (allSet flags n) (getD flags n false)
@@ -101,3 +103,10 @@ partsLong starts ends (suc n) = partsLong starts ends n + (getD ends n 0 - getD 
 unfoldable pub parts : List ℕ → List ℕ → List ℕ → ℕ → List ℕ
 parts s starts ends zero = []
 parts s starts ends (suc n) = parts s starts ends n ++ take (getD ends n 0 - getD starts n 0) (drop (getD starts n 0) s)
+
+-- the first n parts lie in the buffer and have room in an output
+pub record Joinable (s starts ends : List ℕ) (n : ℕ) (out : List ℕ) : Type 0 where
+  pub most : n ≤ mostSegments
+  pub lie : Parts starts ends
+  pub within : Within s ends
+  pub room : partsLong starts ends n ≤ length out

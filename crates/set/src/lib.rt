@@ -1,5 +1,5 @@
-// A buffer of frames, in any order, joined into a lent output. Two passes: the first walks the frames and remembers where each segment's
-// data lies, the second copies. Nothing is written before 12 and 13 are known.
+// Joins a buffer of frames, in any order, into a lent output. The first pass walks the frames and notes where each segment's
+// data lies, the second copies. Nothing is written until 12 and 13 are checked.
 ghost use mathlib.Core.Path.{_≡_};
 ghost use Prim.Native.Nat.{_*_, _≤_};
 ghost use lib.Dec.{eqb};
@@ -12,7 +12,7 @@ ghost use Rattle.header.specs.Header.{mostSegments};
 ghost use Rattle.set_spec.specs.Segment.{agreeChecks};
 ghost use Rattle.set_spec.specs.Walk.{setOf};
 ghost use Rattle.set.specs.Told.{tellSet};
-ghost use Rattle.set.specs.Steps.{TurnTaken, Blank, Gathers, Parts, Within, allSet, partsLong, parts};
+ghost use Rattle.set.specs.Steps.{TurnTaken, Blank, Gathers, Parts, Joinable, allSet, partsLong, parts};
 use header::Header;
 use set_segment::SegmentAnswer;
 use wire::Bytes;
@@ -61,7 +61,7 @@ fn disagrees(first: Header, h: Header) -> bool
     h.segments != first.segments
 }
 
-// The first frame's header: this one, if it stands at the buffer's start.
+// The first frame's header: `h` if this frame stands at the buffer's start.
 fn first_of(at: usize, first: Header, h: Header) -> Header
     ensures { λ r. ⌜ r ≡ pick (eqb at 0) h first ⌝ }
 {
@@ -71,7 +71,7 @@ fn first_of(at: usize, first: Header, h: Header) -> Header
     first
 }
 
-// Segment 1's header: this one, if it has the number 1.
+// Segment 1's header: `h` if its number is 1.
 fn one_of(one: Header, h: Header) -> Header
     ensures { λ r. ⌜ r ≡ pick (eqb (h .number) 1) h one ⌝ }
 {
@@ -81,7 +81,7 @@ fn one_of(one: Header, h: Header) -> Header
     one
 }
 
-// One frame's turn: it is refused, or its number is set as seen and the place of its data remembered.
+// Handles one frame: it is refused, or its number is marked as seen and the place of its data is noted.
 fn take_turn(
     frames: &[u8],
     at: usize,
@@ -156,7 +156,7 @@ fn all_seen(flags: &[bool; MOST_SEGMENTS], n: usize) -> bool
     true
 }
 
-// The length of the first n segments' data joined.
+// The total length of the data of segments 1 to n.
 fn joined_length(starts: &[usize; MOST_SEGMENTS], ends: &[usize; MOST_SEGMENTS], n: usize) -> usize
     requires { ⌜ (n ≤ mostSegments) × Parts (now starts) (now ends) ⌝ }
     ensures { λ r. ⌜ (r ≡ partsLong (now (starts .entry)) (now (ends .entry)) n) × (r ≤ n * sessionLimit .0) ⌝ }
@@ -178,7 +178,7 @@ fn join(
     n: usize,
     out: &mut [u8],
 )
-    requires { ⌜ (n ≤ mostSegments) × Parts (now starts) (now ends) × Within (now frames) (now ends) × (partsLong (now starts) (now ends) n ≤ length (now out)) ⌝ }
+    requires { ⌜ Joinable (now frames) (now starts) (now ends) n (now out) ⌝ }
     ensures { λ r. ⌜ now (out .exit) ≡ filled (parts (now (frames .entry)) (now (starts .entry)) (now (ends .entry)) n) (now (out .entry)) ⌝ }
 {
     let mut place = 0;

@@ -20,16 +20,16 @@ pub told-refused : (s : List ℕ) (at n : ℕ) → first (ownChecks (drop at s))
 unfolding segmentAt
 told-refused s at n e = sym (decide-some (ownChecks (drop at s)) refused (given (placedIn (drop at s) at)) n e)
 
-module _ (s : List ℕ) (at : ℕ) (f : Frame) (l : FrameLies s at f) (k : f .kind ≡ dataKind) where
-  pub header-broken : (n : ℕ) → headerOf (take (f .next - f .start) (drop (f .start) s)) ≡ refused n → refused n ≡ segmentAt s at
-  header-broken n e =
+module _ {s : List ℕ} {at : ℕ} {f : Frame} (l : FrameLies s at f) (k : f .kind ≡ dataKind) where
+  pub header-broken : {n : ℕ} → headerOf (take (f .next - f .start) (drop (f .start) s)) ≡ refused n → refused n ≡ segmentAt s at
+  header-broken {n} e =
       told-refused s at n
       (own-header (drop at s) (l .passes) (sym (l .kind) ∙ k) ∙ header-refused (bodyIn (drop at s)) n (ap headerOf (sym (l .body)) ∙ e))
 
-  pub told-read : (h : Header) → headerOf (take (f .next - f .start) (drop (f .start) s)) ≡ given h
+  pub told-read : {h : Header} → headerOf (take (f .next - f .start) (drop (f .start) s)) ≡ given h
       → given (record { header = h; start = f .start + headerSize; next = f .next }) ≡ segmentAt s at
   unfolding segmentAt
-  told-read h e =
+  told-read {h} e =
       let p = header-given (bodyIn (drop at s)) h (ap headerOf (sym (l .body)) ∙ e) in
       let passes : first (ownChecks (drop at s)) ≡ none = own-header (drop at s) (l .passes) (sym (l .kind) ∙ k) ∙ p .0 in
       let begins : f .start + headerSize ≡ at + (headSize + headerSize) = omega (arith, l .start) in

@@ -15,7 +15,7 @@ pub enum SegmentAnswer {
     Refused(u8),
 }
 
-// The segment at a place of the buffer. Where the buffer ends, a frame is cut off.
+// The segment at a place of the buffer. At the end of the buffer this is refused as a frame that is cut off.
 pub fn segment_at(frames: &[u8], at: usize) -> SegmentAnswer
     ensures { λ r. ⌜ tellSegment r ≡ segmentAt (now (frames .entry)) at ⌝ }
 {

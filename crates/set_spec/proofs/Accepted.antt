@@ -4,7 +4,6 @@ use mathlib.Core.Path.{_≡_, refl, sym, ap, subst, _∙_}
 use mathlib.Core.Bool.{true, not}
 use mathlib.Core.Option.{Option, none, some}
 use mathlib.Core.List.{List, [], map, flatten, List·Memᴰ}
-use native.Mathlib.Omega.{arith}
 use lib.ListN.{length, take, drop}
 use lib.Seq.{take-at}
 use borrow.Author.Tests.{ltb-false, le-ltb, not-false}
@@ -19,7 +18,7 @@ use Rattle.set_spec.specs.Segment.{Segment, segmentIn, numbered, found, 
 use Rattle.set_spec.specs.Walk.{seen, count, allSeen, joined, bodyOf, endChecks, SetSays, finish, walk, setOf}
 use Rattle.set_spec.specs.Whole.{headerFrom, Agree, Orderly, Joined, Whole}
 use Rattle.set_spec.specs.Theorems.{accepted, AcceptedExactlyIfWhole}
-use Rattle.set_spec.proofs.FrameLists.{cut, Ended, ended, walked}
+use Rattle.set_spec.proofs.FrameLists.{cut, Ended, ended, all-walked}
 use Rattle.set_spec.proofs.OrderFree.{agree-both, leader, all-agree, distinct, all-met, found-in, is-found, joined-from, joined-to, count-is}
 
 -- what is said of the segments met
@@ -29,7 +28,7 @@ says gs = record { header = headerNumbered gs 1; long = bytes (length (bodyOf gs
 -- ---- what an accepting outcome says of the walk
 pub record Accepting (frames out : List ℕ) (h : Header) (body : List ℕ) : Type 0 where
   pub gs : List Segment
-  pub walked : walk (length frames) [] frames ≡ given gs
+  pub walked : walk [] frames ≡ given gs
   pub ends : AllHold (endChecks gs (length out))
   pub header : headerNumbered gs 1 ≡ h
   pub contents : bodyOf gs ≡ body
@@ -37,13 +36,14 @@ pub record Accepting (frames out : List ℕ) (h : Header) (body : List ℕ) : Ty
 -- two bodies of one length at the start of one output
 same-body : (a b out : List ℕ) → length a ≡ length b → filled a out ≡ filled b out → a ≡ b
 same-body a b out l e =
-    sym (take-at a (drop (length a) out) (length b) l) ∙ ap (λ (x : List ℕ). take (length b) x) e ∙ take-at b (drop (length b) out) (length b) refl
+    sym (take-at a (drop (length a) out) (length b) l) ∙ ap (λ (x : List ℕ). take (length b) x) e
+    ∙ take-at b (drop (length b) out) (length b) refl
 
 pub accepting : (frames out : List ℕ) (h : Header) (body : List ℕ) → setOf frames out ≡ accepted h body out → Accepting frames out h body
 unfolding setOf
-accepting frames out h body e = go (walk (length frames) [] frames) refl e
+accepting frames out h body e = go (walk [] frames) refl e
   where
-    go : (a : Answer (List Segment)) → walk (length frames) [] frames ≡ a → finish a out ≡ accepted h body out → Accepting frames out h body
+    go : (a : Answer (List Segment)) → walk [] frames ≡ a → finish a out ≡ accepted h body out → Accepting frames out h body
     go (refused n) w q = never (cc (ap (λ (o : Outcome (List ℕ) SetSays). o .answer) q))
     go (given gs) w q =
         let p =
@@ -74,9 +74,9 @@ pub record Answering (frames out : List ℕ) (s : SetSays) : Type 0 where
 
 pub answering : (frames out : List ℕ) (s : SetSays) → setOf frames out .answer ≡ given s → Answering frames out s
 unfolding setOf
-answering frames out s e = go (walk (length frames) [] frames) refl e
+answering frames out s e = go (walk [] frames) refl e
   where
-    go : (a : Answer (List Segment)) → walk (length frames) [] frames ≡ a → finish a out .answer ≡ given s → Answering frames out s
+    go : (a : Answer (List Segment)) → walk [] frames ≡ a → finish a out .answer ≡ given s → Answering frames out s
     go (refused n) w q = never (cc q)
     go (given gs) w q =
         let p = outcome-given (endChecks gs (length out)) out (says gs) (filled (bodyOf gs) out) s q in
@@ -94,17 +94,20 @@ is-some : (o : Option Segment) → found o ≡ true → (g : Segment) × (o ≡ 
 is-some none e = never (cc e)
 is-some (some g) e = (g, refl)
 
-whole-of : (each : List (List ℕ)) (out : List ℕ) → Ended [] (map segmentIn each) each → AllHold (endChecks (map segmentIn each) (length out))
+whole-of : (each : List (List ℕ)) (out : List ℕ) → Ended [] (map segmentIn each) each
+    → AllHold (endChecks (map segmentIn each) (length out))
     → Whole (flatten each) (headerNumbered (map segmentIn each) 1) (bodyOf (map segmentIn each))
 whole-of each out w a =
     let gs = map segmentIn each in
     let g = is-some (numbered gs 1) (not-false (seen gs 1) (a .0)) in
     let f = found-in each 1 (g .0) (g .1) in
     let h = headerNumbered gs 1 in
-    let is : headerFrom (f .frame) ≡ h = ap (λ (x : Segment). x .header) (f .segment) ∙ sym (ap (λ (o : Option Segment). orNothing o .header) (g .1)) in
+    let is : headerFrom (f .frame) ≡ h = ap (λ (x : Segment). x .header) (f .segment)
+    ∙ sym (ap (λ (o : Option Segment). orNothing o .header) (g .1)) in
     let agree : (x : List ℕ) → List·Memᴰ x each → Agree (headerFrom x) h =
     λ x m. subst (λ (y : Header). Agree (headerFrom x) y) is
-    (agree-both (headerFrom x) (headerFrom (f .frame)) (leader each) (all-agree each (w .met) x m) (all-agree each (w .met) (f .frame) (f .there)))
+    (agree-both (headerFrom x) (headerFrom (f .frame)) (leader each) (all-agree each (w .met) x m)
+    (all-agree each (w .met) (f .frame) (f .there)))
     in
     record {
       each = each;
@@ -118,14 +121,13 @@ whole-of each out w a =
           (joined-from each (count gs) (not-false (allSeen gs (count gs)) (a .1 .0)));
     }
 
-sound : (frames out : List ℕ) (h : Header) (body : List ℕ) → setOf frames out ≡ accepted h body out → Whole frames h body × (length body ≤ length out)
+sound : (frames out : List ℕ) (h : Header) (body : List ℕ) → setOf frames out ≡ accepted h body out
+    → Whole frames h body × (length body ≤ length out)
 sound frames out h body e =
     let a = accepting frames out h body e in
-    let c = cut (length frames) [] (a .gs) frames (omega arith) (a .walked) in
+    let c = cut [] (a .gs) frames (a .walked) in
     let w : Ended [] (a .gs) (c .each) =
-    ended (c .each) (length frames) [] (a .gs) (c .whole) (rw (c .buffer) (omega arith))
-    (ap (λ (x : List ℕ). walk (length frames) [] x) (c .buffer) ∙ a .walked)
-    in
+    ended (c .each) [] (a .gs) (c .whole) (ap (λ (x : List ℕ). walk [] x) (c .buffer) ∙ a .walked) in
     let gs : a .gs ≡ map segmentIn (c .each) = w .grown in
     let o = whole-of (c .each) out (subst (λ (x : List Segment). Ended [] x (c .each)) gs w)
     (subst (λ (x : List Segment). AllHold (endChecks x (length out))) gs (a .ends))
@@ -133,17 +135,19 @@ sound frames out h body e =
     let room : length (bodyOf (a .gs)) ≤ length out = ltb-false (length out) (length (bodyOf (a .gs))) (a .ends .1 .1 .0) in (
       subst (λ (x : List ℕ). Whole x h body) (c .buffer)
           (subst (λ (x : Header). Whole (flatten (c .each)) x body) (ap (λ (x : List Segment). headerNumbered x 1) (sym gs) ∙ a .header)
-          (subst (λ (x : List ℕ). Whole (flatten (c .each)) (headerNumbered (map segmentIn (c .each)) 1) x) (ap bodyOf (sym gs) ∙ a .contents) o)),
+          (subst (λ (x : List ℕ). Whole (flatten (c .each)) (headerNumbered (map segmentIn (c .each)) 1) x) (ap bodyOf (sym gs)
+          ∙ a .contents) o)),
       subst (λ (x : List ℕ). length x ≤ length out) (a .contents) room,
     )
 
 -- ---- whole, so accepted
-pub orderly-walked : (frames : List ℕ) (h : Header) (each : List (List ℕ)) → Orderly frames h each → walk (length frames) [] frames ≡ given (map segmentIn each)
+pub orderly-walked : (frames : List ℕ) (h : Header) (each : List (List ℕ)) → Orderly frames h each
+    → walk [] frames ≡ given (map segmentIn each)
 orderly-walked frames h each o =
-    let w = walked each (length frames) [] (o .pass) (rw (o .buffer) (omega arith)) (all-met each h (o .agree) (o .once)) in
-    ap (λ (x : List ℕ). walk (length frames) [] x) (sym (o .buffer)) ∙ w
+    ap (λ (x : List ℕ). walk [] x) (sym (o .buffer)) ∙ all-walked each [] (o .pass) (all-met each h (o .agree) (o .once))
 
-complete : (frames out : List ℕ) (h : Header) (body : List ℕ) → Whole frames h body × (length body ≤ length out) → setOf frames out ≡ accepted h body out
+complete : (frames out : List ℕ) (h : Header) (body : List ℕ) → Whole frames h body × (length body ≤ length out)
+    → setOf frames out ≡ accepted h body out
 unfolding setOf
 complete frames out h body (w, room) =
     let o = w .orderly in

@@ -4,20 +4,21 @@ use mathlib.Core.Path.{_≡_, refl, sym, ap, subst, _∙_}
 use mathlib.Core.Logic.{_⊎_, ⊎-elim}
 use mathlib.Core.Bool.{Bool, true, false}
 use mathlib.Core.Option.{Option, none, some}
-use mathlib.Core.List.{List, [], _∷_, _++_, map, flatten, List·Memᴰ, List·Memᴰ·head, List·Memᴰ·tail, List·Memᴰ·cases-cons, List·Memᴰ·not-nil, List·Permᴰ, List·Permᴰ·nil, List·Permᴰ·cons, List·Permᴰ·swap, List·Permᴰ·trans, Permᴰ·symm, Memᴰ·cast}
+use mathlib.Core.List.{List, [], _∷_, _++_, map, flatten, List·Memᴰ, List·Memᴰ·head, List·Memᴰ·tail, List·Memᴰ·cases-cons, List·Memᴰ·not-nil, List·Permᴰ, List·Permᴰ·nil, List·Permᴰ·cons, List·Permᴰ·swap, List·Permᴰ·trans, Permᴰ·symm, Permᴰ·map, Memᴰ·cast}
 use native.Mathlib.Omega.{arith}
-use lib.Dec.{eqb, ltb}
+use lib.Dec.{ltb}
 use lib.ListN.{length}
 use borrow.Author.Tests.{ltb-true}
-use Rattle.wire.specs.Checks.{pick, both, Check, first, decide, AllHold}
+use Rattle.wire.specs.Checks.{pick, both, Check, first, AllHold}
 use Rattle.wire.specs.Answers.{Answer, refused, given, rule}
 use Rattle.wire.specs.Sizes.{bytes}
 use Rattle.wire.specs.Writing.{filled}
-use Rattle.wire.proofs.CheckLaws.{never, decide-none, decide-some}
-use Rattle.frame.specs.Session.{after}
+use Rattle.wire.proofs.CheckLaws.{never}
+use Rattle.frame.proofs.WalkLaws.{walk-refused}
+use Rattle.frame.proofs.FrontLaws.{frames-take}
 use Rattle.header.specs.declared.Header.{Header}
-use Rattle.set_spec.specs.Segment.{Segment, segmentIn, numbered, orNothing, headerNumbered, dataNumbered}
-use Rattle.set_spec.specs.Walk.{turnChecks, walk, count, allSeen, joined, bodyOf, endChecks, SetSays, finish, setOf}
+use Rattle.set_spec.specs.Segment.{Segment, segmentIn, numbered, orNothing, headerNumbered}
+use Rattle.set_spec.specs.Walk.{turnChecks, eachFrame, walk, count, allSeen, joined, bodyOf, endChecks, finish, setOf}
 use Rattle.set_spec.specs.Whole.{headerFrom, numberFrom, Agree, Distinct, Orderly}
 use Rattle.set_spec.specs.Theorems.{accepted, WholeFrames, AnyOrder}
 use Rattle.set_spec.proofs.FrameLists.{Ended, ended}
@@ -35,12 +36,6 @@ perm-mem (List·Permᴰ·swap e₁ e₂) x m =
     (List·Memᴰ·cases-cons m)
 perm-mem (List·Permᴰ·trans d₁ d₂) x m = perm-mem d₂ x (perm-mem d₁ x m)
 
-perm-map : {A B : Type 0} (f : A → B) {l l′ : List A} → List·Permᴰ l l′ → List·Permᴰ (map f l) (map f l′)
-perm-map f List·Permᴰ·nil = List·Permᴰ·nil
-perm-map f (List·Permᴰ·cons e d) = List·Permᴰ·cons (ap f e) (perm-map f d)
-perm-map f (List·Permᴰ·swap e₁ e₂) = List·Permᴰ·swap (ap f e₁) (ap f e₂)
-perm-map f (List·Permᴰ·trans d₁ d₂) = List·Permᴰ·trans (perm-map f d₁) (perm-map f d₂)
-
 perm-distinct : {l l′ : List ℕ} → List·Permᴰ l l′ → Distinct l → Distinct l′
 perm-distinct List·Permᴰ·nil d = d
 perm-distinct (List·Permᴰ·cons {b = b} e p) d = ((λ m. d .0 (Memᴰ·cast e (perm-mem (Permᴰ·symm p) b m))), perm-distinct p (d .1))
@@ -51,59 +46,55 @@ perm-distinct (List·Permᴰ·swap e₁ e₂) d = (
 perm-distinct (List·Permᴰ·trans p₁ p₂) d = perm-distinct p₂ (perm-distinct p₁ d)
 
 -- ---- the segment with a number is the same
-module _ (each each′ : List (List ℕ)) (p : List·Permᴰ each each′) (once : Distinct (map numberFrom each)) where
-  once′ : Distinct (map numberFrom each′)
-  once′ = perm-distinct (perm-map numberFrom p) once
+numbered-moves : {each each′ : List (List ℕ)} → List·Permᴰ each each′ → Distinct (map numberFrom each′) → (k : ℕ) (g : Segment)
+    → numbered (map segmentIn each) k ≡ some g → numbered (map segmentIn each′) k ≡ some g
+numbered-moves {each} {each′} p once k g e =
+    let f = found-in each k g e in
+    ap (λ (i : ℕ). numbered (map segmentIn each′) i) (sym (f .number))
+    ∙ is-found each′ (f .frame) (perm-mem p (f .frame) (f .there)) once ∙ ap some (f .segment)
 
-  same-numbered : (k : ℕ) → numbered (map segmentIn each) k ≡ numbered (map segmentIn each′) k
-  same-numbered k = go (numbered (map segmentIn each) k) (numbered (map segmentIn each′) k) refl refl
-    where
-      here : (g : Segment) → numbered (map segmentIn each) k ≡ some g → numbered (map segmentIn each′) k ≡ some g
-      here g e =
-          let f = found-in each k g e in
-          ap (λ (i : ℕ). numbered (map segmentIn each′) i) (sym (f .number)) ∙ is-found each′ (f .frame) (perm-mem p (f .frame) (f .there)) once′ ∙ ap some (f .segment)
-
-      there : (g : Segment) → numbered (map segmentIn each′) k ≡ some g → numbered (map segmentIn each) k ≡ some g
-      there g e =
-          let f = found-in each′ k g e in
-          ap (λ (i : ℕ). numbered (map segmentIn each) i) (sym (f .number))
-          ∙ is-found each (f .frame) (perm-mem (Permᴰ·symm p) (f .frame) (f .there)) once
-          ∙ ap some (f .segment)
-
-      go : (o o′ : Option Segment) → numbered (map segmentIn each) k ≡ o → numbered (map segmentIn each′) k ≡ o′
-          → numbered (map segmentIn each) k ≡ numbered (map segmentIn each′) k
-      go none none e e′ = e ∙ sym e′
-      go none (some g) e e′ = there g e′ ∙ sym e′
-      go (some g) o′ e e′ = e ∙ sym (here g e)
+same-numbered : (each each′ : List (List ℕ)) → List·Permᴰ each each′ → Distinct (map numberFrom each) → (k : ℕ)
+    → numbered (map segmentIn each) k ≡ numbered (map segmentIn each′) k
+same-numbered each each′ p once k = go (numbered (map segmentIn each) k) (numbered (map segmentIn each′) k) refl refl
+  where
+    go : (o o′ : Option Segment) → numbered (map segmentIn each) k ≡ o → numbered (map segmentIn each′) k ≡ o′
+        → numbered (map segmentIn each) k ≡ numbered (map segmentIn each′) k
+    go none none e e′ = e ∙ sym e′
+    go none (some g) e e′ = numbered-moves (Permᴰ·symm p) once k g e′ ∙ sym e′
+    go (some g) o′ e e′ = e ∙ sym (numbered-moves p (perm-distinct (Permᴰ·map numberFrom p) once) k g e)
 
 -- and then so is all that is made of them
-module _ (gs gs′ : List Segment) (same : (k : ℕ) → numbered gs k ≡ numbered gs′ k) (counts : count gs ≡ count gs′) where
+record Alike (gs gs′ : List Segment) : Type 0 where
+  same : (k : ℕ) → numbered gs k ≡ numbered gs′ k
+  counts : count gs ≡ count gs′
+
+module _ {gs gs′ : List Segment} (a : Alike gs gs′) where
   same-seen : (n : ℕ) → allSeen gs n ≡ allSeen gs′ n
   unfolding allSeen
   same-seen zero = refl
-  same-seen (suc n) = rw (same-seen n, same (suc n))
+  same-seen (suc n) = rw (same-seen n, a .same (suc n))
 
   same-joined : (n : ℕ) → joined gs n ≡ joined gs′ n
   unfolding joined
   same-joined zero = refl
-  same-joined (suc n) =
-      ap (λ (x : List ℕ). x ++ dataNumbered gs (suc n)) (same-joined n)
-      ∙ ap (λ (o : Option Segment). joined gs′ n ++ orNothing o .content) (same (suc n))
-
-  same-all : allSeen gs (count gs) ≡ allSeen gs′ (count gs′)
-  same-all = same-seen (count gs) ∙ ap (λ (n : ℕ). allSeen gs′ n) counts
+  same-joined (suc n) = λ i. same-joined n i ++ orNothing (a .same (suc n) i) .content
 
   same-body : bodyOf gs ≡ bodyOf gs′
-  same-body = same-joined (count gs) ∙ ap (λ (n : ℕ). joined gs′ n) counts
+  same-body = same-joined (count gs) ∙ ap (λ (n : ℕ). joined gs′ n) (a .counts)
 
   same-header : headerNumbered gs 1 ≡ headerNumbered gs′ 1
-  same-header = ap (λ (o : Option Segment). orNothing o .header) (same 1)
+  same-header = ap (λ (o : Option Segment). orNothing o .header) (a .same 1)
 
   same-ends : (room : ℕ) → endChecks gs room ≡ endChecks gs′ room
-  same-ends room = rw (same 1, same-all, same-body)
+  same-ends room = rw (a .same 1, same-seen (count gs) ∙ ap (λ (n : ℕ). allSeen gs′ n) (a .counts), same-body)
 
-  same-says : says gs ≡ says gs′
-  same-says = λ i. record { header = same-header i; long = bytes (length (same-body i)) }
+  -- the answers at two ends that are alike
+  same-answer : (out out′ : List ℕ) → length out ≡ length out′ → finish (given gs) out .answer ≡ finish (given gs′) out′ .answer
+  same-answer out out′ l =
+      finish-answer gs out
+      ∙ ap (λ (n : ℕ). rule (endChecks gs n) (says gs)) l
+      ∙ (λ i. rule (same-ends (length out′) i) (record { header = same-header i; long = bytes (length (same-body i)) }))
+      ∙ sym (finish-answer gs′ out′)
 
 same-count : (each each′ : List (List ℕ)) (h : Header) → List·Permᴰ each each′ → ((f : List ℕ) → List·Memᴰ f each → Agree (headerFrom f) h)
     → ((f : List ℕ) → List·Memᴰ f each′ → Agree (headerFrom f) h)
@@ -129,95 +120,66 @@ low-first (k ∷ ks) n l e = go (k .broken) (ltb (k .number) 12) refl l e (λ m 
     go true true p q r later = subst (λ (m : ℕ). m < 12) (cc r) (ltb-true (k .number) 12 p)
     go false true p q r later = later q r
 
-pub walk-low : (turns : ℕ) (gs : List Segment) (rest : List ℕ) (n : ℕ) → walk turns gs rest ≡ refused n → n < 12
-unfolding walk
-walk-low zero gs rest n e = never (cc e)
-walk-low (suc turns) gs rest n e =
-    go (eqb (length rest) 0) (first (turnChecks gs rest)) refl e (λ q. walk-low turns (gs ++ (segmentIn rest ∷ [])) (after rest) n q)
-  where
-    go : (t : Bool) (o : Option ℕ) → first (turnChecks gs rest) ≡ o
-        → pick t (given gs) (decide (turnChecks gs rest) refused (walk turns (gs ++ (segmentIn rest ∷ [])) (after rest))) ≡ refused n
-        → (walk turns (gs ++ (segmentIn rest ∷ [])) (after rest) ≡ refused n → n < 12)
-        → n < 12
-    go true o p q later = never (cc q)
-    go false none p q later =
-        later (sym (decide-none (turnChecks gs rest) refused (walk turns (gs ++ (segmentIn rest ∷ [])) (after rest)) p) ∙ q)
-    go false (some m) p q later =
-        let r : refused m ≡ refused n = sym (decide-some (turnChecks gs rest) refused (walk turns (gs ++ (segmentIn rest ∷ [])) (after rest)) m p) ∙ q in
-        subst (λ (i : ℕ). i < 12) (cc r) (low-first (turnChecks gs rest) m refl p)
+pub walk-low : (frames : List ℕ) (n : ℕ) → walk [] frames ≡ refused n → n < 12
+walk-low frames n e =
+    walk-refused eachFrame frames-take (λ m. m < 12) (λ gs rest m q. low-first (turnChecks gs rest) m refl q) [] frames n e
 
 -- ---- a walk that goes to the end goes to the end in every rearrangement, with segments that say the same
-record Again (each each′ : List (List ℕ)) (gs : List Segment) : Type 0 where
+record Again (each′ : List (List ℕ)) (gs : List Segment) : Type 0 where
   gs′ : List Segment
-  walked : walk (length (flatten each′)) [] (flatten each′) ≡ given gs′
-  same : (k : ℕ) → numbered gs k ≡ numbered gs′ k
-  counts : count gs ≡ count gs′
+  walked : walk [] (flatten each′) ≡ given gs′
+  alike : Alike gs gs′
 
-again : (each each′ : List (List ℕ)) (gs : List Segment) → List·Permᴰ each each′ → WholeFrames each → walk (length (flatten each)) [] (flatten each) ≡ given gs
-    → Again each each′ gs
-again each each′ gs p w e =
-    let d : Ended [] gs each = ended each (length (flatten each)) [] gs w (omega arith) e in
-    let back = perm-mem (Permᴰ·symm p) in
-    let a : (f : List ℕ) → List·Memᴰ f each → Agree (headerFrom f) (leader each) = all-agree each (d .met) in
-    let once : Distinct (map numberFrom each) = distinct [] each (d .met) in
-    let a′ : (f : List ℕ) → List·Memᴰ f each′ → Agree (headerFrom f) (leader each) = λ f m. a f (back f m) in
-    let o : Orderly (flatten each′) (leader each) each′ =
-    record { buffer = refl; pass = λ f m. d .pass f (back f m); agree = a′; once = perm-distinct (perm-map numberFrom p) once }
-    in
-    record {
-      gs′ = map segmentIn each′;
-      walked = orderly-walked (flatten each′) (leader each) each′ o;
-      same = λ k. ap (λ (x : List Segment). numbered x k) (d .grown) ∙ same-numbered each each′ p once k;
-      counts = ap count (d .grown) ∙ same-count each each′ (leader each) p a a′;
-    }
+module _ (each each′ : List (List ℕ)) (out out′ : List ℕ) (p : List·Permᴰ each each′) (w : WholeFrames each)
+    (l : length out ≡ length out′) where
+  again : (gs : List Segment) → walk [] (flatten each) ≡ given gs → Again each′ gs
+  again gs e =
+      let d : Ended [] gs each = ended each [] gs w e in
+      let back = perm-mem (Permᴰ·symm p) in
+      let a : (f : List ℕ) → List·Memᴰ f each → Agree (headerFrom f) (leader each) = all-agree each (d .met) in
+      let once : Distinct (map numberFrom each) = distinct [] each (d .met) in
+      let a′ : (f : List ℕ) → List·Memᴰ f each′ → Agree (headerFrom f) (leader each) = λ f m. a f (back f m) in
+      let o : Orderly (flatten each′) (leader each) each′ =
+      record { buffer = refl; pass = λ f m. d .pass f (back f m); agree = a′; once = perm-distinct (Permᴰ·map numberFrom p) once }
+      in
+      record {
+        gs′ = map segmentIn each′;
+        walked = orderly-walked (flatten each′) (leader each) each′ o;
+        alike = record {
+          same = λ k. ap (λ (x : List Segment). numbered x k) (d .grown) ∙ same-numbered each each′ p once k;
+          counts = ap count (d .grown) ∙ same-count each each′ (leader each) p a a′;
+        };
+      }
 
--- the answers of two ends that say the same
-answers : (gs gs′ : List Segment) (out out′ : List ℕ) → ((k : ℕ) → numbered gs k ≡ numbered gs′ k) → count gs ≡ count gs′ → length out ≡ length out′
-    → finish (given gs) out .answer ≡ finish (given gs′) out′ .answer
-answers gs gs′ out out′ s c l =
-    finish-answer gs out
-    ∙ ap (λ (n : ℕ). rule (endChecks gs n) (says gs)) l
-    ∙ ap (λ (ks : List Check). rule ks (says gs)) (same-ends gs gs′ s c (length out′))
-    ∙ ap (λ (v : SetSays). rule (endChecks gs′ (length out′)) v) (same-says gs gs′ s c)
-    ∙ sym (finish-answer gs′ out′)
+  refused-again : (n : ℕ) → 12 ≤ n → setOf (flatten each) out .answer ≡ refused n → setOf (flatten each′) out′ .answer ≡ refused n
+  unfolding setOf
+  refused-again n high e = go (walk [] (flatten each)) refl e
+    where
+      go : (a : Answer (List Segment)) → walk [] (flatten each) ≡ a → finish a out .answer ≡ refused n
+          → finish (walk [] (flatten each′)) out′ .answer ≡ refused n
+      go (refused m) k q = let z : m ≡ n = cc q in absurd (omega (arith, walk-low (flatten each) m k))
+      go (given gs) k q =
+          let r = again gs k in
+          ap (λ (a : Answer (List Segment)). finish a out′ .answer) (r .walked) ∙ sym (same-answer (r .alike) out out′ l) ∙ q
 
-refused-again : (each each′ : List (List ℕ)) (out out′ : List ℕ) (n : ℕ) → List·Permᴰ each each′ → WholeFrames each → length out ≡ length out′ → 12 ≤ n
-    → setOf (flatten each) out .answer ≡ refused n
-    → setOf (flatten each′) out′ .answer ≡ refused n
-unfolding setOf
-refused-again each each′ out out′ n p w l high e = go (walk (length (flatten each)) [] (flatten each)) refl e
-  where
-    clash : (m : ℕ) → m ≡ n → m < 12 → ⊥
-    clash m q r = omega arith
-
-    go : (a : Answer (List Segment)) → walk (length (flatten each)) [] (flatten each) ≡ a → finish a out .answer ≡ refused n
-        → finish (walk (length (flatten each′)) [] (flatten each′)) out′ .answer ≡ refused n
-    go (refused m) k q = absurd (clash m (cc q) (walk-low (length (flatten each)) [] (flatten each) m k))
-    go (given gs) k q =
-        let r = again each each′ gs p w k in
-        ap (λ (a : Answer (List Segment)). finish a out′ .answer) (r .walked) ∙ sym (answers gs (r .gs′) out out′ (r .same) (r .counts) l) ∙ q
-
-accepted-again : (each each′ : List (List ℕ)) (out out′ : List ℕ) → List·Permᴰ each each′ → WholeFrames each → length out ≡ length out′
-    → (h : Header) (body : List ℕ)
-    → setOf (flatten each) out ≡ accepted h body out
-    → setOf (flatten each′) out′ ≡ accepted h body out′
-unfolding setOf
-accepted-again each each′ out out′ p w l h body e =
-    let a = accepting (flatten each) out h body e in
-    let r = again each each′ (a .gs) p w (a .walked) in
-    let b : bodyOf (r .gs′) ≡ body = sym (same-body (a .gs) (r .gs′) (r .same) (r .counts)) ∙ a .contents in
-    let g : headerNumbered (r .gs′) 1 ≡ h = sym (same-header (a .gs) (r .gs′) (r .same) (r .counts)) ∙ a .header in
-    let ends : AllHold (endChecks (r .gs′) (length out′)) =
-    subst (λ (ks : List Check). AllHold ks) (same-ends (a .gs) (r .gs′) (r .same) (r .counts) (length out′))
-    (subst (λ (n : ℕ). AllHold (endChecks (a .gs) n)) l (a .ends))
-    in
-    ap (λ (x : Answer (List Segment)). finish x out′) (r .walked)
-    ∙ finished (r .gs′) out′ ends
-    ∙ (λ i. record { answer = given (record { header = g i; long = bytes (length (b i)) }); output = filled (b i) out′ })
+  accepted-again : (h : Header) (body : List ℕ) → setOf (flatten each) out ≡ accepted h body out
+      → setOf (flatten each′) out′ ≡ accepted h body out′
+  unfolding setOf
+  accepted-again h body e =
+      let a = accepting (flatten each) out h body e in
+      let r = again (a .gs) (a .walked) in
+      let b : bodyOf (r .gs′) ≡ body = sym (same-body (r .alike)) ∙ a .contents in
+      let g : headerNumbered (r .gs′) 1 ≡ h = sym (same-header (r .alike)) ∙ a .header in
+      let ends : AllHold (endChecks (r .gs′) (length out′)) =
+      subst (λ (ks : List Check). AllHold ks) (ap (endChecks (a .gs)) l ∙ same-ends (r .alike) (length out′)) (a .ends)
+      in
+      ap (λ (x : Answer (List Segment)). finish x out′) (r .walked)
+      ∙ finished (r .gs′) out′ ends
+      ∙ (λ i. record { answer = given (record { header = g i; long = bytes (length (b i)) }); output = filled (b i) out′ })
 
 pub any-order : AnyOrder
 any-order = λ each each′ out out′ p w l. (
   accepted-again each each′ out out′ p w l,
-  refused-again each each′ out out′ 12 p w l (omega arith),
-  refused-again each each′ out out′ 13 p w l (omega arith),
+  refused-again each each′ out out′ p w l 12 (omega arith),
+  refused-again each each′ out out′ p w l 13 (omega arith),
 )

@@ -12,7 +12,7 @@ use lib.Seq.{length-take-le}
 use borrow.Author.Tests.{ltb-true, ltb-false, le-ltb, eqb-true, eq-eqb, ne-eqb, not-false}
 use Rattle.wire.specs.Checks.{both, check, first, AllHold}
 use Rattle.wire.specs.Answers.{Answer, refused, given}
-use Rattle.wire.proofs.CheckLaws.{never}
+use Rattle.wire.proofs.CheckLaws.{never, by-eq}
 use Rattle.wire.proofs.AnswerLaws.{rule-refused}
 use Rattle.frame.specs.Session.{headSize, sessionLimit, sizeIn, bodyIn}
 use Rattle.header.specs.declared.Header.{Header}
@@ -21,7 +21,6 @@ use Rattle.set_spec.specs.Segment.{Segment}
 use Rattle.set_spec.specs.Walk.{seen, count, allSeen, bodyOf, endChecks, finish, walk, setOf}
 use Rattle.set_spec.specs.Whole.{headerFrom, dataFrom, Passes, Joined, start, next, Whole}
 use Rattle.set_spec.specs.Theorems.{mostJoined, BodyMost, RoomForAny}
-use Rattle.set_spec.proofs.NumberedLaws.{by-eq}
 use Rattle.set_spec.proofs.FrameFacts.{framed}
 use Rattle.set_spec.proofs.PrefixLaws.{own-parts}
 use Rattle.set_spec.proofs.Accepted.{says, finished, answering, accepted-exactly-if-whole}
@@ -52,18 +51,21 @@ segmented f p =
     record {
       few = ltb-false mostSegments (h .segments) (c .1 .1 .1 .1 .1 .1 .1 .0);
       lone = λ r. eqb-true (h .segments) 1
-          (not-false _ (both-then (eqb (h .kind) radialType) (not (eqb (h .segments) 1)) (c .1 .1 .1 .1 .1 .1 .1 .1 .1 .1 .0) (eq-eqb (h .kind) radialType r)));
+          (not-false _ (both-then (eqb (h .kind) radialType) (not (eqb (h .segments) 1)) (c .1 .1 .1 .1 .1 .1 .1 .1 .1 .1 .0)
+          (eq-eqb (h .kind) radialType r)));
       session = omega (arith, held, framed f (own .0) .small);
       segment = λ r.
           let small : h .size .0 ≤ segmentSize .0 =
           ltb-false (segmentSize .0) (h .size .0)
-          (both-then (not (eqb (h .kind) radialType)) (ltb (segmentSize .0) (h .size .0)) (c .1 .1 .1 .1 .1 .1 .1 .1 .1 .1 .1 .0) (ap not (ne-eqb (h .kind) radialType r)))
+          (both-then (not (eqb (h .kind) radialType)) (ltb (segmentSize .0) (h .size .0)) (c .1 .1 .1 .1 .1 .1 .1 .1 .1 .1 .1 .0)
+          (ap not (ne-eqb (h .kind) radialType r)))
           in
           omega (arith, held, long, even, half, small);
     }
 
 -- ---- segments joined
-joined-most : (each : List (List ℕ)) (limit : ℕ) → ((f : List ℕ) → List·Memᴰ f each → length (dataFrom f) ≤ limit) → {n : ℕ} {body : List ℕ} → Joined each n body
+joined-most : (each : List (List ℕ)) (limit : ℕ) → ((f : List ℕ) → List·Memᴰ f each → length (dataFrom f) ≤ limit)
+    → {n : ℕ} {body : List ℕ} → Joined each n body
     → length body ≤ n * limit
 joined-most each limit h start = omega arith
 joined-most each limit h (next {n = n} {body = body} f m e j) =
@@ -78,7 +80,8 @@ module _ (frames : List ℕ) (h : Header) (body : List ℕ) (w : Whole frames h 
 
   radial-most : h .kind ≡ radialType → length body ≤ sessionLimit .0 - headerSize
   radial-most r =
-      let n : h .segments ≡ 1 = sym (ap (λ (x : Header). x .segments) (w .header)) ∙ one-is .lone (ap (λ (x : Header). x .kind) (w .header) ∙ r) in
+      let n : h .segments ≡ 1 = sym (ap (λ (x : Header). x .segments) (w .header))
+      ∙ one-is .lone (ap (λ (x : Header). x .kind) (w .header) ∙ r) in
       let j = joined-most (w .each) (sessionLimit .0 - headerSize) (λ f m. each-is f m .session) (w .joined) in
       let k : length body ≤ 1 * (sessionLimit .0 - headerSize) = subst (λ (x : ℕ). length body ≤ x * (sessionLimit .0 - headerSize)) n j in
       omega (arith, k)
@@ -113,12 +116,12 @@ room-alone false false false e = never (cc e)
 
 pub room-for-any : RoomForAny
 unfolding setOf
-room-for-any frames out e = go (walk (length frames) [] frames) refl e
+room-for-any frames out e = go (walk [] frames) refl e
   where
-    go : (a : Answer (List Segment)) → walk (length frames) [] frames ≡ a → finish a out .answer ≡ refused 13 → length out < mostJoined
+    go : (a : Answer (List Segment)) → walk [] frames ≡ a → finish a out .answer ≡ refused 13 → length out < mostJoined
     go (refused n) w q =
         let z : n ≡ 13 = cc q in
-        absurd (omega (arith, z, walk-low (length frames) [] frames n w))
+        absurd (omega (arith, z, walk-low frames n w))
     go (given gs) w q =
         let body = bodyOf gs in
         let k = room-alone (not (seen gs 1)) (not (allSeen gs (count gs))) (ltb (length out) (length body))

@@ -11,14 +11,17 @@ use lib.Seq.{drop-drop}
 use borrow.Author.Tests.{ltb-false, eqb-true, eq-eqb, ne-eqb}
 use Rattle.wire.specs.Checks.{pick, check, first, AllHold}
 use Rattle.wire.specs.Answers.{refused, given, rule}
-use Rattle.wire.proofs.CheckLaws.{never, all-hold}
+use Rattle.wire.proofs.CheckLaws.{never, all-hold, first-append-none, first-append-some}
 use Rattle.wire.proofs.AnswerLaws.{rule-given, rule-refused}
 use Rattle.frame.specs.declared.Frame.{Frame}
 use Rattle.frame.specs.Session.{headSize, sessionLimit, dataKind, kindIn, sizeIn, bodyIn, after, frameChecks, end, frame, frameIn, frameAt}
+use Rattle.frame.specs.declared.FrameAnswer.{FrameAnswer}
+use Rattle.frame.specs.declared.FrameAnswer.the-variants.{End, Read, Refused}
+use Rattle.frame.specs.Told.{tellFrame}
+use Rattle.frame.proofs.Welds.{frame-apart}
 use Rattle.header.specs.declared.Header.{Header}
 use Rattle.header.specs.Header.{headerSize, headerIn, mostSegments, headerChecks, headerOf}
 use Rattle.set_spec.specs.Segment.{notData, ownChecks}
-use Rattle.set_spec.proofs.OrderLaws.{first-append-none, first-append-some}
 
 -- ---- a frame
 pub record Framed (rest : List ℕ) : Type 0 where
@@ -45,54 +48,47 @@ pub record FrameLies (s : List ℕ) (at : ℕ) (f : Frame) : Type 0 where
   pub body : take (f .next - f .start) (drop (f .start) s) ≡ bodyIn (drop at s)
   pub rest : drop (f .next) s ≡ after (drop at s)
 
-frame-in : (s : List ℕ) (at : ℕ) (f : Frame) → frameAt s at ≡ given (frame f) → (first (frameChecks (drop at s)) ≡ none) × (frameIn (drop at s) at ≡ f)
-unfolding frameAt
-frame-in s at f e = go (eqb at (length s)) e
-  where
-    go : (t : Bool) → pick t (given end) (rule (frameChecks (drop at s)) (frame (frameIn (drop at s) at))) ≡ given (frame f)
-        → (first (frameChecks (drop at s)) ≡ none) × (frameIn (drop at s) at ≡ f)
-    go true q = never (cc q)
-    go false q = let p = rule-given (frameChecks (drop at s)) (frame (frameIn (drop at s) at)) (frame f) q in (p .0, cc (p .1))
-
-pub frame-refused : (s : List ℕ) (at n : ℕ) → frameAt s at ≡ refused n → first (frameChecks (drop at s)) ≡ some n
-unfolding frameAt
-frame-refused s at n e = go (eqb at (length s)) e
-  where
-    go : (t : Bool) → pick t (given end) (rule (frameChecks (drop at s)) (frame (frameIn (drop at s) at))) ≡ refused n
-        → first (frameChecks (drop at s)) ≡ some n
-    go true q = never (cc q)
-    go false q = rule-refused (frameChecks (drop at s)) (frame (frameIn (drop at s) at)) n q
-
--- where the stream ends nothing is left, so that a frame there is cut off
-pub frame-ends : (s : List ℕ) (at : ℕ) → frameAt s at ≡ given end → first (frameChecks (drop at s)) ≡ some 1
-unfolding frameAt
-frame-ends s at e = go (eqb at (length s)) refl e
-  where
-    go : (t : Bool) → eqb at (length s) ≡ t → pick t (given end) (rule (frameChecks (drop at s)) (frame (frameIn (drop at s) at))) ≡ given end
-        → first (frameChecks (drop at s)) ≡ some 1
-    go true p q = let l : length s ≤ at = omega (arith, eqb-true at (length s) p) in rw (drop-of-length-le s {i = at} l)
-    go false p q = never (cc (rule-given (frameChecks (drop at s)) (frame (frameIn (drop at s) at)) end q .1))
-
-pub frame-lies : (s : List ℕ) (at : ℕ) (f : Frame) → frameAt s at ≡ given (frame f) → FrameLies s at f
-frame-lies s at f e =
-    let p = frame-in s at f e in
-    let g = framed (drop at s) (all-hold (frameChecks (drop at s)) (p .0)) in
+frame-lies : (s : List ℕ) (at : ℕ) → first (frameChecks (drop at s)) ≡ none → FrameLies s at (frameIn (drop at s) at)
+frame-lies s at passes =
+    let g = framed (drop at s) (all-hold (frameChecks (drop at s)) passes) in
     let z = sizeIn (drop at s) .0 in
-    let l : length (drop at s) ≡ length s - at = length-drop at s in
-    let w : headSize + z ≤ length s - at = subst (λ (n : ℕ). headSize + z ≤ n) l (g .whole) in
+    let l = length-drop at s in
     let d : at + (headSize + z) - (at + headSize) ≡ z = omega arith in
-    subst (λ (x : Frame). FrameLies s at x) (p .1)
-    (record {
-      passes = p .0;
+    record {
+      passes = passes;
       kind = refl;
       start = refl;
       next = refl;
       order = omega arith;
       within = omega arith;
-      small = omega (arith, g .small);
+      small = omega arith;
       body = ap (λ (n : ℕ). take n (drop (at + headSize) s)) d ∙ ap (λ (x : List ℕ). take z x) (sym (drop-drop headSize at s));
       rest = sym (drop-drop (headSize + z) at s);
-    })
+    }
+
+-- by the answer: where the stream ends nothing is left, so that a frame there is cut off
+abbrev pub FrameSays : List ℕ → ℕ → FrameAnswer → Type 0
+FrameSays s at End = first (frameChecks (drop at s)) ≡ some 1
+FrameSays s at (Read f) = FrameLies s at f
+FrameSays s at (Refused n) = first (frameChecks (drop at s)) ≡ some n
+
+pub frame-says : (s : List ℕ) (at : ℕ) {r r′ : FrameAnswer} → tellFrame r ≡ frameAt s at → r ≡ r′ → FrameSays s at r′
+unfolding frameAt
+frame-says s at {r} {r′} e is = go (eqb at (length s)) refl (sym e ∙ ap tellFrame is)
+  where
+    by-checks : (r : FrameAnswer) → rule (frameChecks (drop at s)) (frame (frameIn (drop at s) at)) ≡ tellFrame r → FrameSays s at r
+    by-checks End q = never (cc (rule-given (frameChecks (drop at s)) (frame (frameIn (drop at s) at)) end q .1))
+    by-checks (Read f) q =
+        let p = rule-given (frameChecks (drop at s)) (frame (frameIn (drop at s) at)) (frame f) q in
+        subst (λ (x : Frame). FrameLies s at x) (cc (p .1)) (frame-lies s at (p .0))
+    by-checks (Refused n) q = rule-refused (frameChecks (drop at s)) (frame (frameIn (drop at s) at)) n q
+
+    go : (t : Bool) → eqb at (length s) ≡ t
+        → pick t (given end) (rule (frameChecks (drop at s)) (frame (frameIn (drop at s) at))) ≡ tellFrame r′ → FrameSays s at r′
+    go true p q =
+        let l : length s ≤ at = omega (arith, eqb-true at (length s) p) in
+        subst (λ (x : FrameAnswer). FrameSays s at x) (frame-apart End r′ q) (rw (drop-of-length-le s {i = at} l))
+    go false p q = by-checks r′ q
 
 -- ---- a header
 pub record HeaderFits (b : List ℕ) : Type 0 where

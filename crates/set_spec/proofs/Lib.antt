@@ -1,8 +1,6 @@
 -- What the crates above cite of sets.
-pub mod OrderLaws
 pub mod FrameFacts
 pub mod NumberedLaws
-pub mod WalkLaws
 pub mod PrefixLaws
 pub mod FrameLists
 pub mod OrderFree

@@ -1,83 +1,34 @@
 -- A set's outcome does not depend on the number of a lone segment. Assumes nothing.
-use Prim.Native.Nat.{ℕ, zero, suc, _+_, _-_, _≤_, _<_}
+use Prim.Native.Nat.{ℕ, _+_, _-_, _≤_, _<_}
 use mathlib.Core.Path.{_≡_, refl, sym, ap, _∙_}
 use mathlib.Core.Bool.{not}
-use mathlib.Core.List.{List, [], _∷_, _++_, flatten, append-assoc, List·Memᴰ·head, List·Memᴰ·tail}
+use mathlib.Core.List.{List, [], _∷_, _++_, flatten}
 use native.Mathlib.Omega.{arith}
 use lib.Dec.{ltb, eqb}
 use lib.ListN.{length, getD, take, drop, length-append, length-take, length-drop, take-append-drop}
 use lib.Seq.{getD-take, getD-drop, getD-append-add, drop-drop, take-at}
 use Rattle.wire.specs.Numbers.{num}
-use Rattle.wire.specs.Checks.{pick, check, decide}
-use Rattle.wire.specs.Answers.{Answer, refused, given}
+use Rattle.wire.specs.Checks.{check, decide}
+use Rattle.wire.specs.Answers.{Answer, refused, onward}
 use Rattle.wire.proofs.NumberLaws.{num-same}
-use Rattle.wire.proofs.ListLaws.{same-bytes, same-rest}
-use Rattle.frame.specs.Session.{headSize, lastKind, dataKind, sessionLimit, kindIn, sizeIn, bodyIn, after}
-use Rattle.header.specs.Header.{headerSize, dataIn, headerChecks}
+use Rattle.wire.proofs.ListLaws.{same-bytes, same-rest, drop-take}
+use Rattle.frame.specs.Session.{headSize, lastKind, dataKind, sessionLimit, sizeIn, bodyIn, after}
+use Rattle.frame.specs.Walk.{answers}
+use Rattle.frame.proofs.WalkLaws.{walked-turn, walk-on}
+use Rattle.frame.proofs.FrontLaws.{frames-take}
+use Rattle.header.specs.Header.{headerSize, dataIn}
 use Rattle.header.specs.Theorems.{numberPlace, ButTwoBytes}
 use Rattle.header.proofs.LoneLaws.{header-same, checks-same}
 use Rattle.set_spec.specs.Segment.{Segment, segmentIn}
-use Rattle.set_spec.specs.Walk.{metChecks, turnChecks, walk, finish, setOf}
-use Rattle.set_spec.specs.Theorems.{WholeFrames, LoneFrame, LoneSegment}
-use Rattle.set_spec.proofs.OrderLaws.{drop-take}
-use Rattle.set_spec.proofs.PrefixLaws.{kind-same, size-same, body-same, segment-same, after-is}
+use Rattle.set_spec.specs.Walk.{metChecks, turnChecks, eachFrame, walk, finish, setOf}
+use Rattle.set_spec.specs.Theorems.{LoneFrame, LoneSegment}
+use Rattle.set_spec.proofs.PrefixLaws.{one-turn}
 
--- ---- all that a turn of the walk looks at
-record Alike (rest rest′ : List ℕ) : Type 0 where
-  long : length rest ≡ length rest′
-  kind : kindIn rest ≡ kindIn rest′
-  size : sizeIn rest .0 ≡ sizeIn rest′ .0
-  checks : headerChecks (bodyIn rest) ≡ headerChecks (bodyIn rest′)
-  segment : segmentIn rest ≡ segmentIn rest′
-
-turn-alike : (gs : List Segment) (rest rest′ : List ℕ) → Alike rest rest′ → turnChecks gs rest ≡ turnChecks gs rest′
-turn-alike gs rest rest′ a = λ i.
-    ((check 1 (ltb (a .long i) headSize)
-    ∷ check 2 (ltb lastKind (a .kind i))
-    ∷ check 3 (ltb (sessionLimit .0) (a .size i))
-    ∷ check 1 (ltb (a .long i) (headSize + a .size i))
-    ∷ [])
-    ++ (check 9 (not (eqb (a .kind i) dataKind)) ∷ a .checks i))
-    ++ metChecks gs (a .segment i .header)
-
--- a turn, and what is left after it
-walk-alike : (turns : ℕ) (gs : List Segment) (rest rest′ : List ℕ) → Alike rest rest′
-    → ((met : List Segment) → walk turns met (after rest) ≡ walk turns met (after rest′)) → walk (suc turns) gs rest ≡ walk (suc turns) gs rest′
-unfolding walk
-walk-alike turns gs rest rest′ a later =
-    let next : walk turns (gs ++ (segmentIn rest ∷ [])) (after rest) ≡ walk turns (gs ++ (segmentIn rest′ ∷ [])) (after rest′) =
-    later (gs ++ (segmentIn rest ∷ [])) ∙ ap (λ (g : Segment). walk turns (gs ++ (g ∷ [])) (after rest′)) (a .segment)
-    in
-    λ i. pick (eqb (a .long i) 0) (given gs) (decide (turn-alike gs rest rest′ a i) refused (next i))
-
--- ---- the same whole frame before what differs
-module _ (f t t′ : List ℕ) (exact : length f ≡ headSize + sizeIn f .0) (long : length t ≡ length t′) where
-  before-alike : Alike (f ++ t) (f ++ t′)
-  before-alike = record {
-    long = length-append f t ∙ ap (λ (n : ℕ). length f + n) long ∙ sym (length-append f t′);
-    kind = kind-same f t exact ∙ sym (kind-same f t′ exact);
-    size = size-same f t exact ∙ sym (size-same f t′ exact);
-    checks = ap headerChecks (body-same f t exact ∙ sym (body-same f t′ exact));
-    segment = segment-same f t exact ∙ sym (segment-same f t′ exact);
-  }
-
-walk-before : (each : List (List ℕ)) (turns : ℕ) (gs : List Segment) (t t′ : List ℕ) → WholeFrames each → length t ≡ length t′
-    → ((turns : ℕ) (met : List Segment) → walk turns met t ≡ walk turns met t′) → walk turns gs (flatten each ++ t) ≡ walk turns gs (flatten each ++ t′)
-unfolding flatten walk
-walk-before [] turns gs t t′ w l same = same turns gs
-walk-before (f ∷ fs) zero gs t t′ w l same = refl
-walk-before (f ∷ fs) (suc turns) gs t t′ w l same =
-    let exact = w f (List·Memᴰ·head refl) in
-    let r = flatten fs ++ t in
-    let r′ = flatten fs ++ t′ in
-    let long : length r ≡ length r′ = length-append (flatten fs) t ∙ ap (λ (n : ℕ). length (flatten fs) + n) l ∙ sym (length-append (flatten fs) t′) in
-    ap (λ (x : List ℕ). walk (suc turns) gs x) (append-assoc f (flatten fs) t)
-    ∙ walk-alike turns gs (f ++ r) (f ++ r′) (before-alike f r r′ exact long)
-    (λ met.
-    ap (λ (x : List ℕ). walk turns met x) (after-is f r exact)
-    ∙ walk-before fs turns met t t′ (λ y m. w y (List·Memᴰ·tail m)) l same
-    ∙ ap (λ (x : List ℕ). walk turns met x) (sym (after-is f r′ exact)))
-    ∙ ap (λ (x : List ℕ). walk (suc turns) gs x) (sym (append-assoc f (flatten fs) t′))
+-- a frame that has a body has bytes
+some-bytes : (rest : List ℕ) → headerSize ≤ sizeIn rest .0 → 0 < length rest
+unfolding num
+some-bytes [] h = absurd (omega arith)
+some-bytes (x ∷ rest) h = omega arith
 
 -- ---- the frame of the lone segment
 module _ (rest rest′ : List ℕ) (f : LoneFrame rest) (but : ButTwoBytes (headSize + numberPlace) rest rest′) where
@@ -119,19 +70,32 @@ module _ (rest rest′ : List ℕ) (f : LoneFrame rest) (but : ButTwoBytes (head
       ∙ sym (getD-drop headSize rest i 0)
       ∙ sym (getD-take (sizeIn rest .0) (drop headSize rest) i 0 (omega (arith, f .headed)))
 
-  lone-alike : Alike rest rest′
-  lone-alike = record {
-    long = sym (but .long);
-    kind = head-same 0 (omega arith);
-    size = head-same 8 (omega arith);
-    checks = checks-same (bodyIn rest) (bodyIn rest′) (f .lone) body-before body-long;
-    segment = λ i. record { header = header-same (bodyIn rest) (bodyIn rest′) (f .lone) body-before i; content = data-same i };
-  }
+  segment-same : segmentIn rest ≡ segmentIn rest′
+  segment-same = λ i. record { header = header-same (bodyIn rest) (bodyIn rest′) (f .lone) body-before i; content = data-same i }
 
-  walk-lone : (turns : ℕ) (gs : List Segment) → walk turns gs rest ≡ walk turns gs rest′
-  unfolding walk
-  walk-lone zero gs = refl
-  walk-lone (suc turns) gs = walk-alike turns gs rest rest′ lone-alike (λ met. ap (λ (x : List ℕ). walk turns met x) after-same)
+  -- all that a turn of the walk looks at
+  turn-same : (gs : List Segment) → turnChecks gs rest ≡ turnChecks gs rest′
+  turn-same gs =
+      let long = but .long in
+      let kind = head-same 0 (omega arith) in
+      let size = head-same 8 (omega arith) in
+      let checks = checks-same (bodyIn rest) (bodyIn rest′) (f .lone) body-before body-long in
+      λ i.
+      ((check 1 (ltb (sym long i) headSize)
+      ∷ check 2 (ltb lastKind (kind i))
+      ∷ check 3 (ltb (sessionLimit .0) (size i))
+      ∷ check 1 (ltb (sym long i) (headSize + size i))
+      ∷ [])
+      ++ (check 9 (not (eqb (kind i) dataKind)) ∷ checks i))
+      ++ metChecks gs (segment-same i .header)
+
+  walk-lone : (gs : List Segment) → walk gs rest ≡ walk gs rest′
+  walk-lone gs =
+      let some = some-bytes rest (f .headed) in
+      let long = but .long in
+      walked-turn (answers eachFrame) frames-take gs rest some
+      ∙ (λ i. decide (turn-same gs i) refused (walk (gs ++ (segment-same i ∷ [])) (after-same i)))
+      ∙ sym (walked-turn (answers eachFrame) frames-take gs rest′ (omega arith))
 
 -- ---- the set
 pub lone-segment : LoneSegment
@@ -151,7 +115,9 @@ lone-segment each rest frames′ out w f but =
       before = λ i h. getD-drop n frames′ i 0 ∙ but .before (n + i) (omega arith) ∙ later i;
       after = λ i h. getD-drop n frames′ i 0 ∙ but .after (n + i) (omega arith) ∙ later i;
     } in
+    let on = walk-on eachFrame frames-take each (λ g m. one-turn g (w g m)) [] in
     ap (λ (a : Answer (List Segment)). finish a out)
-    (walk-before each (length s) [] rest rest′ w long (λ turns met. walk-lone rest rest′ f rest-but turns met)
-    ∙ ap (λ (x : List ℕ). walk (length s) [] x) whole
-    ∙ ap (λ (k : ℕ). walk k [] frames′) (sym (but .long)))
+    (on rest
+    ∙ (λ i. onward (walk [] (flatten each)) (λ met. walk-lone rest rest′ f rest-but met i))
+    ∙ sym (on rest′)
+    ∙ ap (λ (x : List ℕ). walk [] x) whole)

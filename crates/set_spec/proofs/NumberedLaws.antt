@@ -5,27 +5,20 @@ use mathlib.Core.Bool.{Bool, true, false}
 use mathlib.Core.Option.{Option, none, some}
 use mathlib.Core.List.{List, [], _∷_, _++_}
 use lib.Dec.{eqb}
-use borrow.Author.Tests.{eqb-true, eqb-false, eq-eqb, ne-eqb}
+use borrow.Author.Tests.{eq-eqb, ne-eqb}
 use Rattle.wire.specs.Checks.{pick}
 use Rattle.wire.proofs.CheckLaws.{never}
 use Rattle.header.specs.declared.Header.{Header}
 use Rattle.set_spec.specs.Segment.{Segment, numbered, found}
 use Rattle.set_spec.specs.Walk.{firstOr}
 
--- two numbers are equal or not
-pub by-eq {ℓ} : {A : Type ℓ} (j k : ℕ) → (j ≡ k → A) → ((j ≡ k → ⊥) → A) → A
-by-eq {A} j k same other = go (eqb j k) refl
-  where
-    go : (t : Bool) → eqb j k ≡ t → A
-    go true p = same (eqb-true j k p)
-    go false p = other (eqb-false j k p)
-
 pub not-found : (o : Option Segment) → found o ≡ false → o ≡ none
 not-found none e = refl
 not-found (some g) e = never (cc e)
 
 -- one segment more, of a number that was not met: it is the one with its number, and no other number's segment changes
-pub numbered-same : (gs : List Segment) (g : Segment) (k : ℕ) → numbered gs k ≡ none → g .header .number ≡ k → numbered (gs ++ (g ∷ [])) k ≡ some g
+pub numbered-same : (gs : List Segment) (g : Segment) (k : ℕ) → numbered gs k ≡ none → g .header .number ≡ k
+    → numbered (gs ++ (g ∷ [])) k ≡ some g
 unfolding numbered
 numbered-same [] g k e q = simp (eq-eqb (g .header .number) k q)
 numbered-same (x ∷ gs) g k e q = go (eqb (x .header .number) k) e (λ p. numbered-same gs g k p q)

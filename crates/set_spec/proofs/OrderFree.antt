@@ -4,7 +4,7 @@ use mathlib.Core.Path.{_≡_, refl, sym, ap, subst, _∙_}
 use mathlib.Core.Logic.{_⊎_, ⊎-elim}
 use mathlib.Core.Bool.{Bool, true, false, not}
 use mathlib.Core.Option.{Option, none, some}
-use mathlib.Core.List.{List, [], _∷_, _++_, map, List·Memᴰ, List·Memᴰ·head, List·Memᴰ·tail, List·Memᴰ·cases-cons, List·Memᴰ·not-nil}
+use mathlib.Core.List.{List, [], _∷_, _++_, map, List·Memᴰ, List·Memᴰ·head, List·Memᴰ·tail, List·Memᴰ·cases-cons, List·Memᴰ·not-nil, Memᴰ·map, Memᴰ·of-map}
 use lib.Dec.{eqb}
 use borrow.Author.Tests.{eqb-true, eq-eqb, ne-eqb, not-false}
 use Rattle.wire.specs.Checks.{pick, both, check, AllHold}
@@ -76,7 +76,8 @@ led : (gs : List Segment) (each : List (List ℕ)) (lead : Header) → ((x : Hea
     → (f : List ℕ) → List·Memᴰ f each → Agree (headerFrom f) lead
 led gs [] lead l m = λ f k. absurd (List·Memᴰ·not-nil k)
 led gs (x ∷ xs) lead l m =
-    each-cons (λ f. Agree (headerFrom f) lead) x xs (subst (λ (a : Header). Agree (headerFrom x) a) (l (headerFrom x)) (met-agrees gs (headerFrom x) (m .0)))
+    each-cons (λ f. Agree (headerFrom f) lead) x xs (subst (λ (a : Header). Agree (headerFrom x) a) (l (headerFrom x))
+    (met-agrees gs (headerFrom x) (m .0)))
     (led (gs ++ (segmentIn x ∷ [])) xs lead (λ y. first-more gs (segmentIn x) y ∙ l (headerFrom x)) (m .1))
 
 -- one header that all agree with: the first's, where there is one
@@ -85,10 +86,12 @@ leader each = firstOr (map segmentIn each) (headerFrom [])
 
 pub all-agree : (each : List (List ℕ)) → AllMet [] each → (f : List ℕ) → List·Memᴰ f each → Agree (headerFrom f) (leader each)
 all-agree [] m = λ f k. absurd (List·Memᴰ·not-nil k)
-all-agree (x ∷ xs) m = each-cons (λ f. Agree (headerFrom f) (headerFrom x)) x xs (agree-refl (headerFrom x)) (led (segmentIn x ∷ []) xs (headerFrom x) (λ y. refl) (m .1))
+all-agree (x ∷ xs) m = each-cons (λ f. Agree (headerFrom f) (headerFrom x)) x xs (agree-refl (headerFrom x))
+    (led (segmentIn x ∷ []) xs (headerFrom x) (λ y. refl) (m .1))
 
 -- ---- distinct numbers
-seen-before : (gs : List Segment) (g : Segment) (k : ℕ) → seen (gs ++ (g ∷ [])) k ≡ false → (seen gs k ≡ false) × (g .header .number ≡ k → ⊥)
+seen-before : (gs : List Segment) (g : Segment) (k : ℕ) → seen (gs ++ (g ∷ [])) k ≡ false
+    → (seen gs k ≡ false) × (g .header .number ≡ k → ⊥)
 unfolding numbered
 seen-before [] g k e = (refl, λ q. absurd (clash q))
   where
@@ -108,29 +111,11 @@ unseen gs (x ∷ xs) m =
     each-cons (λ f. seen gs (numberFrom f) ≡ false) x xs (met-new gs (headerFrom x) (m .0))
     (λ f k. seen-before gs (segmentIn x) (numberFrom f) (unseen (gs ++ (segmentIn x ∷ [])) xs (m .1) f k) .0)
 
--- a number in the list is some frame's, and a frame's number is in the list
-pub record Numbered (k : ℕ) (each : List (List ℕ)) : Type 0 where
-  pub frame : List ℕ
-  pub there : List·Memᴰ frame each
-  pub number : numberFrom frame ≡ k
-
-number-of : (k : ℕ) (each : List (List ℕ)) → List·Memᴰ k (map numberFrom each) → Numbered k each
-number-of k [] m = absurd (List·Memᴰ·not-nil m)
-number-of k (x ∷ xs) m =
-    ⊎-elim (λ e. record { frame = x; there = List·Memᴰ·head refl; number = sym e })
-    (λ n. let r = number-of k xs n in record { frame = r .frame; there = List·Memᴰ·tail (r .there); number = r .number })
-    (List·Memᴰ·cases-cons m)
-
-number-in : (f : List ℕ) (each : List (List ℕ)) → List·Memᴰ f each → List·Memᴰ (numberFrom f) (map numberFrom each)
-number-in f [] m = absurd (List·Memᴰ·not-nil m)
-number-in f (x ∷ xs) m =
-    ⊎-elim (λ e. List·Memᴰ·head (ap numberFrom e)) (λ n. List·Memᴰ·tail (number-in f xs n)) (List·Memᴰ·cases-cons m)
-
 pub distinct : (gs : List Segment) (each : List (List ℕ)) → AllMet gs each → Distinct (map numberFrom each)
 distinct gs [] m = tt
 distinct gs (x ∷ xs) m = (
-  (λ k. let r = number-of (numberFrom x) xs k in
-      seen-before gs (segmentIn x) (numberFrom (r .frame)) (unseen (gs ++ (segmentIn x ∷ [])) xs (m .1) (r .frame) (r .there)) .1 (sym (r .number))),
+  (λ k. let r = Memᴰ·of-map numberFrom xs k in
+      seen-before gs (segmentIn x) (numberFrom (r .0)) (unseen (gs ++ (segmentIn x ∷ [])) xs (m .1) (r .0) (r .1)) .1 (sym (r .2))),
   distinct (gs ++ (segmentIn x ∷ [])) xs (m .1),
 )
 
@@ -147,12 +132,14 @@ met-from gs (x ∷ xs) h l new a d =
       met-from (gs ++ (segmentIn x ∷ [])) xs h
           (λ y ay. subst (λ (z : Header). Agree y z) (sym (first-more gs (segmentIn x) y))
           (agree-on y (headerFrom x) (firstOr gs (headerFrom x)) (agree-both y (headerFrom x) h ay ax) (l (headerFrom x) ax)))
-          (λ f k. ap found (numbered-other gs (segmentIn x) (numberFrom f) (λ e. d .0 (subst (λ (n : ℕ). List·Memᴰ n (map numberFrom xs)) (sym e) (number-in f xs k)))) ∙ new f (List·Memᴰ·tail k))
+          (λ f k. ap found (numbered-other gs (segmentIn x) (numberFrom f)
+          (λ e. d .0 (subst (λ (n : ℕ). List·Memᴰ n (map numberFrom xs)) (sym e) (Memᴰ·map numberFrom k)))) ∙ new f (List·Memᴰ·tail k))
           (λ f k. a f (List·Memᴰ·tail k))
           (d .1),
     )
 
-pub all-met : (each : List (List ℕ)) (h : Header) → ((f : List ℕ) → List·Memᴰ f each → Agree (headerFrom f) h) → Distinct (map numberFrom each) → AllMet [] each
+pub all-met : (each : List (List ℕ)) (h : Header) → ((f : List ℕ) → List·Memᴰ f each → Agree (headerFrom f) h)
+    → Distinct (map numberFrom each) → AllMet [] each
 unfolding numbered
 all-met each h a d = met-from [] each h (λ x y. agree-refl x) (λ f k. refl) a d
 
@@ -175,15 +162,17 @@ found-in (x ∷ xs) k g e = go (eqb (numberFrom x) k) refl e (λ q. found-in xs 
     go false p q later =
         let r = later q in record { frame = r .frame; there = List·Memᴰ·tail (r .there); number = r .number; segment = r .segment }
 
-pub is-found : (each : List (List ℕ)) (f : List ℕ) → List·Memᴰ f each → Distinct (map numberFrom each) → numbered (map segmentIn each) (numberFrom f) ≡ some (segmentIn f)
+pub is-found : (each : List (List ℕ)) (f : List ℕ) → List·Memᴰ f each → Distinct (map numberFrom each)
+    → numbered (map segmentIn each) (numberFrom f) ≡ some (segmentIn f)
 unfolding numbered
 is-found [] f m d = absurd (List·Memᴰ·not-nil m)
 is-found (x ∷ xs) f m d =
     ⊎-elim
-    (λ e. ap (λ (t : Bool). pick t (some (segmentIn x)) (numbered (map segmentIn xs) (numberFrom f))) (eq-eqb (numberFrom x) (numberFrom f) (ap numberFrom (sym e)))
+    (λ e. ap (λ (t : Bool). pick t (some (segmentIn x)) (numbered (map segmentIn xs) (numberFrom f)))
+    (eq-eqb (numberFrom x) (numberFrom f) (ap numberFrom (sym e)))
     ∙ ap (λ (y : List ℕ). some (segmentIn y)) (sym e))
     (λ n. ap (λ (t : Bool). pick t (some (segmentIn x)) (numbered (map segmentIn xs) (numberFrom f)))
-    (ne-eqb (numberFrom x) (numberFrom f) (λ e. d .0 (subst (λ (i : ℕ). List·Memᴰ i (map numberFrom xs)) (sym e) (number-in f xs n))))
+    (ne-eqb (numberFrom x) (numberFrom f) (λ e. d .0 (subst (λ (i : ℕ). List·Memᴰ i (map numberFrom xs)) (sym e) (Memᴰ·map numberFrom n))))
     ∙ is-found xs f n (d .1))
     (List·Memᴰ·cases-cons m)
 
@@ -191,16 +180,19 @@ is-found (x ∷ xs) f m d =
 pub joined-from : (each : List (List ℕ)) (n : ℕ) → allSeen (map segmentIn each) n ≡ true → Joined each n (joined (map segmentIn each) n)
 unfolding allSeen joined
 joined-from each zero e = start
-joined-from each (suc n) e = go (allSeen (map segmentIn each) n) (numbered (map segmentIn each) (suc n)) refl refl e (λ q. joined-from each n q)
+joined-from each (suc n) e = go (allSeen (map segmentIn each) n) (numbered (map segmentIn each) (suc n)) refl refl e
+    (λ q. joined-from each n q)
   where
-    go : (t : Bool) (o : Option Segment) → allSeen (map segmentIn each) n ≡ t → numbered (map segmentIn each) (suc n) ≡ o → both t (found o) ≡ true
+    go : (t : Bool) (o : Option Segment) → allSeen (map segmentIn each) n ≡ t → numbered (map segmentIn each) (suc n) ≡ o
+        → both t (found o) ≡ true
         → (allSeen (map segmentIn each) n ≡ true → Joined each n (joined (map segmentIn each) n))
         → Joined each (suc n) (joined (map segmentIn each) n ++ orNothing o .content)
     go false o p q r later = never (cc r)
     go true none p q r later = never (cc r)
     go true (some g) p q r later =
         let w = found-in each (suc n) g q in
-        subst (λ (x : Segment). Joined each (suc n) (joined (map segmentIn each) n ++ x .content)) (w .segment) (next (w .frame) (w .there) (w .number) (later p))
+        subst (λ (x : Segment). Joined each (suc n) (joined (map segmentIn each) n ++ x .content)) (w .segment)
+        (next (w .frame) (w .there) (w .number) (later p))
 
 pub joined-to : (each : List (List ℕ)) {n : ℕ} {body : List ℕ} → Distinct (map numberFrom each) → Joined each n body
     → (allSeen (map segmentIn each) n ≡ true) × (joined (map segmentIn each) n ≡ body)
@@ -208,12 +200,15 @@ unfolding allSeen joined
 joined-to each d start = (refl, refl)
 joined-to each d (next {n = n} {body = body} f m e j) =
     let i = joined-to each d j in
-    let q : numbered (map segmentIn each) (suc n) ≡ some (segmentIn f) = ap (λ (k : ℕ). numbered (map segmentIn each) k) (sym e) ∙ is-found each f m d in (
+    let q : numbered (map segmentIn each) (suc n) ≡ some (segmentIn f) = ap (λ (k : ℕ). numbered (map segmentIn each) k) (sym e)
+    ∙ is-found each f m d in (
       ap (λ (t : Bool). both t (found (numbered (map segmentIn each) (suc n)))) (i .0) ∙ ap found q,
-      ap (λ (x : List ℕ). x ++ dataNumbered (map segmentIn each) (suc n)) (i .1) ∙ ap (λ (o : Option Segment). body ++ orNothing o .content) q,
+      ap (λ (x : List ℕ). x ++ dataNumbered (map segmentIn each) (suc n)) (i .1)
+          ∙ ap (λ (o : Option Segment). body ++ orNothing o .content) q,
     )
 
-pub count-is : (each : List (List ℕ)) (h : Header) → ((f : List ℕ) → List·Memᴰ f each → Agree (headerFrom f) h) → (one : List ℕ) → List·Memᴰ one each
+pub count-is : (each : List (List ℕ)) (h : Header) → ((f : List ℕ) → List·Memᴰ f each → Agree (headerFrom f) h) → (one : List ℕ)
+    → List·Memᴰ one each
     → count (map segmentIn each) ≡ h .segments
 count-is [] h a one m = absurd (List·Memᴰ·not-nil m)
 count-is (f ∷ fs) h a one m = a f (List·Memᴰ·head refl) .segments

@@ -25,7 +25,8 @@ abbrev bodyIs : Answer (List Segment) → List ℕ
 bodyIs (refused n) = []
 bodyIs (given gs) = bodyOf gs
 
-body-bytes : (a : Answer (List Segment)) (out : List ℕ) (s : SetSays) → finish a out .answer ≡ given s → take (s .long .0) (finish a out .output) ≡ bodyIs a
+body-bytes : (a : Answer (List Segment)) (out : List ℕ) (s : SetSays) → finish a out .answer ≡ given s
+    → take (s .long .0) (finish a out .output) ≡ bodyIs a
 body-bytes (refused n) out s e = never (cc e)
 body-bytes (given gs) out s e =
     let p = outcome-given (endChecks gs (length out)) out (says gs) (filled (bodyOf gs) out) s e in
@@ -35,6 +36,6 @@ body-bytes (given gs) out s e =
 pub answer-apart-from-output : AnswerApartFromOutput
 unfolding setOf
 answer-apart-from-output = λ frames out out′ l.
-    let a = walk (length frames) [] frames in
+    let a = walk [] frames in
     let e = same-answer a out out′ l in
     (e, λ s g. body-bytes a out s g ∙ sym (body-bytes a out′ s (sym e ∙ g)))

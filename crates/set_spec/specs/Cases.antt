@@ -16,7 +16,8 @@ use Rattle.set_spec.specs.Theorems.{accepted}
 abbrev pub frameWith : ℕ → ℕ → ℕ → ℕ → List ℕ
 frameWith size n k two =
     be 4 0x00000002 ++ (be 4 0x00000000 ++ (be 4 0x00000012
-    ++ (be 2 size ++ (be 1 0x00 ++ (be 1 0x09 ++ (be 2 0x0005 ++ (be 2 0x3E80 ++ (be 4 0x000003E8 ++ (be 2 n ++ (be 2 k ++ be 2 two))))))))))
+    ++ (be 2 size
+    ++ (be 1 0x00 ++ (be 1 0x09 ++ (be 2 0x0005 ++ (be 2 0x3E80 ++ (be 4 0x000003E8 ++ (be 2 n ++ (be 2 k ++ be 2 two))))))))))
 
 abbrev pub headerWith : ℕ → ℕ → Header
 headerWith n k = record {

@@ -1,4 +1,4 @@
--- The segment sets of document 01.
+-- Segment sets.
 pub mod Segment
 pub mod Walk
 pub mod Whole

@@ -7,7 +7,7 @@ use lib.Dec.{eqb}
 use lib.ListN.{drop}
 use Rattle.wire.specs.Checks.{pick, Check, check}
 use Rattle.wire.specs.Answers.{Answer, rule}
-use Rattle.frame.specs.Session.{headSize, dataKind, kindIn, sizeIn, bodyIn, frameChecks}
+use Rattle.frame.specs.Session.{headSize, dataKind, kindIn, bodyIn, frameChecks, wholeLong}
 use Rattle.header.specs.declared.Header.{Header}
 use Rattle.header.specs.Header.{headerSize, headerIn, dataIn, headerChecks}
 
@@ -28,7 +28,7 @@ notData rest = not (eqb (kindIn rest) dataKind)
 abbrev pub ownChecks : List ℕ → List Check
 ownChecks rest = frameChecks rest ++ (check 9 (notData rest) ∷ headerChecks (bodyIn rest))
 
--- a segment as it lies in a buffer: its header as reported, where its data begins, and where its frame ends
+-- a segment in a buffer: its header as reported, where its data begins, and where its frame ends
 pub record Placed : Type 0 where
   pub header : Header
   pub start : ℕ
@@ -38,10 +38,10 @@ abbrev pub placedIn : List ℕ → ℕ → Placed
 placedIn rest place = record {
   header = segmentIn rest .header;
   start = place + (headSize + headerSize);
-  next = place + (headSize + sizeIn rest .0);
+  next = place + wholeLong rest;
 }
 
--- what a buffer says at a place: the segment in the frame that begins there, by what that frame is checked for by itself
+-- the segment in the frame that begins at a place of the buffer, or the refusal by that frame's own checks
 unfoldable pub segmentAt : List ℕ → ℕ → Answer Placed
 segmentAt buffer place = rule (ownChecks (drop place buffer)) (placedIn (drop place buffer) place)
 
@@ -64,12 +64,12 @@ abbrev pub found : Option Segment → Bool
 found none = false
 found (some g) = true
 
--- where there is no segment, one with nothing in it
+-- a segment of no bytes where there is none
 abbrev pub orNothing : Option Segment → Segment
 orNothing none = segmentIn []
 orNothing (some g) = g
 
--- its header and its data; a header is told only of a segment that is there
+-- the header and the data of segment k; both have a meaning only if the segment is there
 abbrev pub headerNumbered : List Segment → ℕ → Header
 headerNumbered gs k = orNothing (numbered gs k) .header
 

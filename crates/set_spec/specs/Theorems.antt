@@ -7,14 +7,14 @@ use lib.ListN.{length, take}
 use Rattle.wire.specs.Answers.{refused, given, Outcome}
 use Rattle.wire.specs.Sizes.{bytes}
 use Rattle.wire.specs.Writing.{filled}
-use Rattle.frame.specs.Session.{headSize, sessionLimit, sizeIn, bodyIn}
+use Rattle.frame.specs.Session.{headSize, sessionLimit, sizeIn, bodyIn, wholeLong}
 use Rattle.header.specs.declared.Header.{Header}
 use Rattle.header.specs.Header.{headerSize, radialType, mostSegments, segmentSize}
 use Rattle.header.specs.Theorems.{Lone, numberPlace, ButTwoBytes}
 use Rattle.set_spec.specs.Walk.{SetSays, setOf}
 use Rattle.set_spec.specs.Whole.{Whole}
 
--- the outcome that accepts: segment 1's header h, and the body with its length at the start of the output
+-- the outcome of an accepted set: segment 1's header h, the body's length, and the body at the start of the output
 abbrev pub accepted : Header → List ℕ → List ℕ → Outcome (List ℕ) SetSays
 accepted h body out = record { answer = given (record { header = h; long = bytes (length body) }); output = filled body out }
 
@@ -23,8 +23,8 @@ abbrev pub AcceptedExactlyIfWhole : Type 0
 AcceptedExactlyIfWhole = (frames out : List ℕ) (h : Header) (body : List ℕ)
     → (setOf frames out ≡ accepted h body out) ↔ (Whole frames h body × (length body ≤ length out))
 
--- so many bytes at most are told and written: 128 segments of 1,208 halfwords, each without its header, and of type 31, which is one segment, a session's
--- body without the header
+-- the most bytes of a body: 128 segments of 1,208 halfwords, each without its header. A radial is one segment, so at most a session body
+-- without the header
 abbrev pub mostJoined : ℕ
 mostJoined = mostSegments * (2 * segmentSize .0 - headerSize)
 
@@ -35,34 +35,35 @@ pub record AtMost (s : SetSays) : Type 0 where
 abbrev pub BodyMost : Type 0
 BodyMost = (frames out : List ℕ) (s : SetSays) → setOf frames out .answer ≡ given s → AtMost s
 
--- and an output of so many bytes is never too small
+-- an output with room for that many bytes is never too small
 abbrev pub RoomForAny : Type 0
 RoomForAny = (frames out : List ℕ) → setOf frames out .answer ≡ refused 13 → length out < mostJoined
 
--- a set's answer does not depend on what the output held before, only on how long it is; nor do the bytes of the body
+-- the answer, and the body that is written, do not depend on what the output held before, only on its length
 abbrev pub AnswerApartFromOutput : Type 0
 AnswerApartFromOutput = (frames out out′ : List ℕ) → length out ≡ length out′
     → (setOf frames out .answer ≡ setOf frames out′ .answer)
-    × ((s : SetSays) → setOf frames out .answer ≡ given s → take (s .long .0) (setOf frames out .output) ≡ take (s .long .0) (setOf frames out′ .output))
+    × ((s : SetSays) → setOf frames out .answer ≡ given s → take (s .long .0) (setOf frames out .output)
+    ≡ take (s .long .0) (setOf frames out′ .output))
 
--- every one of these is a whole frame: as many bytes as its own head says
+-- each of these is a whole frame: it has as many bytes as its own head says
 abbrev pub WholeFrames : List (List ℕ) → Type 0
-WholeFrames each = (f : List ℕ) → List·Memᴰ f each → length f ≡ headSize + sizeIn f .0
+WholeFrames each = (f : List ℕ) → List·Memᴰ f each → length f ≡ wholeLong f
 
--- if a set is accepted, any rearrangement of its whole frames, with output of the same length, is accepted with the same header and body;
--- one refused as 12 or as 13 is refused by the same number in every rearrangement
+-- if a set is accepted, its frames in any other order, with an output of the same length, are accepted with the same header and body;
+-- a set refused as 12 or 13 is refused by the same number in any other order
 abbrev pub AnyOrder : Type 0
 AnyOrder = (each each′ : List (List ℕ)) (out out′ : List ℕ) → List·Permᴰ each each′ → WholeFrames each → length out ≡ length out′
     → ((h : Header) (body : List ℕ) → setOf (flatten each) out ≡ accepted h body out → setOf (flatten each′) out′ ≡ accepted h body out′)
     × (setOf (flatten each) out .answer ≡ refused 12 → setOf (flatten each′) out′ .answer ≡ refused 12)
     × (setOf (flatten each) out .answer ≡ refused 13 → setOf (flatten each′) out′ .answer ≡ refused 13)
 
--- what is left of a buffer begins with a frame whose body has room for a header and is a message of one segment
+-- the rest of a buffer begins with a frame whose body has room for a header and is a message of one segment
 pub record LoneFrame (rest : List ℕ) : Type 0 where
   pub headed : headerSize ≤ sizeIn rest .0
   pub lone : Lone (bodyIn rest)
 
--- "no .. set answer then depends on its two bytes" (K1), whatever whole frames stand before it and whatever bytes follow it
+-- "no .. set answer then depends on its two bytes" (K1), for any whole frames before it and any bytes after it
 abbrev pub LoneSegment : Type 0
 LoneSegment = (each : List (List ℕ)) (rest frames′ out : List ℕ) → WholeFrames each → LoneFrame rest
     → ButTwoBytes (length (flatten each) + headSize + numberPlace) (flatten each ++ rest) frames′

@@ -2,27 +2,27 @@
 use Prim.Native.Nat.{ℕ, zero, suc}
 use mathlib.Core.Bool.{Bool, true, not}
 use mathlib.Core.List.{List, [], _∷_, _++_}
-use lib.Dec.{eqb}
 use lib.ListN.{length}
-use Rattle.wire.specs.Checks.{pick, both, Check, check, decide}
+use Rattle.wire.specs.Checks.{both, Check, check}
 use Rattle.wire.specs.Answers.{Answer, refused, given, Outcome, refusal, outcome}
 use Rattle.wire.specs.Writing.{filled, roomCheck}
 use Rattle.wire.specs.Sizes.{bytes}
 use Rattle.wire.specs.declared.Bytes.{Bytes}
-use Rattle.frame.specs.Session.{after}
+use Rattle.frame.specs.Session.{wholeLong}
+use Rattle.frame.specs.Walk.{walked, Checked, answers}
 use Rattle.header.specs.declared.Header.{Header}
 use Rattle.set_spec.specs.Segment.{Segment, segmentIn, ownChecks, agreeChecks, numbered, found, headerNumbered, dataNumbered}
 
--- the header of the first of the segments met, or h where none was met before
+-- the header of the first segment met, or h if none was met
 abbrev pub firstOr : List Segment → Header → Header
 firstOr [] h = h
 firstOr (g ∷ gs) h = g .header
 
--- a number that was met
+-- segment k was met
 abbrev pub seen : List Segment → ℕ → Bool
 seen gs k = found (numbered gs k)
 
--- 10 and 11 of a header, where the segments gs were met before it
+-- checks 10 and 11 of a header, where the segments gs were met before it
 abbrev pub metChecks : List Segment → Header → List Check
 metChecks gs h = agreeChecks (firstOr gs h) h ++ (check 11 (seen gs (h .number)) ∷ [])
 
@@ -30,12 +30,17 @@ metChecks gs h = agreeChecks (firstOr gs h) h ++ (check 11 (seen gs (h .number))
 abbrev pub turnChecks : List Segment → List ℕ → List Check
 turnChecks gs rest = ownChecks rest ++ metChecks gs (segmentIn rest .header)
 
--- "A set is a buffer of frames and nothing else": each frame in turn, to the end of the buffer. The segments met, in the buffer's order,
--- or the number at which the walk stops. A frame takes bytes, so there are no more turns than bytes.
-unfoldable pub walk : ℕ → List Segment → List ℕ → Answer (List Segment)
-walk zero gs rest = given gs
-walk (suc turns) gs rest =
-    pick (eqb (length rest) 0) (given gs) (decide (turnChecks gs rest) refused (walk turns (gs ++ (segmentIn rest ∷ [])) (after rest)))
+-- "A set is a buffer of frames and nothing else": each frame in turn, with the segments met before it, in the buffer's order
+abbrev pub eachFrame : Checked (List Segment) ℕ
+eachFrame = record {
+  takes = λ gs rest. wholeLong rest;
+  next = λ gs rest. gs ++ (segmentIn rest ∷ []);
+  checks = turnChecks;
+}
+
+-- the segments met up to the end of the buffer, or the number of the refusal that stops the walk
+abbrev pub walk : List Segment → List ℕ → Answer (List Segment)
+walk gs rest = walked (answers eachFrame) gs rest
 
 -- the set's N
 abbrev pub count : List Segment → ℕ
@@ -71,6 +76,6 @@ finish (given gs) out =
     (record { header = headerNumbered gs 1; long = bytes (length (bodyOf gs)) })
     (filled (bodyOf gs) out)
 
--- what a buffer of frames answers as a set, and what then stands in the output
+-- the answer for a buffer of frames read as a set, and the contents of the output after it
 unfoldable pub setOf : List ℕ → List ℕ → Outcome (List ℕ) SetSays
-setOf frames out = finish (walk (length frames) [] frames) out
+setOf frames out = finish (walk [] frames) out

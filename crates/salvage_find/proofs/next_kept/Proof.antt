@@ -7,11 +7,8 @@ use Rattle.salvage_find.proofs.next_kept.Tie as tie
 returns : tie.Need-returns
 returns c = let a = c .before .before .args in next-past (now (a .buf)) (a .place) (c .if1 .taken)
 
-find-requires : tie.Need-find-requires
-find-requires c κs = search needs
-
 returns-2 : tie.Need-returns-2
-returns-2 c = let a = c .before .before .before .args in next-found (now (a .buf)) (a .place) (c .find .result) (c .find .ensures)
+returns-2 c = next-found (c .find .ensures)
 
 pub next-kept-spec : {M : Type 1} → statement M
-next-kept-spec = tie.close (tie.spec returns find-requires returns-2)
+next-kept-spec = tie.close (tie.spec returns (λ c κs. search needs) returns-2)

@@ -1,9 +1,6 @@
 use borrow.Author.Tests.{eq-eqb, ne-eqb}
-use borrow.Author.Needs.{needs}
 use Rattle.set.proofs.first_of.Statement.{statement}
 use Rattle.set.proofs.first_of.Tie as tie
-use Rattle.set.proofs.first_of.Reads as reads
-use Rattle.set.proofs.first_of.Lts as lts
 
 returns : tie.Need-returns
 returns c = simp (eq-eqb _ _ (c .if1 .taken))

@@ -3,82 +3,64 @@ use borrow.Author.Tests.{not-true, not-false}
 use native.Mathlib.Omega.{arith}
 use mathlib.Core.Path.{sym, _∙_}
 use Rattle.set.specs.Steps.{Met}
-use Rattle.set.proofs.SetLaws.{met-is, broken-off, most, parts-lie, parts-within, one-absent, some-absent, too-small, accepts}
+use Rattle.set.proofs.SetLaws.{met-is, broken-off, most, parts-lie, joinable, one-absent, some-absent, too-small, accepts}
 use borrow.Author.Needs.{needs}
 use Rattle.set.proofs.read_set.Statement.{statement}
 use Rattle.set.proofs.read_set.Tie as tie
-use Rattle.set.proofs.read_set.Reads as reads
-use Rattle.set.proofs.read_set.Lts as lts
-use Rattle.set.proofs.all_seen.Reads as all-seen-reads
-use Rattle.set.proofs.gather.Reads as gather-reads
-use Rattle.set.proofs.join.Reads as join-reads
-use Rattle.set.proofs.joined_length.Reads as joined-length-reads
 
 -- what the first pass left
-met : (c : tie.After-known-told2) → Met (now (c .before .before .before .before .before .before .before .before .before .args .frames)) (c .before .heads .given .0 .0) (c .before .before .before .gather .last .1 .0) (c .before .before .before .gather .last .1 .1 .0) (c .before .before .before .gather .last .1 .1 .1 .0)
-met c = met-is _ _ _ _ _ _ (c .before .before .before .gather .ensures) (c .before .heads .given .1)
-
-gather-requires : tie.Need-gather-requires
-gather-requires c κs = search needs
-
-enum-known-n : tie.Need-enum-known-n
-enum-known-n c = search needs
+met : (c : tie.After-known-told2)
+    → Met (now (c .before .before .before .before .before .before .before .before .before .args .frames))
+    (c .before .heads .given .0 .0) (c .before .before .before .gather .last .1 .0)
+    (c .before .before .before .gather .last .1 .1 .0) (c .before .before .before .gather .last .1 .1 .1 .0)
+met c = met-is (c .before .before .before .gather .ensures) (c .before .heads .given .1)
 
 returns : tie.Need-returns
-returns c = broken-off _ _ _ _ _ _ _ (c .before .before .before .gather .ensures) (c .before .n .given .1)
-
-enum-known-heads : tie.Need-enum-known-heads
-enum-known-heads c = search needs
-
-array-read-if1 : tie.Need-array-read-if1
-array-read-if1 c = search needs
+returns c = broken-off (c .before .before .before .gather .ensures) _ (c .before .n .given .1)
 
 returns-2 : tie.Need-returns-2
-returns-2 c = one-absent _ _ _ _ _ (met (c .before)) _ (not-true _ (c .if1 .taken))
-
-cast-n : tie.Need-cast-n
-cast-n c = search needs
-
-all-seen-requires : tie.Need-all-seen-requires
-all-seen-requires c κs = most _ _ _ _ _ (met (c .before .before .before))
+returns-2 c = one-absent (met (c .before)) _ (not-true _ (c .if1 .taken))
 
 returns-3 : tie.Need-returns-3
-returns-3 c = some-absent _ _ _ _ _ (met (c .before .before .before .before .before)) _ (not-false _ (c .before .before .before .before .if1 .left)) (sym (c .before .all-seen .ensures) ∙ not-true _ (c .if2 .taken))
+returns-3 c =
+    let one = c .before .before .before .before in
+    some-absent (met (one .before)) _ (not-false _ (one .if1 .left)) (sym (c .before .all-seen .ensures) ∙ not-true _ (c .if2 .taken))
 
 joined-length-requires : tie.Need-joined-length-requires
-joined-length-requires c κs = (most _ _ _ _ _ (met (c .before .before .before .before .before .before .before)), parts-lie _ _ _ _ _ (met (c .before .before .before .before .before .before .before)))
+joined-length-requires c κs =
+    let earlier = c .before .before .before .before .before .before .before in
+    let m = met earlier in
+    (most m, parts-lie m)
 
 returns-4 : tie.Need-returns-4
-returns-4 c = too-small _ _ _ _ _ (met (c .before .before .before .before .before .before .before .before .before)) _ (not-false _ (c .before .before .before .before .before .before .before .before .if1 .left)) (sym (c .before .before .before .before .before .all-seen .ensures) ∙ not-false _ (c .before .before .before .before .if2 .left)) _ (c .before .joined-length .ensures .0) (c .if3 .taken)
+returns-4 c =
+    let all = c .before .before .before .before in
+    let one = all .before .before .before .before in
+    too-small (met (one .before)) _ (not-false _ (one .if1 .left)) (sym (all .before .all-seen .ensures) ∙ not-false _ (all .if2 .left))
+    (c .before .joined-length .ensures .0) (c .if3 .taken)
 
 join-requires : tie.Need-join-requires
-join-requires c κs = (most _ _ _ _ _ (met (c .before .before .before .before .before .before .before .before .before .before .before .before)), parts-lie _ _ _ _ _ (met (c .before .before .before .before .before .before .before .before .before .before .before .before)), parts-within _ _ _ _ _ (met (c .before .before .before .before .before .before .before .before .before .before .before .before)), omega (arith, c .before .before .before .before .joined-length .ensures, c .before .before .before .if3 .left))
+join-requires c κs =
+    let room = c .before .before .before in
+    joinable (met (room .before .before .before .before .before .before .before .before .before))
+    (omega (arith, room .before .joined-length .ensures, room .if3 .left))
 
 cast-t30 : tie.Need-cast-t30
-cast-t30 c = omega (arith, c .before .before .before .before .before .before .before .before .joined-length .ensures, most _ _ _ _ _ (met (c .before .before .before .before .before .before .before .before .before .before .before .before .before .before .before .before)))
-
-same-length : tie.Need-same-length
-same-length c = search needs
+cast-t30 c =
+    let long = c .before .before .before .before .before .before .before .before in
+    omega (arith, long .joined-length .ensures, most (met (long .before .before .before .before .before .before .before .before)))
 
 returns-5 : tie.Need-returns-5
-returns-5 c = accepts _ _ _ _ _ (met (c .before .before .before .before .before .before .before .before .before .before .before .before .before .before .before .before)) _ (not-false _ (c .before .before .before .before .before .before .before .before .before .before .before .before .before .before .before .if1 .left)) (sym (c .before .before .before .before .before .before .before .before .before .before .before .before .all-seen .ensures) ∙ not-false _ (c .before .before .before .before .before .before .before .before .before .before .before .if2 .left)) _ (c .before .before .before .before .before .before .before .before .joined-length .ensures .0) (c .before .before .before .before .before .before .before .if3 .left) _ (c .before .before .before .join .ensures)
+returns-5 c =
+    let joined = c .before .before .before in
+    let room = joined .before .before .before .before in
+    let all = room .before .before .before .before in
+    let one = all .before .before .before .before in
+    accepts (met (one .before)) _ (not-false _ (one .if1 .left)) (sym (all .before .all-seen .ensures) ∙ not-false _ (all .if2 .left))
+    (room .before .joined-length .ensures .0) (room .if3 .left) (joined .join .ensures)
 
 pub read-set-spec : {M : Type 1} → statement M
 read-set-spec =
-    tie.close
-    (tie.spec
-    gather-requires
-    enum-known-n
-    returns
-    enum-known-heads
-    array-read-if1
-    returns-2
-    cast-n
-    all-seen-requires
-    returns-3
-    joined-length-requires
-    returns-4
-    join-requires
-    cast-t30
-    same-length
-    returns-5)
+    tie.close (tie.spec (λ c κs. search needs) (λ c. search needs) returns (λ c. search needs) (λ c. search needs) returns-2
+    (λ c. search needs) (λ c κs. most (met (c .before .before .before))) returns-3 joined-length-requires returns-4 join-requires
+    cast-t30 (λ c. search needs) returns-5)
