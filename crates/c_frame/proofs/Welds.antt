@@ -1,5 +1,5 @@
--- What the contract of each public function says of a call, as Rattle reads it from src/ (`Learnt`): its promise, and that no two results of one call
--- meet it. Assumes nothing.
+-- What the contract of each public function says of a call, as Rattle reads it from src/ (`Learnt`): its promise, and that no two results
+-- of one call meet it. Assumes nothing.
 use denote.Ref.{now}
 use mathlib.Core.Path.{_≡_, sym, _∙_}
 use Rattle.frame.specs.Session.{frameAt}
@@ -12,7 +12,8 @@ use Rattle.c_frame.proofs.no_header.Reads as no-header
 pub frame-says : (κs buf place r last : _) → frame.Learnt κs (buf, (place, tt)) r last → r ≡ frameFace place (frameAt (now buf) place)
 frame-says κs buf place r last l = l
 
-pub frame-one : (κs buf place r r₂ last last₂ : _) → frame.Learnt κs (buf, (place, tt)) r last → frame.Learnt κs (buf, (place, tt)) r₂ last₂ → r ≡ r₂
+pub frame-one : (κs buf place r r₂ last last₂ : _) → frame.Learnt κs (buf, (place, tt)) r last
+    → frame.Learnt κs (buf, (place, tt)) r₂ last₂ → r ≡ r₂
 frame-one κs buf place r r₂ last last₂ l l₂ = l ∙ sym l₂
 
 pub header-face-says : (κs h r last : _) → header-face.Learnt κs (h, tt) r last → r ≡ headerFace (given h)
@@ -24,5 +25,6 @@ header-face-one κs h r r₂ last last₂ l l₂ = l ∙ sym l₂
 pub no-header-says : (κs number r last : _) → no-header.Learnt κs (number, tt) r last → r ≡ headerFace (refused number)
 no-header-says κs number r last l = l
 
-pub no-header-one : (κs number r r₂ last last₂ : _) → no-header.Learnt κs (number, tt) r last → no-header.Learnt κs (number, tt) r₂ last₂ → r ≡ r₂
+pub no-header-one : (κs number r r₂ last last₂ : _) → no-header.Learnt κs (number, tt) r last
+    → no-header.Learnt κs (number, tt) r₂ last₂ → r ≡ r₂
 no-header-one κs number r r₂ last last₂ l l₂ = l ∙ sym l₂

@@ -1,6 +1,7 @@
 -- Frames and message headers as C receives them. "On a refusal every other field is 0", but for the place, which is the one given.
 use Prim.Native.Nat.{ℕ}
 use Rattle.wire.specs.Answers.{Answer, refused, given}
+use Rattle.wire.specs.Sizes.{halfwords}
 use Rattle.frame.specs.Session.{Stream, end, frame}
 use Rattle.header.specs.declared.Header.{Header}
 use Rattle.c_frame.specs.declared.UlmFrame.{UlmFrame}
@@ -22,20 +23,10 @@ frameFace place (given (frame f)) = record {
   next = f .next;
 }
 
-abbrev pub headerFace : Answer Header → UlmHeader
-headerFace (refused n) = record {
-  refusal = n;
-  size = 0;
-  channel = 0;
-  kind = 0;
-  sequence = 0;
-  date = 0;
-  ms = 0;
-  segments = 0;
-  number = 0;
-}
-headerFace (given h) = record {
-  refusal = 0;
+-- a header's eight members, after the number of refusal
+abbrev pub headerShown : ℕ → Header → UlmHeader
+headerShown number h = record {
+  refusal = number;
   size = h .size .0;
   channel = h .channel;
   kind = h .kind;
@@ -45,3 +36,10 @@ headerFace (given h) = record {
   segments = h .segments;
   number = h .number;
 }
+
+abbrev pub noHeader : Header
+noHeader = record { size = halfwords 0; channel = 0; kind = 0; sequence = 0; date = 0; milliseconds = 0; segments = 0; number = 0 }
+
+abbrev pub headerFace : Answer Header → UlmHeader
+headerFace (refused n) = headerShown n noHeader
+headerFace (given h) = headerShown 0 h

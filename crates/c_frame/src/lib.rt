@@ -2,7 +2,7 @@
 ghost use mathlib.Core.Path.{_≡_};
 ghost use Rattle.wire.specs.Answers.{refused, given};
 ghost use Rattle.frame.specs.Session.{frameAt};
-ghost use Rattle.c_frame.specs.Face.{noFrame, frameFace, headerFace};
+ghost use Rattle.c_frame.specs.Face.{noFrame, frameFace, headerShown, headerFace};
 use frame::FrameAnswer;
 use header::Header;
 
@@ -65,8 +65,20 @@ fn no_frame(number: u8, place: usize) -> UlmFrame
 pub fn header_face(h: Header) -> UlmHeader
     ensures { λ r. ⌜ r ≡ headerFace (given h) ⌝ }
 {
+    show_header(0, h)
+}
+
+pub fn no_header(number: u8) -> UlmHeader
+    ensures { λ r. ⌜ r ≡ headerFace (refused number) ⌝ }
+{
+    show_header(number, header::no_header())
+}
+
+fn show_header(number: u8, h: Header) -> UlmHeader
+    ensures { λ r. ⌜ r ≡ headerShown number h ⌝ }
+{
     UlmHeader {
-        refusal: 0,
+        refusal: number as u32,
         size: h.size.0,
         channel: h.channel as u32,
         kind: h.kind as u32,
@@ -75,21 +87,5 @@ pub fn header_face(h: Header) -> UlmHeader
         ms: h.milliseconds,
         segments: h.segments as u32,
         number: h.number as u32,
-    }
-}
-
-pub fn no_header(number: u8) -> UlmHeader
-    ensures { λ r. ⌜ r ≡ headerFace (refused number) ⌝ }
-{
-    UlmHeader {
-        refusal: number as u32,
-        size: 0,
-        channel: 0,
-        kind: 0,
-        sequence: 0,
-        date: 0,
-        ms: 0,
-        segments: 0,
-        number: 0,
     }
 }

@@ -1,4 +1,4 @@
-// What C is told by a function that writes: how much, and what its lent memory holds.
+// What C receives from a function that writes: the refusal or the length, and what the lent memory then holds.
 ghost use mathlib.Core.Path.{_≡_};
 ghost use Rattle.wire.specs.Writing.{tellWrite};
 ghost use Rattle.c_lent.specs.Face.{writtenFace};

@@ -10,8 +10,8 @@ use Rattle.wire.specs.Checks.{check}
 use Rattle.wire.specs.Answers.{rule}
 use Rattle.wire.specs.Sizes.{halfwords}
 use Rattle.wire.proofs.NumberLaws.{num-same}
-use Rattle.header.specs.Header.{headerSize, storedIn, reportedNumber, headerIn, valueChecks, headerChecks, headerOf}
-use Rattle.header.specs.Theorems.{Lone, numberPlace, LoneHeader}
+use Rattle.header.specs.Header.{headerSize, numberPlace, storedIn, reportedNumber, headerIn, valueChecks, headerChecks, headerOf}
+use Rattle.header.specs.Theorems.{Lone, LoneHeader}
 use Rattle.header.proofs.HeaderLaws.{number-lone}
 
 -- two messages that are the same up to the number, of one segment
@@ -19,9 +19,10 @@ module _ (b b′ : List ℕ) (lone : Lone b) (before : (i : ℕ) → i < numberP
   value-same : (w p : ℕ) → p + w ≤ numberPlace → num w b p ≡ num w b′ p
   value-same w p h = num-same w b b′ p p (λ i k. sym (before (p + i) (omega arith)))
 
-  number-same : reportedNumber (num 2 b 12) (num 2 b 14) ≡ reportedNumber (num 2 b′ 12) (num 2 b′ 14)
+  number-same : reportedNumber (num 2 b 12) (num 2 b numberPlace) ≡ reportedNumber (num 2 b′ 12) (num 2 b′ numberPlace)
   unfolding storedIn
-  number-same = number-lone (num 2 b 12) (num 2 b 14) lone ∙ sym (number-lone (num 2 b′ 12) (num 2 b′ 14) (sym (value-same 2 12 (omega arith)) ∙ lone))
+  number-same = number-lone (num 2 b 12) (num 2 b numberPlace) lone
+      ∙ sym (number-lone (num 2 b′ 12) (num 2 b′ numberPlace) (sym (value-same 2 12 (omega arith)) ∙ lone))
 
   pub header-same : headerIn b ≡ headerIn b′
   unfolding headerIn storedIn
@@ -41,4 +42,6 @@ module _ (b b′ : List ℕ) (lone : Lone b) (before : (i : ℕ) → i < numberP
 
 pub lone-header : LoneHeader
 unfolding headerOf
-lone-header b b′ lone but = λ i. rule (checks-same b b′ lone (but .before) (sym (but .long)) i) (header-same b b′ lone (but .before) i)
+lone-header b b′ lone but =
+    let before : (i : ℕ) → i < numberPlace → getD b′ i 0 ≡ getD b i 0 = λ i h. but .before i (omega arith) in
+    λ i. rule (checks-same b b′ lone before (sym (but .long)) i) (header-same b b′ lone before i)

@@ -16,8 +16,8 @@ use Rattle.wire.proofs.CheckLaws.{either-true, decide-none, decide-append, deci
 use Rattle.wire.proofs.AnswerLaws.{rule-given}
 use Rattle.wire.proofs.TableLaws.{spelt}
 use Rattle.header.specs.declared.Header.{Header}
-use Rattle.header.specs.Header.{headerTable, headerSize, storedIn, withNumber, reportedNumber, headerIn, radialType, countChecks, numberChecks, radialCut, segmentTooLarge, kindChecks, timeChecks, headerChecks, headerOf}
-use Rattle.header.specs.Theorems.{numberPlace, Stands, HeaderStands, Lone, beforeSegment, loneChecks, LoneByOtherChecks, NumberOutside}
+use Rattle.header.specs.Header.{headerTable, headerSize, numberPlace, storedIn, withNumber, reportedNumber, headerIn, radialType, mostSegments, countChecks, numberChecks, radialCut, segmentTooLarge, kindChecks, timeChecks, headerChecks, headerOf}
+use Rattle.header.specs.Theorems.{Stands, HeaderStands, Lone, beforeSegment, loneChecks, LoneByOtherChecks, NumberOutside}
 use Rattle.header.proofs.HeaderLaws.{number-lone, number-other}
 
 -- a message with a whole header begins with the table of its values
@@ -25,7 +25,8 @@ module _ (b : List ℕ) (o : Octets b) (long : headerSize ≤ length b) where
   stored-stands : Holds b 0 (render (headerTable (withNumber (headerIn b) (num 2 b numberPlace))))
   unfolding headerIn storedIn
   stored-stands =
-      spelt (headerTable (withNumber (headerIn b) (num 2 b numberPlace))) b 0 o long (refl, (refl, (refl, (refl, (refl, (refl, (refl, (refl, tt))))))))
+      spelt (headerTable (withNumber (headerIn b) (num 2 b numberPlace))) b 0 o long
+      (refl, (refl, (refl, (refl, (refl, (refl, (refl, (refl, tt))))))))
 
   whole-stands : Stands b (headerIn b)
   unfolding headerIn storedIn
@@ -71,7 +72,7 @@ module _ (b : List ℕ) where
 
   -- of one segment N's own checks hold, those of the number, and that of a radial
   lone-counted : Lone b → AllHold (countChecks n)
-  lone-counted lone = (le-ltb n 1 (omega (arith, lone)), (le-ltb 128 n (omega (arith, lone)), tt))
+  lone-counted lone = (le-ltb n 1 (omega (arith, lone)), (le-ltb mostSegments n (omega (arith, lone)), tt))
 
   lone-numbered : Lone b → AllHold numbered
   lone-numbered lone =
@@ -88,7 +89,8 @@ module _ (b : List ℕ) where
   accepted-others : headerOf b ≡ given (headerIn b) → AllHold (loneChecks (storedIn b) (length b))
   unfolding headerOf headerIn
   accepted-others e =
-      let p = all-hold-append before (segments ++ times) (all-hold (headerChecks b) (rule-given (headerChecks b) (headerIn b) (headerIn b) e .0)) in
+      let p = all-hold-append before (segments ++ times) (all-hold (headerChecks b) (rule-given (headerChecks b) (headerIn b)
+      (headerIn b) e .0)) in
       let q = all-hold-append segments times (p .1) in
       let kind = all-hold-append numbered kinds (all-hold-append (countChecks n) (numbered ++ kinds) (q .0) .1) .1 in
       all-hold-join before rest (p .0) (kind .1 .0, q .1)
@@ -101,7 +103,8 @@ module _ (b : List ℕ) where
       let all : AllHold (headerChecks b) =
       all-hold-join before (segments ++ times) (p .0)
       (all-hold-join segments times
-      (all-hold-join (countChecks n) (numbered ++ kinds) (lone-counted lone) (all-hold-join numbered kinds (lone-numbered lone) kind)) (p .1 .1))
+      (all-hold-join (countChecks n) (numbered ++ kinds) (lone-counted lone) (all-hold-join numbered kinds (lone-numbered lone)
+      kind)) (p .1 .1))
       in
       decide-none (headerChecks b) refused (given (headerIn b)) (none-broken (headerChecks b) all)
 

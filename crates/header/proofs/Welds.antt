@@ -1,5 +1,5 @@
--- What the contract of each public function says of a call, as Rattle reads it from src/ (`Learnt`): its promise, and that no two results of one call
--- meet it. Assumes nothing.
+-- What the contract of each public function says of a call, as Rattle reads it from src/ (`Learnt`): its promise, and that no two results
+-- of one call meet it. Assumes nothing.
 use denote.Ref.{now}
 use mathlib.Core.List.{[]}
 use mathlib.Core.Path.{_≡_, sym, _∙_}
@@ -28,14 +28,16 @@ header-apart (Refused n) (Refused m) e = cc e
 pub read-header-says : (κs message r last : _) → read-header.Learnt κs (message, tt) r last → tellHeader r ≡ headerOf (now message)
 read-header-says κs message r last l = l
 
-pub read-header-one : (κs message r r₂ last last₂ : _) → read-header.Learnt κs (message, tt) r last → read-header.Learnt κs (message, tt) r₂ last₂
+pub read-header-one : (κs message r r₂ last last₂ : _) → read-header.Learnt κs (message, tt) r last
+    → read-header.Learnt κs (message, tt) r₂ last₂
     → r ≡ r₂
 read-header-one κs message r r₂ last last₂ l l₂ = only-answer tellHeader header-apart (headerOf (now message)) r r₂ l l₂
 
 pub stored-in-says : (κs message r last : _) → stored-in.Learnt κs (message, tt) r last → r ≡ storedOr0 (now message)
 stored-in-says κs message r last l = l
 
-pub stored-in-one : (κs message r r₂ last last₂ : _) → stored-in.Learnt κs (message, tt) r last → stored-in.Learnt κs (message, tt) r₂ last₂ → r ≡ r₂
+pub stored-in-one : (κs message r r₂ last last₂ : _) → stored-in.Learnt κs (message, tt) r last
+    → stored-in.Learnt κs (message, tt) r₂ last₂ → r ≡ r₂
 stored-in-one κs message r r₂ last last₂ l l₂ = l ∙ sym l₂
 
 pub no-header-says : (κs r last : _) → no-header.Learnt κs tt r last → r ≡ headerIn []
@@ -47,7 +49,8 @@ no-header-one κs r r₂ last last₂ l l₂ = l ∙ sym l₂
 pub reported-says : (κs message s r last : _) → reported.Learnt κs (message, (s, tt)) r last → r ≡ reportedFrom (now message) s
 reported-says κs message s r last l = l
 
-pub reported-one : (κs message s r r₂ last last₂ : _) → reported.Learnt κs (message, (s, tt)) r last → reported.Learnt κs (message, (s, tt)) r₂ last₂
+pub reported-one : (κs message s r r₂ last last₂ : _) → reported.Learnt κs (message, (s, tt)) r last
+    → reported.Learnt κs (message, (s, tt)) r₂ last₂
     → r ≡ r₂
 reported-one κs message s r r₂ last last₂ l l₂ = l ∙ sym l₂
 
@@ -61,7 +64,8 @@ check-header-one κs s long r r₂ last last₂ l l₂ = l ∙ sym l₂
 pub breaks-type-says : (κs kind r last : _) → breaks-type.Learnt κs (kind, tt) r last → r ≡ notPermitted kind
 breaks-type-says κs kind r last l = l
 
-pub breaks-type-one : (κs kind r r₂ last last₂ : _) → breaks-type.Learnt κs (kind, tt) r last → breaks-type.Learnt κs (kind, tt) r₂ last₂ → r ≡ r₂
+pub breaks-type-one : (κs kind r r₂ last last₂ : _) → breaks-type.Learnt κs (kind, tt) r last
+    → breaks-type.Learnt κs (kind, tt) r₂ last₂ → r ≡ r₂
 breaks-type-one κs kind r r₂ last last₂ l l₂ = l ∙ sym l₂
 
 pub breaks-time-says : (κs date milliseconds r last : _) → breaks-time.Learnt κs (date, (milliseconds, tt)) r last

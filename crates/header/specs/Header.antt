@@ -30,6 +30,10 @@ headerTable h =
 abbrev pub headerSize : ℕ
 headerSize = 16
 
+-- where the two bytes of the segment number begin
+abbrev pub numberPlace : ℕ
+numberPlace = 14
+
 -- the values that a message begins with, as stored
 unfoldable pub storedIn : List ℕ → Stored
 storedIn b = record {
@@ -40,7 +44,7 @@ storedIn b = record {
   date = num 2 b 6;
   milliseconds = num 4 b 8;
   segments = num 2 b 12;
-  number = num 2 b 14;
+  number = num 2 b numberPlace;
 }
 
 -- "Where N is 1, any segment number is accepted and reported as 1" (K1): what the rules below are asked of, and what is reported
@@ -101,12 +105,21 @@ notTheBody size long = not (eqb (halved (bytes long) .0) (size .0))
 abbrev pub sizeChecks : Halfwords → ℕ → List Check
 sizeChecks size long = check 5 (tooSmall size) ∷ check 5 (tooLarge size) ∷ check 5 (odd long) ∷ check 5 (notTheBody size long) ∷ []
 
--- "Types permitted: 1 to 13, 15, 18, 31."
-abbrev pub permittedTypes : List ℕ
-permittedTypes = 1 ∷ 2 ∷ 3 ∷ 4 ∷ 5 ∷ 6 ∷ 7 ∷ 8 ∷ 9 ∷ 10 ∷ 11 ∷ 12 ∷ 13 ∷ 15 ∷ 18 ∷ 31 ∷ []
+-- "Types permitted: 1 to 13, 15, 18, 31.": the last of those in a row, the filter map's, the adaptation data's and the radial's
+abbrev pub lastInRow : ℕ
+lastInRow = 13
+
+abbrev pub filterMapType : ℕ
+filterMapType = 15
+
+abbrev pub adaptationType : ℕ
+adaptationType = 18
 
 abbrev pub radialType : ℕ
 radialType = 31
+
+abbrev pub permittedTypes : List ℕ
+permittedTypes = 1 ∷ 2 ∷ 3 ∷ 4 ∷ 5 ∷ 6 ∷ 7 ∷ 8 ∷ 9 ∷ 10 ∷ 11 ∷ 12 ∷ lastInRow ∷ filterMapType ∷ adaptationType ∷ radialType ∷ []
 
 abbrev pub notPermitted : ℕ → Bool
 notPermitted kind = not (among kind permittedTypes)
@@ -155,8 +168,11 @@ segmentChecks size kind n k = countChecks n ++ (numberChecks n k ++ kindChecks s
 abbrev pub dateTooLow : ℕ → Bool
 dateTooLow date = ltb date 1
 
+abbrev pub lastMillisecond : ℕ
+lastMillisecond = 86399999
+
 abbrev pub timeTooHigh : ℕ → Bool
-timeTooHigh milliseconds = ltb 86399999 milliseconds
+timeTooHigh milliseconds = ltb lastMillisecond milliseconds
 
 abbrev pub timeChecks : ℕ → ℕ → List Check
 timeChecks date milliseconds = check 8 (dateTooLow date) ∷ check 8 (timeTooHigh milliseconds) ∷ []
@@ -165,7 +181,8 @@ timeChecks date milliseconds = check 8 (dateTooLow date) ∷ check 8 (timeTooHig
 abbrev pub valueChecks : Header → ℕ → List Check
 valueChecks h long =
     sizeChecks (h .size) long
-    ++ (check 6 (notPermitted (h .kind)) ∷ segmentChecks (h .size) (h .kind) (h .segments) (h .number) ++ timeChecks (h .date) (h .milliseconds))
+    ++ (check 6 (notPermitted (h .kind)) ∷ segmentChecks (h .size) (h .kind) (h .segments) (h .number) ++ timeChecks (h .date)
+    (h .milliseconds))
 
 -- "Header: 4 to 8 rising."
 abbrev pub headerChecks : List ℕ → List Check

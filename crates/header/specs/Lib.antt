@@ -1,4 +1,4 @@
--- The message header of document 01.
+-- The message header.
 pub mod Header
 pub mod Told
 pub mod Theorems

@@ -1,4 +1,4 @@
--- What the steps of reading a header answer, each by itself: the stored values, the number of their refusal, the number that is reported.
+-- What each step of reading a header answers: the stored values, the number of refusal, the number reported.
 use Prim.Native.Nat.{ℕ}
 use mathlib.Core.List.{List, [], _∷_}
 use lib.Dec.{ltb}
@@ -7,16 +7,16 @@ use Rattle.wire.specs.Numbers.{fetched}
 use Rattle.wire.specs.Checks.{pick, check, decide}
 use Rattle.header.specs.declared.Header.{Header}
 use Rattle.header.specs.declared.Stored.{Stored}
-use Rattle.header.specs.Header.{headerSize, storedIn, reportedNumber, withNumber, asReported, valueChecks}
+use Rattle.header.specs.Header.{headerSize, numberPlace, storedIn, reportedNumber, withNumber, asReported, valueChecks}
 
--- the values of a message before they are checked: those of no bytes where the message is too short for a header
+-- the stored values of a message before the checks, or all 0 where it is too short for a header
 unfoldable pub storedOr0 : List ℕ → Stored
 storedOr0 b = pick (ltb (length b) headerSize) (storedIn []) (storedIn b)
 
--- the number of refusal of a message of `long` bytes that has the stored values s, or 0
+-- the number of refusal of a message of `long` bytes with the stored values s, or 0
 unfoldable pub refusalOf : Stored → ℕ → ℕ
 refusalOf s long = decide (check 4 (ltb long headerSize) ∷ valueChecks (asReported s) long) (λ (n : ℕ). n) 0
 
--- what is reported of the stored values s, with the number that the message b reports
+-- the reported header: the stored values s, with the segment number as reported
 abbrev pub reportedFrom : List ℕ → Stored → Header
-reportedFrom b s = withNumber (asReported s) (reportedNumber (s .segments) (fetched 2 b 14))
+reportedFrom b s = withNumber (asReported s) (reportedNumber (s .segments) (fetched 2 b numberPlace))

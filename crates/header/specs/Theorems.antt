@@ -11,13 +11,10 @@ use Rattle.wire.specs.Checks.{Check, check, AllHold}
 use Rattle.wire.specs.Answers.{refused, given}
 use Rattle.header.specs.declared.Header.{Header}
 use Rattle.header.specs.declared.Stored.{Stored}
-use Rattle.header.specs.Header.{headerTable, headerSize, storedIn, withNumber, headerIn, sizeChecks, notPermitted, segmentTooLarge, timeChecks, headerOf}
+pub use Rattle.header.specs.Header.{numberPlace}
+use Rattle.header.specs.Header.{headerTable, headerSize, numberPlace, storedIn, withNumber, headerIn, sizeChecks, notPermitted, segmentTooLarge, timeChecks, headerOf}
 
--- where the two bytes of the segment number begin
-abbrev pub numberPlace : ℕ
-numberPlace = 14
-
--- "What is read is what the interface document defines, as document 01 condenses it": the table of the header h stands at the start of b
+-- "What is read .. is what the interface document .. defines": the table of the header h stands at the start of b
 pub record Stands (b : List ℕ) (h : Header) : Type 0 where
   -- with the stored number in it, whatever that is: of a lone segment 1 is reported
   pub table : Holds b 0 (render (headerTable (withNumber h (num 2 b numberPlace))))
@@ -33,29 +30,29 @@ HeaderStands = (b : List ℕ) (h : Header) → Octets b → headerOf b ≡ given
 abbrev pub Lone : List ℕ → Type 0
 Lone b = storedIn b .segments ≡ 1
 
--- as many bytes, and the same but for the two that begin at `place`
+-- the same length, and the same bytes except the two that begin at `place`
 pub record ButTwoBytes (place : ℕ) (b b′ : List ℕ) : Type 0 where
   pub long : length b′ ≡ length b
   pub before : (i : ℕ) → i < place → getD b′ i 0 ≡ getD b i 0
   pub after : (i : ℕ) → place + 2 ≤ i → getD b′ i 0 ≡ getD b i 0
 
--- of a message of one segment the answer does not depend on the two bytes of its number
+-- for a message of one segment the answer does not depend on the two bytes of its number
 abbrev pub LoneHeader : Type 0
 LoneHeader = (b b′ : List ℕ) → Lone b → ButTwoBytes numberPlace b b′ → headerOf b ≡ headerOf b′
 
--- the checks of a message of `long` bytes with the stored values s before those of its segments: 4, the size's, the type's
+-- the checks before those of the segments: 4, the size, the type. The message has `long` bytes and the stored values s
 abbrev pub beforeSegment : Stored → ℕ → List Check
 beforeSegment s long = check 4 (ltb long headerSize) ∷ sizeChecks (s .size) long ++ (check 6 (notPermitted (s .kind)) ∷ [])
 
--- the checks of a message of one segment: those, 1,208, date and time. None of them asks for N or for the number
+-- the checks of a message of one segment: those, 1,208, date and time. None of them uses N or the number
 abbrev pub loneChecks : Stored → ℕ → List Check
 loneChecks s long = beforeSegment s long ++ (check 7 (segmentTooLarge (s .size) (s .kind)) ∷ timeChecks (s .date) (s .milliseconds))
 
--- "any segment number is accepted": a message of one segment is, exactly if all other checks hold
+-- "any segment number is accepted": a message of one segment is accepted exactly if all other checks hold
 abbrev pub LoneByOtherChecks : Type 0
 LoneByOtherChecks = (b : List ℕ) → Lone b → (headerOf b ≡ given (headerIn b)) ↔ AllHold (loneChecks (storedIn b) (length b))
 
--- "number 7 loses that cause for N = 1 only": of another N a stored number that is 0 or above N is 7
+-- "number 7 loses that cause for N = 1 only": for any other N, a stored number of 0 or above N is refused as 7
 abbrev pub NumberOutside : Type 0
 NumberOutside = (b : List ℕ) → (Lone b → ⊥) → AllHold (beforeSegment (storedIn b) (length b))
     → (storedIn b .number ≡ 0) ⊎ (storedIn b .segments < storedIn b .number) → headerOf b ≡ refused 7

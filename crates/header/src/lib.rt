@@ -4,14 +4,14 @@ ghost use mathlib.Core.List.{[]};
 ghost use Prim.Native.Nat.{_≤_};
 ghost use Rattle.wire.specs.Numbers.{fetched};
 ghost use Rattle.wire.specs.Checks.{someBroken};
-ghost use Rattle.header.specs.Header.{headerSize, storedIn, headerIn, headerOf, reportedNumber, notPermitted, sizeChecks, segmentChecks, timeChecks};
+ghost use Rattle.header.specs.Header.{headerSize, numberPlace, storedIn, headerIn, headerOf, reportedNumber, notPermitted, sizeChecks, segmentChecks, timeChecks};
 ghost use Rattle.header.specs.Steps.{storedOr0, reportedFrom, refusalOf};
 ghost use Rattle.header.specs.Told.{tellHeader};
 use wire::Bytes;
 use wire::Halfwords;
 use wire::refusal;
 
-// What is reported of a message whose header was checked. `kind` is the type of Table I, a word that the language keeps for itself.
+// The values reported of a checked header. `kind` is the type of Table I: `type` is a keyword.
 pub struct Header {
     pub size: Halfwords,
     pub channel: u8,
@@ -23,7 +23,7 @@ pub struct Header {
     pub number: u16,
 }
 
-// The values that a message begins with, as stored: not yet checked, and with a number that means nothing where N is 1.
+// The values at the start of a message as stored: not yet checked. Where N is 1 the segment number has no meaning.
 pub struct Stored {
     size: Halfwords,
     channel: u8,
@@ -42,7 +42,20 @@ pub enum HeaderAnswer {
 
 pub const HEADER: usize = 16;
 
-const MOST_BYTES: usize = 131068;
+// Where the two bytes of the segment number begin.
+const NUMBER_PLACE: u32 = 14;
+
+// The greatest size in halfwords, and the same in bytes.
+const MOST_SIZE: u32 = 65534;
+
+const MOST_BYTES: usize = MOST_SIZE as usize * 2;
+
+// The permitted types: 1 to 13, and three more.
+const LAST_IN_ROW: u8 = 13;
+
+const FILTER_MAP: u8 = 15;
+
+const ADAPTATION: u8 = 18;
 
 pub const RADIAL: u8 = 31;
 
@@ -64,7 +77,7 @@ pub fn read_header(message: &[u8]) -> HeaderAnswer
     HeaderAnswer::Read(reported(message, s))
 }
 
-// The values that a message begins with: those of no bytes where the message is too short for a header.
+// The values at the start of a message, or all 0 where the message is too short for a header.
 pub fn stored_in(message: &[u8]) -> Stored
     ensures { λ r. ⌜ r ≡ storedOr0 (now (message .entry)) ⌝ }
 {
@@ -78,7 +91,7 @@ pub fn stored_in(message: &[u8]) -> Stored
     let date = wire::fetch16(message, 6);
     let milliseconds = wire::fetch32(message, 8);
     let segments = wire::fetch16(message, 12);
-    let number = wire::fetch16(message, 14);
+    let number = wire::fetch16(message, NUMBER_PLACE);
     Stored {
         size: Halfwords(size),
         channel,
@@ -91,7 +104,7 @@ pub fn stored_in(message: &[u8]) -> Stored
     }
 }
 
-// Of no bytes it is the same, stored or reported.
+// All values 0, as stored values.
 fn nothing_stored() -> Stored
     ensures { λ r. ⌜ r ≡ storedIn [] ⌝ }
 {
@@ -109,7 +122,7 @@ fn nothing_stored() -> Stored
     }
 }
 
-// The header that no bytes spell: what stands where none was read yet.
+// A header of zeros, used until a header has been read.
 pub fn no_header() -> Header
     ensures { λ r. ⌜ r ≡ headerIn [] ⌝ }
 {
@@ -125,7 +138,7 @@ pub fn no_header() -> Header
     }
 }
 
-// What is reported of the stored values s, with the number that the message reports.
+// The reported header: the stored values s, with the segment number as reported.
 pub fn reported(message: &[u8], s: Stored) -> Header
     ensures { λ r. ⌜ r ≡ reportedFrom (now (message .entry)) s ⌝ }
 {
@@ -143,19 +156,19 @@ pub fn reported(message: &[u8], s: Stored) -> Header
     }
 }
 
-// Of one segment the two bytes are not looked at. They are fetched here once more, and not taken from what is stored, so that the compiler
-// makes a branch of it: it is quicker where most messages are of one segment.
+// Where N is 1 the two bytes of the number are ignored. They are fetched again here, not taken from the stored values, so that
+// the compiler makes a branch of it: this is quicker where most messages have one segment.
 fn number_in(message: &[u8], segments: u16) -> u16
-    ensures { λ r. ⌜ r ≡ reportedNumber segments (fetched 2 (now (message .entry)) 14) ⌝ }
+    ensures { λ r. ⌜ r ≡ reportedNumber segments (fetched 2 (now (message .entry)) numberPlace) ⌝ }
 {
     if segments != 1 {
-        return wire::fetch16(message, 14);
+        return wire::fetch16(message, NUMBER_PLACE);
     }
     1
 }
 
-// The number of refusal of a message of `long` bytes that has these stored values, or 0. It takes the values and not the bytes, so that it is
-// small enough to be put in line wherever a header is read.
+// The number of refusal of a message of `long` bytes with these stored values, or 0. It takes the values, not the bytes, so that
+// it is small enough to be inlined wherever a header is read.
 pub fn check_header(s: Stored, long: usize) -> u8
     ensures { λ r. ⌜ r ≡ refusalOf s long ⌝ }
 {
@@ -177,7 +190,7 @@ pub fn check_header(s: Stored, long: usize) -> u8
     0
 }
 
-// A header's bytes are 8 halfwords and 131,068 bytes are 65,534, so a size that is half of the message is within both limits.
+// `long` is at least a header, so a size of half of `long` is never too small. It is not too large where `long` is at most MOST_BYTES.
 fn breaks_size(size: Halfwords, long: usize) -> bool
     requires { ⌜ headerSize ≤ long ⌝ }
     ensures { λ r. ⌜ r ≡ someBroken (sizeChecks size long) ⌝ }
@@ -192,23 +205,23 @@ fn breaks_size(size: Halfwords, long: usize) -> bool
     long % 2 != 0
 }
 
-// Whether a type is not one of those permitted. Radials come first, as most messages are.
+// Whether a type is not permitted. Radials are tested first because most messages are radials.
 pub fn breaks_type(kind: u8) -> bool
     ensures { λ r. ⌜ r ≡ notPermitted kind ⌝ }
 {
     if kind == RADIAL {
         return false;
     }
-    if kind <= 13 {
+    if kind <= LAST_IN_ROW {
         return kind < 1;
     }
-    if kind == 15 {
+    if kind == FILTER_MAP {
         return false;
     }
-    kind != 18
+    kind != ADAPTATION
 }
 
-// Of one segment the number is not looked at.
+// Where N is 1 the segment number is not checked.
 fn breaks_segment(size: Halfwords, kind: u8, segments: u16, number: u16) -> bool
     ensures { λ r. ⌜ r ≡ someBroken (segmentChecks size kind segments (reportedNumber segments number)) ⌝ }
 {

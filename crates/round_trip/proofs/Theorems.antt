@@ -9,7 +9,7 @@ use Rattle.wire.specs.Checks.{AllHold}
 use Rattle.wire.proofs.WriteLaws.{accepted as accepted-write}
 use Rattle.set_spec.specs.Walk.{finish, setOf}
 use Rattle.set_spec.specs.Theorems.{accepted}
-use Rattle.writer.specs.Writing.{segmentsOf, framesFrom, framesOf, longest, writeChecks, writeOf}
+use Rattle.writer.specs.Writing.{segmentsOf, framesOf, longest, writeChecks, writeOf}
 use Rattle.writer_head.specs.declared.Given.{Given}
 use Rattle.writer.proofs.CutLaws.{cut-some, segments-cut, segments-joined, count-most}
 use Rattle.round_trip.specs.Theorems.{Fits, headerBack, RoundTrip}
@@ -35,7 +35,7 @@ frames-back g body room fits a r =
     let s : Sound g n =
     record { fits = fits; permitted = a .0; date = a .1 .0; time = a .1 .1 .0; most = count-most (g .kind) body limit .1; radial = f .1 }
     in
-    ap (λ x. finish x room) (walk-all g n s parts [] (length (framesFrom g n 1 parts)) 1 (f .0) refl (omega arith) (omega arith))
+    ap (λ x. finish x room) (walk-all g n s parts [] 1 (f .0) refl (omega arith))
     ∙ finish-back g n parts body room refl (some-segment (g .kind) body) (segments-joined (g .kind) body) r
 
 pub round-trip : RoundTrip

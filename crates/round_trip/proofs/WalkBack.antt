@@ -1,5 +1,5 @@
 -- All frames of a written message, walked: the segments met are those that were written, in order. Assumes nothing.
-use Prim.Native.Nat.{ℕ, zero, suc, _+_, _≤_, _<_}
+use Prim.Native.Nat.{ℕ, _+_, _≤_}
 use native.Mathlib.Omega.{arith}
 use mathlib.Core.Path.{_≡_, refl, sym, ap, subst, _∙_}
 use mathlib.Core.Bool.{false, not}
@@ -10,12 +10,15 @@ use lib.ListN.{length, length-append}
 use borrow.Author.Tests.{eq-eqb, ne-eqb}
 use Rattle.wire.specs.Checks.{Check, check, AllHold}
 use Rattle.wire.specs.Sizes.{bytes}
-use Rattle.wire.specs.Answers.{refused, given}
-use Rattle.wire.proofs.CheckLaws.{decide-none, none-broken, all-hold-join}
-use Rattle.frame.specs.Session.{after}
+use Rattle.wire.specs.Answers.{given}
+use Rattle.wire.proofs.CheckLaws.{none-broken, all-hold-join}
 use Rattle.set_spec.specs.Segment.{Segment, segmentIn, ownChecks, agreeChecks, numbered, found}
-use Rattle.set_spec.specs.Walk.{firstOr, seen, turnChecks, walk}
-use Rattle.writer_head.specs.Head.{headerFor}
+use Rattle.frame.specs.Walk.{answers}
+use Rattle.frame.proofs.WalkLaws.{walked-end, walk-goes}
+use Rattle.set_spec.specs.Walk.{firstOr, seen, turnChecks, eachFrame, walk}
+use Rattle.frame.proofs.FrontLaws.{frames-take}
+use Rattle.header.specs.Header.{headerSize}
+use Rattle.writer_head.specs.Head.{headerFor, headsSize}
 use Rattle.writer.specs.Writing.{frameOf, framesFrom}
 use Rattle.writer_head.specs.declared.Given.{Given}
 use Rattle.writer.proofs.FrameLaws.{frame-length}
@@ -24,7 +27,7 @@ use Rattle.round_trip.proofs.PartLaws.{AllFit}
 
 -- the segments as they were written, from number k on
 abbrev pub segment : Given → ℕ → ℕ → List ℕ → Segment
-segment g n k part = record { header = headerFor g n k (bytes (16 + length part)); content = part }
+segment g n k part = record { header = headerFor g n k (bytes (headerSize + length part)); content = part }
 
 unfoldable pub written : Given → ℕ → ℕ → List (List ℕ) → List Segment
 written g n k [] = []
@@ -58,19 +61,6 @@ agrees g n (d ∷ done) k part = (same (g .channel), (same (g .kind), (same (g .
 abbrev afterOwn : List Segment → Segment → List Check
 afterOwn gs x = agreeChecks (firstOr gs (x .header)) (x .header) ++ (check 11 (seen gs (x .header .number)) ∷ [])
 
-walk-end : (turns : ℕ) (gs : List Segment) → walk turns gs [] ≡ given gs
-unfolding walk
-walk-end zero gs = refl
-walk-end (suc turns) gs = refl
-
--- one turn: a frame whose checks hold adds its segment
-walk-turn : (turns : ℕ) (gs : List Segment) (rest : List ℕ) → 0 < length rest → AllHold (turnChecks gs rest)
-    → walk (suc turns) gs rest ≡ walk turns (gs ++ (segmentIn rest ∷ [])) (after rest)
-unfolding walk
-walk-turn turns gs rest h a =
-    let z : eqb (length rest) 0 ≡ false = ne-eqb (length rest) 0 (λ e. omega arith) in
-    simp z (decide-none (turnChecks gs rest) refused (walk turns (gs ++ (segmentIn rest ∷ [])) (after rest)) (none-broken (turnChecks gs rest) a))
-
 module _ (g : Given) (n : ℕ) (s : Sound g n) where
   -- the checks of a frame's turn, where those before it were met
   turn-holds : (done : List (List ℕ)) (k : ℕ) (part rest : List ℕ) → PartFits (g .kind) part → 1 + length done ≡ k → k ≤ n
@@ -87,25 +77,25 @@ module _ (g : Given) (n : ℕ) (s : Sound g n) where
       (agrees g n done k part)
       (u, tt)))
 
-  pub walk-all : (parts done : List (List ℕ)) (turns k : ℕ) → AllFit (g .kind) parts → 1 + length done ≡ k → k + length parts ≤ n + 1
-      → length (framesFrom g n k parts) ≤ turns
-      → walk turns (written g n 1 done) (framesFrom g n k parts) ≡ given (written g n 1 (done ++ parts))
+  pub walk-all : (parts done : List (List ℕ)) (k : ℕ) → AllFit (g .kind) parts → 1 + length done ≡ k → k + length parts ≤ n + 1
+      → walk (written g n 1 done) (framesFrom g n k parts) ≡ given (written g n 1 (done ++ parts))
   unfolding framesFrom
-  walk-all [] done turns k a e h t = walk-end turns (written g n 1 done) ∙ ap (λ (l : List (List ℕ)). given (written g n 1 l)) (sym (append-nil done))
-  walk-all (part ∷ parts) done zero k a e h t =
-      absurd (let l : length (frameOf g n k part ++ framesFrom g n (k + 1) parts) ≡ length (frameOf g n k part) + length (framesFrom g n (k + 1) parts) = length-append (frameOf g n k part) (framesFrom g n (k + 1) parts) in omega (arith, frame-length g n k part))
-  walk-all (part ∷ parts) done (suc turns) k a e h t =
+  walk-all [] done k a e h =
+      walked-end (answers eachFrame) frames-take (written g n 1 done) [] refl
+      ∙ ap (λ (l : List (List ℕ)). given (written g n 1 l)) (sym (append-nil done))
+  walk-all (part ∷ parts) done k a e h =
+      let gs = written g n 1 done in
       let rest = framesFrom g n (k + 1) parts in
       let f = frameOf g n k part ++ rest in
-      let l : length f ≡ 28 + length part + length rest = length-append (frameOf g n k part) rest ∙ omega (arith, frame-length g n k part) in
+      let l : length f ≡ headsSize + length part + length rest
+      = length-append (frameOf g n k part) rest ∙ omega (arith, frame-length g n k part) in
       let low : 1 ≤ k = omega arith in
       let high : k ≤ n = omega arith in
-      let more : written g n 1 done ++ (segmentIn f ∷ []) ≡ written g n 1 (done ++ (part ∷ [])) =
-      ap (λ (x : Segment). written g n 1 done ++ (x ∷ [])) (segment-back g n k part rest s (a .0) low high) ∙ written-more g n 1 done part k e
-      in
+      let more : gs ++ (segmentIn f ∷ []) ≡ written g n 1 (done ++ (part ∷ []))
+      = ap (λ (x : Segment). gs ++ (x ∷ [])) (segment-back g n k part rest s (a .0) low high) ∙ written-more g n 1 done part k e in
       let d : 1 + length (done ++ (part ∷ [])) ≡ k + 1 = simp length-append (omega arith) in
-      walk-turn turns (written g n 1 done) f (omega arith) (turn-holds done k part rest (a .0) e high)
-      ∙ ap (λ (x : List ℕ). walk turns (written g n 1 done ++ (segmentIn f ∷ [])) x) (after-back g n k part rest s (a .0) low high)
-      ∙ ap (λ (x : List Segment). walk turns x rest) more
-      ∙ walk-all parts (done ++ (part ∷ [])) turns (k + 1) (a .1) d (omega arith) (omega arith)
+      walk-goes eachFrame frames-take gs f (omega arith) (none-broken (turnChecks gs f) (turn-holds done k part rest (a .0) e high))
+      ∙ ap (λ (x : List ℕ). walk (gs ++ (segmentIn f ∷ [])) x) (after-back g n k part rest s (a .0) low high)
+      ∙ ap (λ (x : List Segment). walk x rest) more
+      ∙ walk-all parts (done ++ (part ∷ [])) (k + 1) (a .1) d (omega arith)
       ∙ ap (λ (x : List (List ℕ)). given (written g n 1 x)) (append-assoc done (part ∷ []) parts)

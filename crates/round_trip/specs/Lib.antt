@@ -1,2 +1,2 @@
--- Demand 2: a message that was written comes back.
+-- Demand 2: a written message is read back unchanged.
 pub mod Theorems

@@ -1,4 +1,4 @@
--- Demand 2: what was written as frames comes back as the message that was given.
+-- Demand 2: the frames that were written are read back as the message that was given.
 use Prim.Native.Nat.{ℕ, _+_, _^_, _≤_, _<_}
 use mathlib.Core.Path.{_≡_}
 use mathlib.Core.List.{List, [], _∷_}
@@ -39,8 +39,9 @@ headerBack g body = record {
   number = 1;
 }
 
--- for every type, body and number of segments: what an accepted write put down, read as a set into a room that suffices,
--- gives that header and the body, and leaves the rest of the room as it was
+-- for every type, body and number of segments: what an accepted write wrote, read as a set into an output with enough room,
+-- gives that header and the body, and leaves the rest of the output as it was
 abbrev pub RoundTrip : Type 0
-RoundTrip = (g : Given) (body out room : List ℕ) (size : Bytes) → Fits g → writeOf g body out .answer ≡ given size → length body ≤ length room
+RoundTrip = (g : Given) (body out room : List ℕ) (size : Bytes) → Fits g → writeOf g body out .answer ≡ given size
+    → length body ≤ length room
     → setOf (take (size .0) (writeOf g body out .output)) room ≡ accepted (headerBack g body) body room

@@ -2,39 +2,44 @@
 use Prim.Native.Nat.{ℕ, _+_, _-_, _*_}
 use native.Mathlib.Omega.{arith}
 use mathlib.Core.Path.{_≡_, refl, sym, ap, _∙_}
-use mathlib.Core.List.{List, [], _∷_, _++_, append-assoc}
+use mathlib.Core.List.{List, [], _∷_, _++_, append-assoc, flatten}
 use lib.ListN.{length, take, drop, length-append}
 use lib.Seq.{take-at, drop-at, drop-drop}
 use Rattle.wire.specs.Sizes.{bytes}
+use Rattle.wire.specs.Writing.{filled}
 use Rattle.wire.specs.declared.Bytes.{Bytes}
+use Rattle.header.specs.Header.{headerSize}
 use Rattle.writer_head.specs.declared.Given.{Given}
-use Rattle.writer_head.specs.Head.{heads}
+use Rattle.writer_head.specs.Head.{headsSize, heads}
 use Rattle.writer.specs.Writing.{frameOf, framesFrom}
-use Rattle.writer.proofs.CutLaws.{joined}
 
-pub heads-length : (given : Given) (n k : ℕ) (size : Bytes) → length (heads given n k size) ≡ 28
+pub heads-length : (given : Given) (n k : ℕ) (size : Bytes) → length (heads given n k size) ≡ headsSize
 unfolding heads
 heads-length given n k size = refl
 
-pub frame-length : (given : Given) (n k : ℕ) (part : List ℕ) → length (frameOf given n k part) ≡ 28 + length part
+pub frame-length : (given : Given) (n k : ℕ) (part : List ℕ) → length (frameOf given n k part) ≡ headsSize + length part
 unfolding frameOf
 frame-length given n k part =
-    length-append (heads given n k (bytes (16 + length part))) part ∙ ap (λ (l : ℕ). l + length part) (heads-length given n k (bytes (16 + length part)))
+    let size = bytes (headerSize + length part) in
+    length-append (heads given n k size) part ∙ ap (λ (l : ℕ). l + length part) (heads-length given n k size)
 
 pub frames-length : (given : Given) (n k : ℕ) (parts : List (List ℕ))
-    → length (framesFrom given n k parts) ≡ length (joined parts) + 28 * length parts
-unfolding framesFrom
+    → length (framesFrom given n k parts) ≡ length (flatten parts) + headsSize * length parts
+unfolding framesFrom flatten
 frames-length given n k [] = refl
 frames-length given n k (part ∷ parts) =
     simp length-append (omega (arith, frame-length given n k part, frames-length given n (k + 1) parts))
 
 -- the heads in front and then the data: the frame, and the rest as it was
-pub frame-done : (given : Given) (n k : ℕ) (part out h d : List ℕ) → h ≡ heads given n k (bytes (16 + length part)) → d ≡ part
-    → take 28 (h ++ drop 28 out) ++ (d ++ drop (28 + length part - 28) (drop 28 (h ++ drop 28 out)))
-    ≡ frameOf given n k part ++ drop (28 + length part) out
+pub frame-done : (given : Given) (n k : ℕ) (part out h d : List ℕ) → h ≡ heads given n k (bytes (headerSize + length part)) → d ≡ part
+    → take headsSize (h ++ drop headsSize out)
+    ++ (d ++ drop (headsSize + length part - headsSize) (drop headsSize (h ++ drop headsSize out)))
+    ≡ filled (frameOf given n k part) out
 unfolding frameOf
 frame-done given n k part out h d e f =
-    let l : length h ≡ 28 = ap length e ∙ heads-length given n k (bytes (16 + length part)) in
-    let z : 28 + length part - 28 ≡ length part = omega arith in
-    rw (take-at h (drop 28 out) 28 l, drop-at h (drop 28 out) 28 l, z, drop-drop (length part) 28 out, e, f)
-    (sym (append-assoc (heads given n k (bytes (16 + length part))) part (drop (28 + length part) out)))
+    let l : length h ≡ headsSize = ap length e ∙ heads-length given n k (bytes (headerSize + length part)) in
+    let z : headsSize + length part - headsSize ≡ length part = omega arith in
+    let whole : length (h ++ part) ≡ headsSize + length part = length-append h part ∙ ap (λ (x : ℕ). x + length part) l in
+    let left = drop headsSize out in
+    rw (take-at h left headsSize l, drop-at h left headsSize l, z, drop-drop (length part) headsSize out, ← e, f, whole)
+    (sym (append-assoc h part (drop (headsSize + length part) out)))

@@ -1,3 +1,3 @@
--- Frames written, as document 01 has it under "Writing".
+-- Frames written.
 pub mod Writing
 pub mod Theorems

@@ -17,7 +17,7 @@ use Rattle.writer_head.specs.Head.{heads}
 abbrev pub segmentData : Bytes
 segmentData = bytes 2400
 
--- at most `cuts` cuts are made; each takes bytes away, so no body can be cut more often than it has bytes
+-- at most `cuts` cuts are made. Each cut takes bytes away, so a body has no more cuts than bytes
 unfoldable pub cut : ℕ → List ℕ → List (List ℕ)
 cut zero body = body ∷ []
 cut (suc cuts) body =
@@ -60,6 +60,6 @@ writeChecks given body =
     ∷ check 26 (ltb (longest (given .kind) .0) (length body))
     ∷ [])
 
--- what the writer answers, and the output then
+-- the writer's answer, and the contents of the output after it
 unfoldable pub writeOf : Given → List ℕ → List ℕ → Outcome (List ℕ) Bytes
 writeOf given body out = written (writeChecks given body) (framesOf given body) out

@@ -1,10 +1,10 @@
 // Frames written: a body is cut into segments, and each becomes a data frame in the lent output.
 ghost use mathlib.Core.Path.{_≡_};
-ghost use mathlib.Core.List.{_++_};
-ghost use Prim.Native.Nat.{_+_, _≤_, _<_};
-ghost use lib.ListN.{length, drop};
+ghost use Prim.Native.Nat.{_+_, _^_, _≤_, _<_};
+ghost use lib.ListN.{length};
 ghost use Rattle.wire.specs.Answers.{Promise};
 ghost use Rattle.wire.specs.Writing.{filled, tellWrite};
+ghost use Rattle.writer_head.specs.Head.{headsSize};
 ghost use Rattle.writer.specs.Writing.{segmentsOf, frameOf, framesOf, longest, writeOf};
 use header::RADIAL;
 use wire::Bytes;
@@ -19,9 +19,10 @@ const SEGMENT_DATA: usize = 2400;
 
 const LONGEST_BODY: usize = 307200;
 
-const LONGEST_RADIAL: usize = 131052;
+// The most data of a radial: a session body without the message header.
+const LONGEST_RADIAL: usize = frame::SESSION_LIMIT as usize - header::HEADER;
 
-// The body as frames from the start of the output, and their length. Where it is refused nothing is written.
+// Writes the body as frames from the start of the output and reports their length. A refusal writes nothing.
 pub fn write_message(given: Given, body: &[u8], out: &mut [u8]) -> WriteAnswer
     ensures { λ r. ⌜ Promise tellWrite (writeOf given (now (body .entry)) (now (out .entry))) r (now (out .exit)) ⌝ }
 {
@@ -55,7 +56,7 @@ fn longest_of(kind: u8) -> usize
     LONGEST_BODY
 }
 
-// The number of segments: one more for each 2,400 bytes that another follows.
+// The number of segments: the body's length over 2,400, rounded up, and at least 1. A radial has one.
 fn segments_of(kind: u8, body: &[u8]) -> usize
     ensures { λ r. ⌜ r ≡ length (segmentsOf kind (now (body .entry))) ⌝ }
 {
@@ -70,7 +71,7 @@ fn segments_of(kind: u8, body: &[u8]) -> usize
 
 // All frames from the start of the output, which has room for them.
 fn write_frames(given: Given, n: u16, body: &[u8], out: &mut [u8])
-    requires { ⌜ (n ≡ length (segmentsOf (given .kind) (now body))) × (length (now body) ≤ 307200) × (length (framesOf given (now body)) ≤ length (now out)) ⌝ }
+    requires { ⌜ (n ≡ length (segmentsOf (given .kind) (now body))) × (length (now body) < 2 ^ 31) × (length (framesOf given (now body)) ≤ length (now out)) ⌝ }
     ensures { λ r. ⌜ now (out .exit) ≡ filled (framesOf given (now (body .entry))) (now (out .entry)) ⌝ }
 {
     let mut k: u16 = 1;
@@ -86,10 +87,10 @@ fn write_frames(given: Given, n: u16, body: &[u8], out: &mut [u8])
     write_frame(given, n, k, &body[start..], &mut out[place..]);
 }
 
-// One frame at the start of a part of the output.
+// Writes one frame at the start of a part of the output.
 fn write_frame(given: Given, n: u16, k: u16, part: &[u8], out: &mut [u8])
-    requires { ⌜ (length (now part) ≤ 307200) × (28 + length (now part) ≤ length (now out)) ⌝ }
-    ensures { λ r. ⌜ now (out .exit) ≡ frameOf given n k (now (part .entry)) ++ drop (28 + length (now (part .entry))) (now (out .entry)) ⌝ }
+    requires { ⌜ (length (now part) < 2 ^ 31) × (headsSize + length (now part) ≤ length (now out)) ⌝ }
+    ensures { λ r. ⌜ now (out .exit) ≡ filled (frameOf given n k (now (part .entry))) (now (out .entry)) ⌝ }
 {
     let head = writer_head::heads_of(given, n, k, Bytes(HEADER + part.len() as u32));
     let end = HEADS + part.len();

@@ -3,7 +3,7 @@ ghost use mathlib.Core.Path.{_≡_};
 ghost use Rattle.writer_head.specs.Head.{heads};
 use wire::Bytes;
 
-// What every segment repeats. `kind` is the type of Table I, a word that the language keeps for itself.
+// The values that every segment repeats. `kind` is the type of Table I: `type` is a keyword.
 pub struct Given {
     pub channel: u8,
     pub kind: u8,
@@ -14,10 +14,10 @@ pub struct Given {
 
 const DATA_KIND: u8 = frame::DATA as u8;
 
-pub const HEADS: usize = 28;
+pub const HEADS: usize = frame::HEAD + header::HEADER;
 
-// The bytes before the data of segment k of n, which is a message of `size` with its header.
-pub fn heads_of(given: Given, n: u16, k: u16, size: Bytes) -> [u8; 28]
+// The bytes before the data of segment k of n. The message with its header has `size` bytes.
+pub fn heads_of(given: Given, n: u16, k: u16, size: Bytes) -> [u8; HEADS]
     ensures { λ r. ⌜ r ≡ heads given n k size ⌝ }
 {
     let long = size.0;

@@ -3,8 +3,6 @@ use Rattle.header.specs.Header.{storedIn, headerIn}
 use Rattle.wire.specs.Numbers.{num}
 use Rattle.header.proofs.no_header.Statement.{statement}
 use Rattle.header.proofs.no_header.Tie as tie
-use Rattle.header.proofs.no_header.Reads as reads
-use Rattle.header.proofs.no_header.Lts as lts
 
 returns : tie.Need-returns
 unfolding headerIn storedIn num

@@ -4,15 +4,9 @@ use Rattle.header.specs.Header.{asReported, withNumber}
 use borrow.Author.Needs.{needs}
 use Rattle.header.proofs.reported.Statement.{statement}
 use Rattle.header.proofs.reported.Tie as tie
-use Rattle.header.proofs.reported.Reads as reads
-use Rattle.header.proofs.reported.Lts as lts
-use Rattle.header.proofs.number_in.Reads as number-in-reads
-
-number-in-requires : tie.Need-number-in-requires
-number-in-requires c κs = search needs
 
 returns : tie.Need-returns
 returns c = ap (λ (k : ℕ). withNumber (asReported (c .before .before .before .args .s)) k) (c .number-in .ensures)
 
 pub reported-spec : {M : Type 1} → statement M
-reported-spec = tie.close (tie.spec number-in-requires returns)
+reported-spec = tie.close (tie.spec (λ c κs. search needs) returns)

@@ -1,13 +1,7 @@
--- `longest_of` meets its contract. Assumes nothing.
 use borrow.Author.Tests.{eq-eqb, ne-eqb}
+use borrow.Author.Needs.{needs}
 use Rattle.writer.proofs.longest_of.Statement.{statement}
 use Rattle.writer.proofs.longest_of.Tie as tie
 
-returns : tie.Need-returns
-returns c = simp (eq-eqb _ _ (c .if1 .taken))
-
-returns-2 : tie.Need-returns-2
-returns-2 c = simp (ne-eqb _ _ (c .if1 .left))
-
 pub longest-of-spec : {M : Type 1} → statement M
-longest-of-spec = tie.close (tie.spec returns returns-2)
+longest-of-spec = tie.close (tie.spec (λ c. search (needs, eq-eqb)) (λ c. search (needs, ne-eqb)))
