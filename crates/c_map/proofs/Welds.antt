@@ -1,5 +1,5 @@
--- What the contract of each public function says of a call, as Rattle reads it from src/ (`Learnt`): its promise, and that no two results of one call
--- meet it. Assumes nothing.
+-- What the contract of each public function says of a call, as Rattle reads it from src/ (`Learnt`): its promise, and that no two results
+-- of one call meet it. Assumes nothing.
 use denote.Ref.{now}
 use mathlib.Core.Path.{_≡_, sym, _∙_}
 use Rattle.map_spec.specs.Reading.{codeOf, summaryOf}
@@ -13,7 +13,8 @@ map-says κs body r last l = l
 pub map-one : (κs body r r₂ last last₂ : _) → map.Learnt κs (body, tt) r last → map.Learnt κs (body, tt) r₂ last₂ → r ≡ r₂
 map-one κs body r r₂ last last₂ l l₂ = l ∙ sym l₂
 
-pub map-code-says : (κs body elevation azimuth kilometre r last : _) → map-code.Learnt κs (body, (elevation, (azimuth, (kilometre, tt)))) r last
+pub map-code-says : (κs body elevation azimuth kilometre r last : _)
+    → map-code.Learnt κs (body, (elevation, (azimuth, (kilometre, tt)))) r last
     → r ≡ mapCodeFace (codeOf (now body) elevation azimuth kilometre)
 map-code-says κs body elevation azimuth kilometre r last l = l
 

@@ -1,4 +1,5 @@
--- Two parts that begin with bytes that are the same: four bytes more, the azimuth that lies in them, and what is left after it. Assumes nothing.
+-- Two parts that begin with bytes that are the same: four bytes more, the azimuth that lies in them, and what is left after it. Assumes
+-- nothing.
 use Prim.Native.Nat.{ℕ, zero, suc, _+_, _*_, _-_, _≤_, _<_}
 use native.Mathlib.Omega.{arith}
 use mathlib.Core.Path.{_≡_, refl, sym, ap, _∙_}
@@ -8,17 +9,16 @@ use lib.Dec.{ltb}
 use lib.ListN.{length, getD, take, drop}
 use lib.Seq.{getD-take, getD-drop}
 use borrow.Author.Tests.{ltb-true, ltb-false}
-use Rattle.wire.specs.Numbers.{num, be, fetched, Octets}
-use Rattle.wire.specs.Checks.{AllHold}
+use Rattle.wire.specs.Numbers.{num, be, Octets}
 use Rattle.wire.proofs.NumberLaws.{num-same, be-num}
+use Rattle.map_spec.specs.Map.{fieldSize, zoneSize}
 use Rattle.map_spec.specs.Reading.{value, after, zonesIn, azimuthPart}
-use Rattle.map_spec.proofs.Accepted.{azimuth-long}
-use Rattle.map_spec.proofs.PartLaws.{fetched-value}
 use Rattle.compare.specs.Steps.{Same}
 
 -- ---- four bytes more, by their number
-module _ (old new : List ℕ) (octetsOld : Octets old) (octetsNew : Octets new) (at : ℕ) (inOld : at + 4 ≤ length old) (inNew : at + 4 ≤ length new)
-    (e : num 4 old at ≡ num 4 new at)
+module _ (old new : List ℕ) (octetsOld : Octets old) (octetsNew : Octets new) (at : ℕ) (inOld : at + zoneSize ≤ length old)
+    (inNew : at + zoneSize ≤ length new)
+    (e : num zoneSize old at ≡ num zoneSize new at)
   where
     four-same : take 4 (drop at old) ≡ take 4 (drop at new)
     four-same = sym (be-num 4 old at octetsOld inOld) ∙ ap (λ (n : ℕ). be 4 n) e ∙ be-num 4 new at octetsNew inNew
@@ -28,7 +28,7 @@ module _ (old new : List ℕ) (octetsOld : Octets old) (octetsNew : Octets new) 
         let f : at + (k - at) ≡ k = omega arith in
         getD-take 4 (drop at b) (k - at) 0 (omega arith) ∙ getD-drop at b (k - at) 0 ∙ ap (λ (n : ℕ). getD b n 0) f
 
-    pub same-more : Same at old new → Same (at + 4) old new
+    pub same-more : Same at old new → Same (at + zoneSize) old new
     same-more s k h = go (ltb k at) refl
       where
         go : (t : Bool) → ltb k at ≡ t → getD old k 0 ≡ getD new k 0
@@ -38,7 +38,7 @@ module _ (old new : List ℕ) (octetsOld : Octets old) (octetsNew : Octets new) 
             sym (byte-in old k l h) ∙ ap (λ (b : List ℕ). getD b (k - at) 0) four-same ∙ byte-in new k l h
 
 -- ---- after so many bytes
-pub same-after : (p n : ℕ) (old new : List ℕ) → Same (p + n) old new → Same n (drop p old) (drop p new)
+same-after : (p n : ℕ) (old new : List ℕ) → Same (p + n) old new → Same n (drop p old) (drop p new)
 same-after p n old new s k h = getD-drop p old k 0 ∙ s (p + k) (omega arith) ∙ sym (getD-drop p new k 0)
 
 same-fewer : (m n : ℕ) (old new : List ℕ) → m ≤ n → Same n old new → Same m old new
@@ -53,36 +53,28 @@ unfolding zonesIn
 zones-same zero old new s = refl
 zones-same (suc n) old new s =
     let codes : value old ≡ value new = value-same old new (same-fewer 2 (4 * suc n) old new (omega arith) s) in
-    let rest : Same (2 + 4 * n) (after old) (after new) = same-after 2 (2 + 4 * n) old new (same-fewer (2 + (2 + 4 * n)) (4 * suc n) old new (omega arith) s) in
-    let ends : value (after old) ≡ value (after new) = value-same (after old) (after new) (same-fewer 2 (2 + 4 * n) (after old) (after new) (omega arith) rest) in
+    let rest : Same (2 + 4 * n) (after old) (after new) = same-after 2 (2 + 4 * n) old new
+    (same-fewer (2 + (2 + 4 * n)) (4 * suc n) old new (omega arith) s) in
+    let ends : value (after old) ≡ value (after new) = value-same (after old) (after new) (same-fewer 2 (2 + 4 * n) (after old)
+    (after new) (omega arith) rest) in
     let zones = zones-same n (after (after old)) (after (after new)) (same-after 2 (4 * n) (after old) (after new) rest) in
     λ i. record { code = codes i; end = ends i } ∷ zones i
 
 -- ---- the azimuth that they begin with
-module _ (old new : List ℕ) (checkedOld : AllHold (azimuthPart .checks old)) (checkedNew : AllHold (azimuthPart .checks new)) (same size : ℕ) (s : Same same old new)
-    (sized : size ≡ 2 + 4 * fetched 2 old 0)
-  where
-    count-old : fetched 2 old 0 ≡ value old
-    count-old = let l = azimuth-long old checkedOld in fetched-value old 0 (omega (arith, l))
+module _ (old new : List ℕ) (same : ℕ) (s : Same same old new) (inside : azimuthPart .size old ≤ same) where
+  counts-same : value old ≡ value new
+  counts-same = value-same old new (same-fewer fieldSize same old new (omega arith) s)
 
-    count-new : fetched 2 new 0 ≡ value new
-    count-new = let l = azimuth-long new checkedNew in fetched-value new 0 (omega (arith, l))
+  pub azimuth-same : azimuthPart .read old ≡ azimuthPart .read new
+  azimuth-same =
+      zones-same (value old) (after old) (after new)
+      (same-after fieldSize (zoneSize * value old) old new (same-fewer (azimuthPart .size old) same old new inside s))
+      ∙ ap (λ (n : ℕ). zonesIn n (after new)) counts-same
 
-    module _ (inside : size ≤ same) where
-      counts-same : value old ≡ value new
-      counts-same = value-same old new (same-fewer 2 same old new (omega arith) s)
+  pub size-same : azimuthPart .size old ≡ azimuthPart .size new
+  size-same = ap (λ (n : ℕ). fieldSize + zoneSize * n) counts-same
 
-      pub azimuth-same : azimuthPart .read old ≡ azimuthPart .read new
-      azimuth-same =
-          zones-same (value old) (after old) (after new)
-          (same-after 2 (4 * value old) old new (same-fewer (2 + 4 * value old) same old new (omega (arith, count-old)) s))
-          ∙ ap (λ (n : ℕ). zonesIn n (after new)) counts-same
-
-      pub size-same : size ≡ 2 + 4 * fetched 2 new 0
-      size-same = omega (arith, count-old, count-new, counts-same)
-
-    pub same-beyond : (size′ rest : ℕ) → size′ ≡ 2 + 4 * fetched 2 new 0 → rest ≡ same - size → Same rest (drop size old) (drop size′ new)
-    same-beyond size′ rest sized′ left k h =
-        let e : size ≡ size′ = size-same (omega (arith, left)) ∙ sym sized′ in
-        same-after size (same - size) old new (same-fewer (size + (same - size)) same old new (omega (arith, left)) s) k (omega (arith, left))
-        ∙ ap (λ (n : ℕ). getD (drop n new) k 0) e
+  pub same-beyond : Same (same - azimuthPart .size old) (drop (azimuthPart .size old) old) (drop (azimuthPart .size old) new)
+  same-beyond =
+      same-after (azimuthPart .size old) (same - azimuthPart .size old) old new
+      (same-fewer (azimuthPart .size old + (same - azimuthPart .size old)) same old new (omega arith) s)

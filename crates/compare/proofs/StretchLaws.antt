@@ -7,6 +7,7 @@ use mathlib.Core.Bool.{Bool, true, false}
 use mathlib.Core.List.{List, [], _++_}
 use borrow.Author.Tests.{eq-eqb}
 use Rattle.wire.specs.Checks.{pick}
+use Rattle.map_spec.specs.Map.{lastKilometre, kilometres}
 use Rattle.compare_spec.specs.Differences.{Difference, stay, stretch, stretches}
 
 -- codes that are the same list nothing
@@ -56,7 +57,8 @@ module _ (elevation azimuth : ℕ) (old new : ℕ → ℕ) where
       → stretches elevation azimuth old new first next (n + left) ≡ stretches elevation azimuth old new first (next + n) left
   stay-on zero first next left h =
       let e : next ≡ next + 0 = sym (add-zero next) in
-      ap (λ (l : ℕ). stretches elevation azimuth old new first next l) (zero-add left) ∙ ap (λ (k : ℕ). stretches elevation azimuth old new first k left) e
+      ap (λ (l : ℕ). stretches elevation azimuth old new first next l) (zero-add left)
+      ∙ ap (λ (k : ℕ). stretches elevation azimuth old new first k left) e
   stay-on (suc n) first next left h =
       let e : suc n + left ≡ suc (n + left) = suc-add n left in
       let f : suc next + n ≡ next + suc n = omega arith in
@@ -65,31 +67,32 @@ module _ (elevation azimuth : ℕ) (old new : ℕ → ℕ) where
       ∙ stay-on n first (suc next) left (λ k low high. h k (omega arith) (omega arith))
       ∙ ap (λ (k : ℕ). stretches elevation azimuth old new first k left) f
 
-  -- the kilometres from `next` to `end`, of the 512 in all
-  module _ (first next end : ℕ) (low : next ≤ end) (high : end ≤ 511) where
+  -- the kilometres from `next` to `end`, of all
+  module _ (first next end : ℕ) (low : next ≤ end) (high : end ≤ lastKilometre) where
     pub part-stays : ((k : ℕ) → next ≤ k → k ≤ end → Same first k)
-        → stretches elevation azimuth old new first next (512 - next) ≡ stretches elevation azimuth old new first (end + 1) (512 - (end + 1))
+        → stretches elevation azimuth old new first next (kilometres - next) ≡ stretches elevation azimuth old new first (end + 1)
+        (kilometres - (end + 1))
     part-stays h =
         let n = end + 1 - next in
-        let e : 512 - next ≡ n + (512 - (end + 1)) = omega arith in
+        let e : kilometres - next ≡ n + (kilometres - (end + 1)) = omega arith in
         let f : next + n ≡ end + 1 = omega arith in
         ap (λ (l : ℕ). stretches elevation azimuth old new first next l) e
-        ∙ stay-on n first next (512 - (end + 1)) (λ k l u. h k l (omega arith))
-        ∙ ap (λ (k : ℕ). stretches elevation azimuth old new first k (512 - (end + 1))) f
+        ∙ stay-on n first next (kilometres - (end + 1)) (λ k l u. h k l (omega arith))
+        ∙ ap (λ (k : ℕ). stretches elevation azimuth old new first k (kilometres - (end + 1))) f
 
     pub part-ends : stay old new first next ≡ false → ((k : ℕ) → next ≤ k → k ≤ end → Same next k)
-        → stretches elevation azimuth old new first next (512 - next)
-        ≡ stretch elevation azimuth old new first next ++ stretches elevation azimuth old new next (end + 1) (512 - (end + 1))
+        → stretches elevation azimuth old new first next (kilometres - next)
+        ≡ stretch elevation azimuth old new first next ++ stretches elevation azimuth old new next (end + 1) (kilometres - (end + 1))
     part-ends s h =
         let n = end - next in
-        let e : 512 - next ≡ suc (n + (512 - (end + 1))) = omega arith in
+        let e : kilometres - next ≡ suc (n + (kilometres - (end + 1))) = omega arith in
         let f : suc next + n ≡ end + 1 = omega arith in
         ap (λ (l : ℕ). stretches elevation azimuth old new first next l) e
-        ∙ step-end first next (n + (512 - (end + 1))) s
+        ∙ step-end first next (n + (kilometres - (end + 1))) s
         ∙ ap (λ (l : List Difference). stretch elevation azimuth old new first next ++ l)
-        (stay-on n next (suc next) (512 - (end + 1)) (λ k l u. h k (omega arith) (omega arith))
-        ∙ ap (λ (k : ℕ). stretches elevation azimuth old new next k (512 - (end + 1))) f)
+        (stay-on n next (suc next) (kilometres - (end + 1)) (λ k l u. h k (omega arith) (omega arith))
+        ∙ ap (λ (k : ℕ). stretches elevation azimuth old new next k (kilometres - (end + 1))) f)
 
   -- the first kilometre begins a stretch: from it on, or from the one after it
-  pub from-first : stretches elevation azimuth old new 0 0 512 ≡ stretches elevation azimuth old new 0 1 511
-  from-first = step-stay 0 0 511 (same-stay 0 0 (refl, refl))
+  pub from-first : stretches elevation azimuth old new 0 0 kilometres ≡ stretches elevation azimuth old new 0 1 lastKilometre
+  from-first = step-stay 0 0 lastKilometre (same-stay 0 0 (refl, refl))

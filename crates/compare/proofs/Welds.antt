@@ -1,5 +1,5 @@
--- What the contract of each public function says of a call, as Rattle reads it from src/ (`Learnt`): its promise, and that no two results of one call
--- meet it. Assumes nothing.
+-- What the contract of each public function says of a call, as Rattle reads it from src/ (`Learnt`): its promise, and that no two results
+-- of one call meet it. Assumes nothing.
 use denote.Ref.{now}
 use mathlib.Core.Path.{_≡_}
 use Rattle.wire.proofs.AnswerLaws.{only}
@@ -13,7 +13,8 @@ use Rattle.compare.proofs.compare.Reads as compare
 
 pub compare-apart : (a b : CompareAnswer) → tellCompare a ≡ tellCompare b → a ≡ b
 compare-apart (Compared o n d) (Compared o′ n′ d′) e =
-    let s : _≡_ {A = Comparison} (record { oldElevations = o; newElevations = n; differences = d }) (record { oldElevations = o′; newElevations = n′; differences = d′ })
+    let s : _≡_ {A = Comparison} (record { oldElevations = o; newElevations = n; differences = d })
+    (record { oldElevations = o′; newElevations = n′; differences = d′ })
     = cc e in
     λ i. Compared (s i .oldElevations) (s i .newElevations) (s i .differences)
 compare-apart (Compared o n d) (Refused k) e = never (cc e)
@@ -24,7 +25,8 @@ pub compare-says : (κs old new out r old′ new′ out′ : _) → compare.Lear
     → Promise tellCompare (comparisonOf (now old) (now new) (now out)) r (now out′)
 compare-says κs old new out r old′ new′ out′ l = l
 
-pub compare-one : (κs old new out r r₂ old′ new′ out′ old″ new″ out″ : _) → compare.Learnt κs (old, (new, (out, tt))) r (old′, (new′, (out′, tt)))
+pub compare-one : (κs old new out r r₂ old′ new′ out′ old″ new″ out″ : _) → compare.Learnt κs (old, (new, (out, tt))) r
+    (old′, (new′, (out′, tt)))
     → compare.Learnt κs (old, (new, (out, tt))) r₂ (old″, (new″, (out″, tt))) → (r ≡ r₂) × (now out′ ≡ now out″)
 compare-one κs old new out r r₂ old′ new′ out′ old″ new″ out″ l l₂ =
     only tellCompare compare-apart (comparisonOf (now old) (now new) (now out)) r r₂ (now out′) (now out″) l l₂

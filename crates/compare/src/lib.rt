@@ -1,31 +1,41 @@
 // Two clutter filter maps compared: both are checked, their differences counted and, where the output has room for all of them, listed.
 use map::AZIMUTHS;
+use map::HEAD_SIZE;
+use map::MOST_ELEVATIONS;
 use map::MapAnswer;
+use map_check::FIELD_SIZE;
 use map_check::LAST_KILOMETRE;
+use map_check::MOST_ZONES;
+use map_check::ZONE_SIZE;
+use map_check::code_of;
+use map_check::end_of;
 use wire::refusal;
 ghost use mathlib.Core.Path.{_≡_};
-ghost use Prim.Native.Nat.{_+_, _*_, _/_, _%_, _≤_, _<_};
+ghost use Prim.Native.Nat.{_+_, _*_, _≤_};
 ghost use mathlib.Core.Bool.{true};
 ghost use mathlib.Core.List.{[], _∷_};
 ghost use lib.Dec.{ltb, leb, eqb};
 ghost use lib.ListN.{length};
+ghost use Rattle.wire.specs.Parts.{runSize};
 ghost use Rattle.wire.specs.Answers.{Promise};
-ghost use Rattle.wire.specs.Numbers.{num, fetched};
+ghost use Rattle.wire.specs.Numbers.{num};
 ghost use Rattle.wire.specs.Checks.{pick, AllHold};
 ghost use Rattle.wire.specs.Sheets.{sheet};
-ghost use Rattle.map_spec.specs.Reading.{runSize, azimuthPart};
-ghost use Rattle.compare_spec.specs.Comparing.{comparisonOf};
+ghost use Rattle.map_spec.specs.Map.{kilometres, zoneSize, mostAzimuthSize};
+ghost use Rattle.map_spec.specs.Reading.{azimuthPart, mapIn};
+ghost use Rattle.compare_spec.specs.Differences.{differences};
+ghost use Rattle.compare_spec.specs.Comparing.{differenceSize, comparisonOf};
 ghost use Rattle.compare.specs.Told.{tellCompare};
-ghost use Rattle.compare.specs.Steps.{mostCounted, listing, oneIf, zonesDifferences, elevationsDifferences, listOf, Same, Has, Counts, Checked};
+ghost use Rattle.compare.specs.Steps.{mostCounted, listing, oneIf, zonesDifferences, sizeFetched, listOf, Same, Counts, Checked};
 
 // The halfwords that a difference takes.
-const SIZE: usize = 6;
+const DIFFERENCE_SIZE: usize = 6;
 
-// Those that as many differences take as two maps can have: 39 in each of 360 azimuths of 5 elevation segments.
-pub const MOST: usize = 421200;
+// Each zone of either azimuth may begin a run. The first zones of both begin the same run, hence one less.
+const MOST_RUNS: usize = 2 * MOST_ZONES - 1;
 
-// How many numbers a halfword has.
-const HALFWORD: u32 = 65536;
+// Room in halfwords for the most differences that two maps can have.
+pub const MOST: usize = DIFFERENCE_SIZE * (MOST_ELEVATIONS * (AZIMUTHS * MOST_RUNS));
 
 // The elevation segments of the old and of the new map and the number of differences, or the number of refusal.
 pub enum CompareAnswer {
@@ -33,7 +43,7 @@ pub enum CompareAnswer {
     Refused(u8),
 }
 
-// Azimuths one after the other, and the bytes that they take.
+// Azimuths in a row: how many, and how many bytes they take.
 struct Run {
     azimuths: usize,
     bytes: usize,
@@ -48,18 +58,18 @@ fn least(a: u16, b: u16) -> u16
     b
 }
 
-// The zone that counts after a kilometre: the one at a place, or the next one if that one ends there.
+// The place of the zone that covers the next kilometre: the same place, or the next zone's if this zone ends here.
 fn past(at: usize, end: u16, kilometre: u16) -> usize
-    requires { ⌜ at < 65536 ⌝ }
-    ensures { λ r. ⌜ r ≡ pick (eqb end kilometre) (at + 4) at ⌝ }
+    requires { ⌜ at ≤ mostAzimuthSize ⌝ }
+    ensures { λ r. ⌜ r ≡ pick (eqb end kilometre) (at + zoneSize) at ⌝ }
 {
     if end == kilometre {
-        return at + 4;
+        return at + ZONE_SIZE;
     }
     at
 }
 
-// The first kilometre of the stretch that goes on or begins at the next one.
+// The first kilometre of the stretch that has `next` in it: `next` if the stretch before ends there, else `first`.
 fn begun(ends: bool, first: u16, next: u16) -> u16
     ensures { λ r. ⌜ r ≡ pick ends next first ⌝ }
 {
@@ -71,7 +81,7 @@ fn begun(ends: bool, first: u16, next: u16) -> u16
 
 // A difference, stored in six halfwords.
 fn put(out: &mut [u16], elevation: u16, azimuth: u16, first: u16, last: u16, old: u16, new: u16)
-    requires { ⌜ length (now out) ≡ 6 ⌝ }
+    requires { ⌜ length (now out) ≡ differenceSize ⌝ }
     ensures { λ r. ⌜ now (out .exit) ≡ elevation ∷ azimuth ∷ first ∷ last ∷ old ∷ new ∷ [] ⌝ }
 {
     out[0] = elevation;
@@ -82,8 +92,8 @@ fn put(out: &mut [u16], elevation: u16, azimuth: u16, first: u16, last: u16, old
     out[5] = new;
 }
 
-// A stretch of kilometres that ends before the next one: listed after so many differences, or only counted where there is no room for it.
-// Room is asked for first, so that where there is none at all, as while differences are counted, there is no branch on what is listed.
+// Counts the stretch of kilometres from `first` to before `next` if `lists` is true, and lists it where there is room.
+// Room is tested first: while differences are counted there is none, and so no branch on `lists`.
 fn list(
     out: &mut [u16],
     count: usize,
@@ -96,10 +106,10 @@ fn list(
     new: u16,
 ) -> usize
     requires { ⌜ (count ≤ mostCounted) × (lists ≡ true → 1 ≤ next) ⌝ }
-    ensures { λ r. ⌜ sheet (6 * r) (now (out .exit)) ≡ listing (oneIf lists elevation azimuth first next old new) (sheet (6 * count) (now (out .entry))) ⌝ }
+    ensures { λ r. ⌜ sheet (differenceSize * r) (now (out .exit)) ≡ listing (oneIf lists elevation azimuth first next old new) (sheet (differenceSize * count) (now (out .entry))) ⌝ }
 {
-    let at = SIZE * count;
-    let end = at + SIZE;
+    let at = DIFFERENCE_SIZE * count;
+    let end = at + DIFFERENCE_SIZE;
     if out.len() < end {
         return count + lists as usize;
     }
@@ -111,28 +121,17 @@ fn list(
     count + 1
 }
 
-// Four bytes by one fetch: of a zone, code and end in one number. The part lent has a length that the compiler knows, so it drops the fetch's own test.
+// Fetches four bytes as one number, such as a zone's code and end. The compiler knows the length of the slice, so it drops the
+// fetch's own test.
 fn four_at(part: &[u8], at: usize) -> u32
-    requires { ⌜ at + 4 ≤ length (now part) ⌝ }
-    ensures { λ r. ⌜ r ≡ num 4 (now (part .entry)) at ⌝ }
+    requires { ⌜ at + zoneSize ≤ length (now part) ⌝ }
+    ensures { λ r. ⌜ r ≡ num zoneSize (now (part .entry)) at ⌝ }
 {
-    wire::fetch32(&part[at..at + 4], 0)
+    wire::fetch32(&part[at..at + ZONE_SIZE], 0)
 }
 
-fn code_of(zone: u32) -> u16
-    ensures { λ r. ⌜ r ≡ zone / 65536 ⌝ }
-{
-    (zone / HALFWORD) as u16
-}
-
-fn end_of(zone: u32) -> u16
-    ensures { λ r. ⌜ r ≡ zone % 65536 ⌝ }
-{
-    (zone % HALFWORD) as u16
-}
-
-// The azimuth that a part of each body begins with. Its zones are walked side by side, from one end of either to the next.
-// Which ends come first and where a stretch ends could not be foreseen: the only branch on it is in `list`, where there is room.
+// Compares the azimuth at the start of both parts. The zones of both are walked together, from one end to the next end of either.
+// Branches on which end comes first and where a stretch ends would mispredict: the only one is in `list`, where there is room.
 fn compare_zones(
     old: &[u8],
     new: &[u8],
@@ -141,11 +140,11 @@ fn compare_zones(
     out: &mut [u16],
     count: usize,
 ) -> usize
-    requires { ⌜ AllHold (azimuthPart .checks (now old)) × AllHold (azimuthPart .checks (now new)) × (count + 512 ≤ mostCounted) ⌝ }
-    ensures { λ r. ⌜ sheet (6 * r) (now (out .exit)) ≡ listing (zonesDifferences elevation azimuth (now (old .entry)) (now (new .entry))) (sheet (6 * count) (now (out .entry))) ⌝ }
+    requires { ⌜ AllHold (azimuthPart .checks (now old)) × AllHold (azimuthPart .checks (now new)) × (count + kilometres ≤ mostCounted) ⌝ }
+    ensures { λ r. ⌜ sheet (differenceSize * r) (now (out .exit)) ≡ listing (zonesDifferences elevation azimuth (now (old .entry)) (now (new .entry))) (sheet (differenceSize * count) (now (out .entry))) ⌝ }
 {
-    let mut i: usize = 2;
-    let mut j: usize = 2;
+    let mut i = FIELD_SIZE;
+    let mut j = FIELD_SIZE;
     let mut next: u16 = 0;
     let mut first: u16 = 0;
     let mut was = code_of(four_at(old, i));
@@ -173,11 +172,11 @@ fn compare_zones(
     list(out, listed, lists, elevation, azimuth, first, next, was, is)
 }
 
-// The bytes that the azimuth takes which a part begins with.
+// The size in bytes of the azimuth that a part begins with.
 fn size_of(part: &[u8]) -> usize
-    ensures { λ r. ⌜ r ≡ 2 + 4 * fetched 2 (now (part .entry)) 0 ⌝ }
+    ensures { λ r. ⌜ r ≡ sizeFetched (now (part .entry)) ⌝ }
 {
-    2 + 4 * wire::fetch16(part, 0) as usize
+    FIELD_SIZE + ZONE_SIZE * wire::fetch16(part, 0) as usize
 }
 
 fn shorter(old: &[u8], new: &[u8]) -> usize
@@ -189,22 +188,26 @@ fn shorter(old: &[u8], new: &[u8]) -> usize
     new.len()
 }
 
-// How many bytes two parts begin with that are the same, in whole fours.
+// How many bytes at the start of two parts are the same, in steps of four. Up to seven bytes at the end may not be compared.
 fn same_bytes(old: &[u8], new: &[u8]) -> usize
     ensures { λ r. ⌜ (r ≤ length (now (old .entry))) × (r ≤ length (now (new .entry))) × Same r (now (old .entry)) (now (new .entry)) ⌝ }
 {
     let end = shorter(old, new);
     let mut at: usize = 0;
-    while at + 4 <= end {
+    while at + 2 * ZONE_SIZE <= end {
         if four_at(old, at) != four_at(new, at) {
             return at;
         }
-        at += 4;
+        let next = at + ZONE_SIZE;
+        if four_at(old, next) != four_at(new, next) {
+            return next;
+        }
+        at = next + ZONE_SIZE;
     }
     at
 }
 
-// The azimuths that so many bytes of a part hold wholly, or as many as are asked for, and the bytes that they take.
+// The azimuths that lie wholly in the first `same` bytes of a part, at most `most` of them, and the bytes that they take.
 fn pass(part: &[u8], same: usize, most: usize) -> Run
     requires { ⌜ same ≤ length (now part) ⌝ }
     ensures { λ r. ⌜ (r .azimuths ≤ most) × (r .bytes ≤ same) × (r .bytes ≡ runSize azimuthPart (r .azimuths) (now (part .entry))) ⌝ }
@@ -228,16 +231,16 @@ fn pass(part: &[u8], same: usize, most: usize) -> Run
     }
 }
 
-// So many elevation segments of both bodies, their azimuths counted through. Most are the same: the bytes of both are compared in one loop as far as that goes,
-// and the azimuths in them passed over by their sizes.
+// Compares the azimuths of the first `elevations` elevation segments. Most are the same: one loop finds how many bytes are equal,
+// and the azimuths in these bytes are skipped by their sizes.
 fn compare_azimuths(old: &[u8], new: &[u8], elevations: u16, out: &mut [u16]) -> usize
-    requires { ⌜ Has elevations (now old) × Has elevations (now new) ⌝ }
-    ensures { λ r. ⌜ sheet (6 * r) (now (out .exit)) ≡ listing (elevationsDifferences elevations (now (old .entry)) (now (new .entry))) (sheet 0 (now (out .entry))) ⌝ }
+    requires { ⌜ Checked elevations (now old) (now new) ⌝ }
+    ensures { λ r. ⌜ sheet (differenceSize * r) (now (out .exit)) ≡ listing (differences (mapIn (now (old .entry))) (mapIn (now (new .entry)))) (sheet 0 (now (out .entry))) ⌝ }
 {
     let total = AZIMUTHS * elevations as usize;
     let mut index: usize = 0;
-    let mut i: usize = 6;
-    let mut j: usize = 6;
+    let mut i = HEAD_SIZE;
+    let mut j = HEAD_SIZE;
     let mut count: usize = 0;
     while index < total {
         let same = same_bytes(&old[i..], &new[j..]);
@@ -257,7 +260,7 @@ fn compare_azimuths(old: &[u8], new: &[u8], elevations: u16, out: &mut [u16]) ->
     count
 }
 
-// Whether all differences have room. Where as many have room as two maps can have, they need not be counted.
+// Whether there is room for all differences. With room for the most that two maps can have, they need not be counted.
 fn has_room(old: &[u8], new: &[u8], elevations: u16, out: &mut [u16]) -> bool
     requires { ⌜ Checked elevations (now old) (now new) ⌝ }
     ensures { λ r. ⌜ (r ≡ leb (length (listOf (now (old .entry)) (now (new .entry)))) (length (now (out .entry)))) × (now (out .exit) ≡ now (out .entry)) ⌝ }
@@ -266,10 +269,10 @@ fn has_room(old: &[u8], new: &[u8], elevations: u16, out: &mut [u16]) -> bool
         return true;
     }
     let count = compare_azimuths(old, new, elevations, &mut out[0..0]);
-    SIZE * count <= out.len()
+    DIFFERENCE_SIZE * count <= out.len()
 }
 
-// Two checked bodies of so many elevation segments.
+// Compares two checked bodies with these numbers of elevation segments.
 fn compare_checked(old: &[u8], new: &[u8], older: u16, newer: u16, out: &mut [u16]) -> CompareAnswer
     requires { ⌜ Counts older (now old) × Counts newer (now new) ⌝ }
     ensures { λ r. ⌜ Promise tellCompare (comparisonOf (now (old .entry)) (now (new .entry)) (now (out .entry))) r (now (out .exit)) ⌝ }
@@ -282,7 +285,7 @@ fn compare_checked(old: &[u8], new: &[u8], older: u16, newer: u16, out: &mut [u1
     CompareAnswer::Compared(older, newer, count as u32)
 }
 
-// Two bodies 15: their elevation segments and the number of their differences, each listed as six halfwords.
+// Compares two bodies 15: reports their elevation segments and the number of differences, and lists each as six halfwords.
 pub fn compare(old: &[u8], new: &[u8], out: &mut [u16]) -> CompareAnswer
     ensures { λ r. ⌜ Promise tellCompare (comparisonOf (now (old .entry)) (now (new .entry)) (now (out .entry))) r (now (out .exit)) ⌝ }
 {

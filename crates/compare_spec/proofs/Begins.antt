@@ -62,7 +62,8 @@ same-end end k ne = go (leb k end) refl
     go false e = let h = leb-false k end e in sym (lt-leb (suc k) end (omega arith))
 
 -- where the code changes, a zone begins
-pub begins-drop : (from : ℕ) (zs : List Zone) (k : ℕ) → k < lastKilometre → (from ≡ suc k → ⊥) → (codeFrom from zs k ≡ codeFrom from zs (suc k) → ⊥)
+pub begins-drop : (from : ℕ) (zs : List Zone) (k : ℕ) → k < lastKilometre → (from ≡ suc k → ⊥)
+    → (codeFrom from zs k ≡ codeFrom from zs (suc k) → ⊥)
     → suc (begins (suc (suc k)) zs) ≤ begins (suc k) zs
 unfolding codeFrom
 begins-drop from [] k h low ne = absurd (ne refl)

@@ -27,13 +27,15 @@ answered out m n = wroteAll [] (comparison m n) (halfwords (differences m n)) ou
 
 module _ (old new out : List ℕ) where
   -- the first body's checks, then the second's, then the output's
-  in-turn : comparisonOf old new out ≡ decide (mapChecks old) (refusal out) (decide (mapChecks new) (refusal out) (answered out (mapIn old) (mapIn new)))
+  in-turn : comparisonOf old new out ≡ decide (mapChecks old) (refusal out) (decide (mapChecks new) (refusal out)
+      (answered out (mapIn old) (mapIn new)))
   in-turn =
       let ks = mapChecks old in
       let ls = mapChecks new in
       let list = halfwords (differences (mapIn old) (mapIn new)) in
       let ok : Outcome (List ℕ) Comparison = record { answer = given (comparison (mapIn old) (mapIn new)); output = filled list out } in
-      decide-append (ks ++ ls) (roomCheck (length out) list ∷ []) (refusal out) ok ∙ decide-append ks ls (refusal out) (answered out (mapIn old) (mapIn new))
+      decide-append (ks ++ ls) (roomCheck (length out) list ∷ []) (refusal out) ok
+      ∙ decide-append ks ls (refusal out) (answered out (mapIn old) (mapIn new))
 
   old-bad : (number : ℕ) → mapOf old ≡ refused number → comparisonOf old new out ≡ refusal out number
   old-bad number e =
@@ -42,7 +44,8 @@ module _ (old new out : List ℕ) where
       (rule-refused (mapChecks old) (mapIn old) number e)
 
   -- the first is accepted
-  old-good : (m : FilterMap) → mapOf old ≡ given m → comparisonOf old new out ≡ decide (mapChecks new) (refusal out) (answered out m (mapIn new))
+  old-good : (m : FilterMap) → mapOf old ≡ given m
+      → comparisonOf old new out ≡ decide (mapChecks new) (refusal out) (answered out m (mapIn new))
   old-good m e =
       let p = rule-given (mapChecks old) (mapIn old) m e in
       in-turn
@@ -51,20 +54,24 @@ module _ (old new out : List ℕ) where
 
   new-bad : (m : FilterMap) (number : ℕ) → mapOf old ≡ given m → mapOf new ≡ refused number → comparisonOf old new out ≡ refusal out number
   new-bad m number e f =
-      old-good m e ∙ decide-some (mapChecks new) (refusal out) (answered out m (mapIn new)) number (rule-refused (mapChecks new) (mapIn new) number f)
+      old-good m e ∙ decide-some (mapChecks new) (refusal out) (answered out m (mapIn new)) number
+      (rule-refused (mapChecks new) (mapIn new) number f)
 
   pub both-good : (m n : FilterMap) → mapOf old ≡ given m → mapOf new ≡ given n → comparisonOf old new out ≡ answered out m n
   both-good m n e f =
       let p = rule-given (mapChecks new) (mapIn new) n f in
-      old-good m e ∙ decide-none (mapChecks new) (refusal out) (answered out m (mapIn new)) (p .0) ∙ ap (λ (k : FilterMap). answered out m k) (p .1)
+      old-good m e ∙ decide-none (mapChecks new) (refusal out) (answered out m (mapIn new)) (p .0)
+      ∙ ap (λ (k : FilterMap). answered out m k) (p .1)
 
   -- the number of a refusal for want of room, or the list
-  by-room : (m n : FilterMap) (t : Bool) → mapOf old ≡ given m → mapOf new ≡ given n → ltb (length out) (length (halfwords (differences m n))) ≡ t
+  by-room : (m n : FilterMap) (t : Bool) → mapOf old ≡ given m → mapOf new ≡ given n
+      → ltb (length out) (length (halfwords (differences m n))) ≡ t
       → comparisonOf old new out
       ≡ pick t (refusal out 13) (record { answer = given (comparison m n); output = filled (halfwords (differences m n)) out })
   by-room m n t e f h =
       both-good m n e f
-      ∙ ap (λ (u : Bool). pick u (refusal out 13) (record { answer = given (comparison m n); output = filled (halfwords (differences m n)) out })) h
+      ∙ ap (λ (u : Bool). pick u (refusal out 13)
+      (record { answer = given (comparison m n); output = filled (halfwords (differences m n)) out })) h
 
 pub in-order : RefusedInOrder
 in-order old new out = record {

@@ -112,6 +112,7 @@ module _ (m n : FilterMap) where
         (some-order (azimuthDifferences m n elevation) in-run 0 azimuths azimuth (omega arith) (omega (arith, p .around))
         (listed elevation azimuth .covered kilometre (omega arith) (p .far) ne));
     sorted =
-        sorted-order segment Before (λ elevation d. d .elevation ≡ elevation) (λ j k d e h p q. byElevation (omega arith)) segment-key segment-sorted 1
+        sorted-order segment Before (λ elevation d. d .elevation ≡ elevation) (λ j k d e h p q. byElevation (omega arith))
+        segment-key segment-sorted 1
         (presentInBoth m n);
   }

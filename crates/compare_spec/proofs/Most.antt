@@ -1,19 +1,19 @@
 -- How many runs there are at most: one for kilometre 0, and one for each zone of either map that begins after it. Assumes nothing.
-use Prim.Native.Nat.{ℕ, zero, suc, _+_, _*_, _-_, _≤_, _<_}
+use Prim.Native.Nat.{ℕ, zero, suc, _+_, _*_, _≤_, _<_}
 use native.Mathlib.Nat.{suc-mul}
 use native.Mathlib.Omega.{arith}
 use mathlib.Core.Path.{_≡_, refl}
 use mathlib.Core.Bool.{Bool, true, false}
 use mathlib.Core.List.{List, [], _∷_, _++_, flatten}
 use lib.Dec.{eqb}
-use lib.ListN.{length, getD, length-append}
+use lib.ListN.{length, length-append}
 use borrow.Author.Tests.{eqb-true, eqb-false}
-use Rattle.wire.proofs.EachLaws.{each-at}
 use Rattle.wire.specs.Checks.{pick}
-use Rattle.map_spec.specs.Map.{azimuths, lastKilometre, FilterMap, AzimuthInRange, ElevationInRange, InRange, zonesAt, codeAt}
+use Rattle.map_spec.specs.Map.{azimuths, lastKilometre, FilterMap, AzimuthInRange, zonesAt, codeAt}
 use Rattle.compare_spec.specs.Differences.{Difference, stay, stretch, stretches, azimuthDifferences, mostRuns, inOrder, presentInBoth, differences}
-use Rattle.compare_spec.specs.Comparing.{halfwords}
+use Rattle.compare_spec.specs.Comparing.{differenceSize, halfwords}
 use Rattle.compare_spec.specs.Theorems.{MostDifferences, RoomForAll}
+use Rattle.map_spec.proofs.Theorems.{azimuth-in-range}
 use Rattle.compare_spec.proofs.Runs.{Alike, Whole, starts, runOf, stretches-by}
 use Rattle.compare_spec.proofs.Maps.{lesser-both}
 use Rattle.compare_spec.proofs.Begins.{begins, begins-fall, begins-drop, begins-range}
@@ -114,7 +114,8 @@ module _ (m n : FilterMap) (elevation azimuth : ℕ) where
         arith,
         begins-range 1 (zonesAt m elevation azimuth) a,
         begins-range 1 (zonesAt n elevation azimuth) b,
-        runs-most elevation azimuth (codeAt m elevation azimuth) (codeAt n elevation azimuth) lastKilometre either-begins either-falls either-drops,
+        runs-most elevation azimuth (codeAt m elevation azimuth) (codeAt n elevation azimuth) lastKilometre either-begins
+            either-falls either-drops,
       )
 
 -- ---- two maps in range
@@ -131,12 +132,6 @@ order-most of most first (suc count) h =
       order-most of most (suc first) count (λ k l u. h k (omega arith) (omega arith)),
     )
 
-azimuth-range : (m : FilterMap) → InRange m → (elevation azimuth : ℕ) → 1 ≤ elevation → elevation ≤ length (m .elevations) → azimuth < azimuths
-    → AzimuthInRange (zonesAt m elevation azimuth)
-azimuth-range m r elevation azimuth low high around =
-    let e = each-at ElevationInRange (m .elevations) [] (elevation - 1) (r .each) (omega arith) in
-    each-at AzimuthInRange (getD (m .elevations) (elevation - 1) []) [] azimuth (e .each) (omega (arith, e .all))
-
 pub differences-most : MostDifferences
 differences-most m n r s =
     order-most (λ elevation. inOrder 0 azimuths (azimuthDifferences m n elevation)) (azimuths * mostRuns) 1 (presentInBoth m n)
@@ -144,10 +139,11 @@ differences-most m n r s =
     let p = lesser-both (length (m .elevations)) (length (n .elevations)) elevation (omega arith) in
     order-most (azimuthDifferences m n elevation) mostRuns 0 azimuths
     (λ azimuth low high.
-    azimuth-most m n elevation azimuth (azimuth-range m r elevation azimuth l (p .0) high) (azimuth-range n s elevation azimuth l (p .1) high)))
+    azimuth-most m n elevation azimuth (azimuth-in-range m r elevation azimuth l (p .0) high) (azimuth-in-range n s elevation azimuth l
+    (p .1) high)))
 
 -- ---- their halfwords
-pub halfwords-length : (ds : List Difference) → length (halfwords ds) ≡ 6 * length ds
+pub halfwords-length : (ds : List Difference) → length (halfwords ds) ≡ differenceSize * length ds
 unfolding halfwords flatten
 halfwords-length [] = omega arith
 halfwords-length (d ∷ ds) = omega (arith, halfwords-length ds)

@@ -30,7 +30,8 @@ not-itself d s (byAzimuth a p) = omega arith
 not-itself d s (byKilometre a b p) = omega arith
 
 -- no kilometre lies in a run and in one that comes after it
-apart : (d e : Difference) (elevation azimuth kilometre : ℕ) → Before d e → Within d elevation azimuth kilometre → Within e elevation azimuth kilometre → ⊥
+apart : (d e : Difference) (elevation azimuth kilometre : ℕ) → Before d e → Within d elevation azimuth kilometre
+    → Within e elevation azimuth kilometre → ⊥
 apart d e elevation azimuth kilometre (byElevation p) w v = omega (arith, w .segment, v .segment)
 apart d e elevation azimuth kilometre (byAzimuth a p) w v = omega (arith, w .around, v .around)
 apart d e elevation azimuth kilometre (byKilometre a b p) w v = omega (arith, w .upTo, v .from)
@@ -71,7 +72,8 @@ one-run (d ∷ ds) elevation azimuth kilometre s h =
     there o = record { place = suc (o .place); listed = omega (arith, o .listed); within = o .within; only = later }
       where
         later : (i : ℕ) → i < suc (length ds) → Within (getD (d ∷ ds) i noDifference) elevation azimuth kilometre → i ≡ suc (o .place)
-        later zero l v = absurd (apart d (getD ds (o .place) noDifference) elevation azimuth kilometre (after (o .place) (o .listed)) v (o .within))
+        later zero l v = absurd (apart d (getD ds (o .place) noDifference) elevation azimuth kilometre
+            (after (o .place) (o .listed)) v (o .within))
         later (suc i) l v = ap suc (o .only i (omega arith) v)
 
 -- ---- two lists in order with the same elements
@@ -86,7 +88,8 @@ heads : (x y : Difference) (xs ys : List Difference) → Proper x → Proper y �
     → Some (λ z. x ≡ z) (y ∷ ys) → Some (λ z. y ≡ z) (x ∷ xs) → x ≡ y
 heads x y xs ys p q bx by s t =
     ⊎-elim (λ e. e)
-    (λ k. ⊎-elim (λ e. sym e) (λ l. absurd (not-itself x p (before-on x y x q (related (Before x) y xs bx l) (related (Before y) x ys by k)))) t)
+    (λ k. ⊎-elim (λ e. sym e)
+    (λ l. absurd (not-itself x p (before-on x y x q (related (Before x) y xs bx l) (related (Before y) x ys by k)))) t)
     s
 
 tails : (x y : Difference) (xs ys : List Difference) → x ≡ y → Proper x → Each (Before x) xs → Each (λ z. Some (λ w. z ≡ w) (y ∷ ys)) xs
@@ -103,7 +106,8 @@ same-list [] (y ∷ ys) p q s t a b = absurd (b .0)
 same-list (x ∷ xs) [] p q s t a b = absurd (a .0)
 same-list (x ∷ xs) (y ∷ ys) p q s t a b =
     let e = heads x y xs ys (p .0) (q .0) (s .0) (t .0) (a .0) (b .0) in
-    let r = same-list xs ys (p .1) (q .1) (s .1) (t .1) (tails x y xs ys e (p .0) (s .0) (a .1)) (tails y x ys xs (sym e) (q .0) (t .0) (b .1)) in
+    let r = same-list xs ys (p .1) (q .1) (s .1) (t .1) (tails x y xs ys e (p .0) (s .0) (a .1)) (tails y x ys xs (sym e) (q .0)
+    (t .0) (b .1)) in
     λ i. e i ∷ r i
 
 -- ---- two runs that share a kilometre
@@ -176,7 +180,8 @@ module _ (m n : FilterMap) where
   exact-compared ds x = record {
     sound = x .sound;
     longest = x .longest;
-    complete = λ elevation azimuth kilometre p ne. one-run ds elevation azimuth kilometre (x .sorted) (x .covered elevation azimuth kilometre p ne);
+    complete = λ elevation azimuth kilometre p ne. one-run ds elevation azimuth kilometre (x .sorted)
+        (x .covered elevation azimuth kilometre p ne);
     ordered = sorted-ordered ds (x .sorted);
   }
 
@@ -196,7 +201,12 @@ module _ (m n : FilterMap) where
       let s = p .0 in
       let h = s .present in
       let c = s .coded (d .first) (omega arith) (s .some) in
-      let w : Within d (d .elevation) (d .azimuth) (d .first) = record { segment = refl; around = refl; from = omega arith; upTo = s .some } in
+      let w : Within d (d .elevation) (d .azimuth) (d .first) = record {
+        segment = refl;
+        around = refl;
+        from = omega arith;
+        upTo = s .some;
+      } in
       some-each (λ e. Sound m n e × Longest m n e) (λ e. Within e (d .elevation) (d .azimuth) (d .first)) (λ e. d ≡ e) ds
       (λ e q v. same-run m n (d .elevation) (d .azimuth) (d .first) d e (p .0, p .1, w) (q .0, q .1, v))
       (each-both (Sound m n) (Longest m n) (λ e. Sound m n e × Longest m n e) ds (λ e a b. (a, b)) (x .sound) (x .longest))

@@ -1,5 +1,5 @@
--- The runs of one azimuth, by its two codes at each kilometre: each has its codes throughout and not beyond, they are in order, and every kilometre
--- whose codes differ lies in one. Assumes nothing.
+-- The runs of one azimuth, by its two codes at each kilometre: each has its codes throughout and not beyond, they are in order, and every
+-- kilometre whose codes differ lies in one. Assumes nothing.
 use Prim.Native.Nat.{ℕ, zero, suc, _+_, _-_, _≤_, _<_}
 use native.Mathlib.Omega.{arith}
 use mathlib.Core.Path.{_≡_, refl, sym, _∙_, subst}
@@ -113,16 +113,18 @@ module _ (elevation azimuth : ℕ) (old new : ℕ → ℕ) where
 
   -- to the kilometre `far`
   module _ (far : ℕ) where
-    -- what holds of nothing past the last kilometre, and of a stretch and what follows if it holds of what follows, holds of all stretches
+    -- induction over stretches: P holds past the last kilometre, and for a stretch and what follows if it holds for what follows
     pub stretches-by : (P : ℕ → List Difference → Type 0) → P (suc far) []
         → ((first next : ℕ) (rest : List Difference) → Whole old new far first next → P next rest
         → P first (stretch elevation azimuth old new first next ++ rest))
-        → (first next left : ℕ) → Going old new first next → next + left ≡ suc far → P first (stretches elevation azimuth old new first next left)
+        → (first next left : ℕ) → Going old new first next → next + left ≡ suc far
+        → P first (stretches elevation azimuth old new first next left)
     unfolding stretches
     stretches-by P none more first next zero g e =
         let q : suc far ≡ next = omega arith in
         subst (P first) (append-nil (stretch elevation azimuth old new first next))
-        (more first next [] (record { going = g; inside = omega arith; ends = λ h. absurd (omega arith) }) (subst (λ (k : ℕ). P k []) q none))
+        (more first next [] (record { going = g; inside = omega arith; ends = λ h. absurd (omega arith) })
+        (subst (λ (k : ℕ). P k []) q none))
     stretches-by P none more first next (suc left) g e =
         go (stay old new first next) refl (λ h. stretches-by P none more first (suc next) left h (omega arith))
         (λ h. stretches-by P none more next (suc next) left h (omega arith))
@@ -148,7 +150,8 @@ module _ (elevation azimuth : ℕ) (old new : ℕ → ℕ) where
       pub sorted : Sorted Before ds
       pub covered : (k : ℕ) → low ≤ k → k ≤ far → (old k ≡ new k → ⊥) → Some (λ d. Within d elevation azimuth k) ds
 
-    module _ (P : Difference → Type 0) (of : (first next : ℕ) → Whole old new far first next → (old first ≡ new first → ⊥) → P (runOf first next)) where
+    module _ (P : Difference → Type 0) (of : (first next : ℕ) → Whole old new far first next → (old first ≡ new first → ⊥)
+        → P (runOf first next)) where
       one-more : (first next : ℕ) (rest : List Difference) → Whole old new far first next → Listed P next rest
           → Listed P first (stretch elevation azimuth old new first next ++ rest)
       one-more first next rest w l =
@@ -158,7 +161,8 @@ module _ (elevation azimuth : ℕ) (old new : ℕ → ℕ) where
             each = each-append P one rest (each-stretch P first next (of first next w)) (l .each);
             here =
                 each-append (Here elevation azimuth first) one rest
-                (each-stretch (Here elevation azimuth first) first next (λ ne. record { segment = refl; around = refl; from = omega arith }))
+                (each-stretch (Here elevation azimuth first) first next
+                (λ ne. record { segment = refl; around = refl; from = omega arith }))
                 (each-so (Here elevation azimuth next) (Here elevation azimuth first) rest
                 (λ d h. record { segment = h .segment; around = h .around; from = omega (arith, h .from) })
                 (l .here));
@@ -175,7 +179,8 @@ module _ (elevation azimuth : ℕ) (old new : ℕ → ℕ) where
               → Some (λ d. Within d elevation azimuth k) (stretch elevation azimuth old new first next ++ rest)
           cover k low high ne = go (ltb k next) refl
             where
-              go : (t : Bool) → ltb k next ≡ t → Some (λ d. Within d elevation azimuth k) (stretch elevation azimuth old new first next ++ rest)
+              go : (t : Bool) → ltb k next ≡ t → Some (λ d. Within d elevation azimuth k) (stretch elevation azimuth old new first
+                  next ++ rest)
               go true e =
                   let u = ltb-true k next e in
                   let a = w .going .alike k low u in
@@ -188,6 +193,7 @@ module _ (elevation azimuth : ℕ) (old new : ℕ → ℕ) where
 
       pub all-listed : Listed P 0 (stretches elevation azimuth old new 0 1 far)
       all-listed =
-          stretches-by (Listed P) (record { each = tt; here = tt; sorted = tt; covered = λ k l h ne. absurd (omega arith) }) one-more 0 1 far
+          stretches-by (Listed P) (record { each = tt; here = tt; sorted = tt; covered = λ k l h ne. absurd (omega arith) })
+          one-more 0 1 far
           (starts old new)
           (omega arith)

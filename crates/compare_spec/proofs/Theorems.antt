@@ -52,14 +52,26 @@ none-exactly m n = (there, back)
         → differences m n ≡ []
     back same =
         one-list m n (differences m n) [] (differences-exact m n)
-        (record { sound = tt; longest = tt; covered = λ elevation azimuth kilometre p ne. ne (same elevation azimuth kilometre p); sorted = tt })
+        (record {
+          sound = tt;
+          longest = tt;
+          covered = λ elevation azimuth kilometre p ne. ne (same elevation azimuth kilometre p);
+          sorted = tt;
+        })
 
 pub with-itself : WithItself
 with-itself m = none-exactly m m .1 (λ elevation azimuth kilometre p. refl)
 
 -- ---- the maps the other way round
-present-swapped : (m n : FilterMap) (elevation azimuth kilometre : ℕ) → Present m n elevation azimuth kilometre → Present n m elevation azimuth kilometre
-present-swapped m n elevation azimuth kilometre p = record { from = p .from; inOld = p .inNew; inNew = p .inOld; around = p .around; far = p .far }
+present-swapped : (m n : FilterMap) (elevation azimuth kilometre : ℕ) → Present m n elevation azimuth kilometre
+    → Present n m elevation azimuth kilometre
+present-swapped m n elevation azimuth kilometre p = record {
+  from = p .from;
+  inOld = p .inNew;
+  inNew = p .inOld;
+  around = p .around;
+  far = p .far;
+}
 
 sound-swapped : (m n : FilterMap) (d : Difference) → Sound m n d → Sound n m (swappedRun d)
 sound-swapped m n d s = record {
@@ -124,10 +136,15 @@ pub itself-answered : ItselfAnswered
 unfolding halfwords flatten
 itself-answered b out m e =
     let none = with-itself m in
-    let room : length (halfwords (differences m m)) ≤ length out = subst (λ (ds : List Difference). length (halfwords ds) ≤ length out) (sym none) (omega arith) in
+    let room : length (halfwords (differences m m)) ≤ length out = subst (λ (ds : List Difference). length (halfwords ds) ≤ length
+    out) (sym none) (omega arith) in
     refused-in-order b b out .enough m m e e room
     ∙ (λ i. record {
-      answer = given (record { oldElevations = length (m .elevations); newElevations = length (m .elevations); differences = length (none i) });
+      answer = given (record {
+        oldElevations = length (m .elevations);
+        newElevations = length (m .elevations);
+        differences = length (none i);
+      });
       output = filled (halfwords (none i)) out;
     })
 

@@ -1,5 +1,5 @@
--- Comparisons on either side of each rule, as one statement over a list: of one azimuth, of what is written of some differences, and of bodies that
--- are refused.
+-- Comparisons on either side of each rule, as one statement over a list: of one azimuth, of what is written of some differences, and of
+-- bodies that are refused.
 use Prim.Native.Nat.{ℕ}
 use mathlib.Core.Path.{_≡_}
 use mathlib.Core.List.{List, [], _∷_}
@@ -16,7 +16,7 @@ use Rattle.compare_spec.specs.Comparing.{Comparison, halfwords, comparis
 abbrev pub run : ℕ → ℕ → ℕ → ℕ → Difference
 run first last old new = record { elevation = 1; azimuth = 0; first = first; last = last; old = old; new = new }
 
--- so much of a map as a case needs: elevation segments, and the zones of the first's azimuth 0
+-- a map with only what a case needs: elevation segments, and the zones of azimuth 0 of the first
 abbrev pub mapWith : List (List (List Zone)) → FilterMap
 mapWith elevations = record { date = 16000; minutes = 720; elevations = elevations }
 
@@ -41,7 +41,8 @@ Holds (segments es fs ds) = differences (mapWith es) (mapWith fs) ≡ ds
 Holds (room ds out right) = wroteAll [] (length ds) (halfwords ds) out ≡ right
 Holds (bodies old new out right) = comparisonOf old new out ≡ right
 
--- twenty zones in each of two azimuths, no end but the last in both: at each end one of the codes changes, and they differ at every kilometre
+-- twenty zones in each of two azimuths, which share only the last end: at each end one of the codes changes, and the codes differ at
+-- every kilometre
 abbrev pub twentyOld : List Zone
 twentyOld =
     zone 0 10 ∷ zone 1 30 ∷ zone 2 50 ∷ zone 0 70 ∷ zone 1 90

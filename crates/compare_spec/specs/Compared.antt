@@ -1,4 +1,4 @@
--- What a list of the differences between two maps has to be, apart from how it is made: over the codes that the maps have, and nothing else of them.
+-- What a list of the differences between two maps has to be, apart from how it is made. It depends only on the codes of the two maps.
 use Prim.Native.Nat.{ℕ, suc, _≤_, _<_}
 use mathlib.Core.Path.{_≡_}
 use mathlib.Core.List.{List, [], _∷_}
@@ -27,7 +27,7 @@ pub record Sound (m n : FilterMap) (d : Difference) : Type 0 where
   pub coded : (kilometre : ℕ) → d .first ≤ kilometre → kilometre ≤ d .last → Coded m n d kilometre
   pub differ : d .old ≡ d .new → ⊥
 
--- "Runs are as long as both codes stay the same": neither the kilometre before it nor the one after it has its codes, where there is one
+-- "Runs are as long as both codes stay the same": the kilometres just before and just after the run, where they exist, have other codes
 pub record Longest (m n : FilterMap) (d : Difference) : Type 0 where
   pub before : (kilometre : ℕ) → suc kilometre ≡ d .first → Coded m n d kilometre → ⊥
   pub after : suc (d .last) ≤ lastKilometre → Coded m n d (suc (d .last)) → ⊥
@@ -42,7 +42,7 @@ pub record Within (d : Difference) (elevation azimuth kilometre : ℕ) : Type 0 
 abbrev pub noDifference : Difference
 noDifference = record { elevation = 0; azimuth = 0; first = 0; last = 0; old = 0; new = 0 }
 
--- "none is left out, none listed twice": the one run of the list in which a kilometre lies
+-- "none is left out, none listed twice": a kilometre lies in exactly one run of the list
 pub record OneRun (ds : List Difference) (elevation azimuth kilometre : ℕ) : Type 0 where
   pub place : ℕ
   pub listed : place < length ds
@@ -67,7 +67,7 @@ pub record Compared (m n : FilterMap) (ds : List Difference) : Type 0 where
       → (codeAt m elevation azimuth kilometre ≡ codeAt n elevation azimuth kilometre → ⊥) → OneRun ds elevation azimuth kilometre
   pub ordered : Ordered ds
 
--- what a listed run's values may be: "an elevation segment (from 1), azimuth (0-359)", kilometres 0 to 511 and codes 0 to 2
+-- the ranges of a run's values: "an elevation segment (from 1), azimuth (0-359)", kilometres 0 to 511 and codes 0 to 2
 pub record RunInRange (d : Difference) : Type 0 where
   pub segment : 1 ≤ d .elevation
   pub segments : d .elevation ≤ mostElevations

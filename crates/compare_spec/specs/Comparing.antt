@@ -19,18 +19,21 @@ comparison m n =
     record { oldElevations = length (m .elevations); newElevations = length (n .elevations); differences = length (differences m n) }
 
 -- six halfwords a difference
+abbrev pub differenceSize : ℕ
+differenceSize = 6
+
 abbrev pub sixOf : Difference → List ℕ
 sixOf d = d .elevation ∷ d .azimuth ∷ d .first ∷ d .last ∷ d .old ∷ d .new ∷ []
 
 unfoldable pub halfwords : List Difference → List ℕ
 halfwords ds = flatten (map sixOf ds)
 
--- so many halfwords have room for the differences of any two maps in range: 421,200
+-- halfwords that have room for the differences of any two maps in range: 421,200
 abbrev pub mostHalfwords : ℕ
-mostHalfwords = 6 * (mostElevations * (azimuths * mostRuns))
+mostHalfwords = differenceSize * (mostElevations * (azimuths * mostRuns))
 
--- "A bad map is refused by its own number, the first map first; too little output is 13": "with nothing written", and "all 0 on refusal", since a
--- refusal has no other number
+-- "A bad map is refused by its own number, the first map first; too little output is 13": "with nothing written", and "all 0 on refusal",
+-- since a refusal has no other number
 abbrev pub comparisonOf : List ℕ → List ℕ → List ℕ → Outcome (List ℕ) Comparison
 comparisonOf old new out =
     let m = mapIn old in

@@ -22,9 +22,10 @@ abbrev pub NoneExactly : Type 0
 NoneExactly =
     (m n : FilterMap)
     → (differences m n ≡ [])
-    ↔ ((elevation azimuth kilometre : ℕ) → Present m n elevation azimuth kilometre → codeAt m elevation azimuth kilometre ≡ codeAt n elevation azimuth kilometre)
+    ↔ ((elevation azimuth kilometre : ℕ) → Present m n elevation azimuth kilometre → codeAt m elevation azimuth kilometre
+    ≡ codeAt n elevation azimuth kilometre)
 
--- a map compared with itself
+-- a map compared with itself has no differences
 abbrev pub WithItself : Type 0
 WithItself = (m : FilterMap) → differences m m ≡ []
 
@@ -36,10 +37,11 @@ Swapped = (m n : FilterMap) → differences n m ≡ map swapped (differences m n
 abbrev pub DateApart : Type 0
 DateApart =
     (m n : FilterMap) (date minutes date′ minutes′ : ℕ)
-    → differences (record { date = date; minutes = minutes; elevations = m .elevations }) (record { date = date′; minutes = minutes′; elevations = n .elevations })
+    → differences (record { date = date; minutes = minutes; elevations = m .elevations })
+    (record { date = date′; minutes = minutes′; elevations = n .elevations })
     ≡ differences m n
 
--- so many differences at most, and a room that always suffices
+-- the most differences, and room that is always enough
 abbrev pub MostDifferences : Type 0
 MostDifferences = (m n : FilterMap) → InRange m → InRange n → length (differences m n) ≤ presentInBoth m n * (azimuths * mostRuns)
 
@@ -55,11 +57,12 @@ abbrev pub HalfwordsFit : Type 0
 HalfwordsFit = (m n : FilterMap) → InRange m → InRange n → Each (λ value. value ≤ mostHalfword) (halfwords (differences m n))
 
 -- ---- two bodies, whatever stands in them
--- "A bad map is refused by its own number, the first map first; too little output is 13, with nothing written"; and two good ones with room are
--- answered by their maps
+-- "A bad map is refused by its own number, the first map first; too little output is 13, with nothing written"; two good maps with enough
+-- room are compared
 pub record InTurn (old new out : List ℕ) : Type 0 where
   pub oldBad : (number : ℕ) → mapOf old ≡ refused number → comparisonOf old new out ≡ refusal out number
-  pub newBad : (m : FilterMap) (number : ℕ) → mapOf old ≡ given m → mapOf new ≡ refused number → comparisonOf old new out ≡ refusal out number
+  pub newBad : (m : FilterMap) (number : ℕ) → mapOf old ≡ given m → mapOf new ≡ refused number
+      → comparisonOf old new out ≡ refusal out number
   pub tooLittle : (m n : FilterMap) → mapOf old ≡ given m → mapOf new ≡ given n → length out < length (halfwords (differences m n))
       → comparisonOf old new out ≡ refusal out 13
   pub enough : (m n : FilterMap) → mapOf old ≡ given m → mapOf new ≡ given n → length (halfwords (differences m n)) ≤ length out
@@ -84,6 +87,10 @@ SwappedAnswered =
     (old new out : List ℕ) (m n : FilterMap) → mapOf old ≡ given m → mapOf new ≡ given n → length (halfwords (differences m n)) ≤ length out
     → comparisonOf new old out
     ≡ record {
-      answer = given (record { oldElevations = length (n .elevations); newElevations = length (m .elevations); differences = length (differences m n) });
+      answer = given (record {
+        oldElevations = length (n .elevations);
+        newElevations = length (m .elevations);
+        differences = length (differences m n);
+      });
       output = filled (halfwords (map swapped (differences m n))) out;
     }

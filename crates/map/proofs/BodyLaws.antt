@@ -1,113 +1,86 @@
--- The whole body from its parts: the three fields, the elevation segments, the leftovers. Assumes nothing.
+-- The whole body from its parts: the three fields, the azimuths, the leftovers. Assumes nothing.
 use Prim.Native.Nat.{ℕ, _+_, _*_, _-_, _≤_, _<_}
 use native.Mathlib.Omega.{arith}
 use mathlib.Core.Path.{_≡_, refl, sym, ap, _∙_, subst}
 use mathlib.Core.Bool.{Bool, true, false}
-use mathlib.Core.List.{List, _++_}
+use mathlib.Core.List.{List, [], _∷_, _++_}
 use lib.Dec.{ltb}
 use lib.ListN.{length, take, drop, length-drop}
-use lib.Seq.{drop-drop}
 use borrow.Author.Tests.{lt-ltb, le-ltb, lt-leb, ltb-true, ltb-false, eq-eqb, ne-eqb}
+use Rattle.wire.specs.Parts.{runSize, runChecks}
 use Rattle.wire.specs.Numbers.{fetched}
-use Rattle.wire.specs.Checks.{pick, Check, decide}
+use Rattle.wire.specs.Checks.{pick, either, Check, check, decide, AllHold}
 use Rattle.wire.specs.Answers.{refused, given, rule}
 use Rattle.wire.proofs.CheckLaws.{neither, decide-append, decide-none, decide-some, all-hold}
 use Rattle.wire.proofs.ListLaws.{part-is}
-use Rattle.map_spec.specs.Map.{azimuths, mostElevations, lastKilometre, Zone, codeFrom, codeAt}
-use Rattle.map_spec.specs.Reading.{runSize, runChecks, azimuthPart, elevationPart, dateIn, minutesIn, segmentsIn, headChecks, leftoverChecks, mapChecks, mapIn, Summary, summary, summaryOf, askedChecks, codeOf}
-use Rattle.map_spec.proofs.Runs.{run-count, run-long}
-use Rattle.map_spec.proofs.Accepted.{elevation-long}
-use Rattle.map_spec.proofs.CheckFacts.{MapFacts, map-facts}
-use Rattle.map_spec.proofs.Places.{size-flat, checks-flat, asked-there, asked-zones}
-use Rattle.map.specs.declared.Found.{Found}
+use Rattle.wire.proofs.PartLaws.{run-count, run-add}
+use Rattle.map_spec.specs.Map.{mostMinutes, azimuths, mostElevations, lastKilometre, fieldSize, headSize, codeAt}
+use Rattle.map_spec.specs.Reading.{value, azimuthPart, elevationPart, dateIn, minutesIn, segmentsIn, fieldChecks, headChecks, leftoverChecks, mapChecks, mapIn, Summary, summary, summaryOf, askedChecks, codeOf}
+use Rattle.map_spec.specs.Places.{indexOf, placeOf, AzimuthStands}
+use Rattle.map_spec.proofs.Accepted.{azimuth-long}
+use Rattle.map_spec.proofs.CheckFacts.{map-facts}
+use Rattle.map_spec.proofs.PartLaws.{fetched-value, cut-off, in-full}
+use Rattle.map_spec.proofs.Places.{size-flat, checks-flat, azimuths-stand}
+use Rattle.map_check.specs.declared.Step.{Step}
 use Rattle.map_check.specs.declared.Step.the-variants.{Next, Stop}
 use Rattle.map_check.specs.Told.{stepBy, runStep}
-use Rattle.map.specs.Steps.{headStep, bodyStep, indexOf, Finds, BodyFinds, azimuthThere, PassFits, codeThere}
-use Rattle.map_spec.proofs.PartLaws.{fetched-value}
+use Rattle.map_check.proofs.RisingLaws.{one-test}
 use Rattle.map_check.proofs.StepLaws.{step-first, step-none, part-stops, part-passes}
-use Rattle.map.proofs.StepLaws.{not-both}
+use Rattle.map.specs.declared.Found.{Found}
+use Rattle.map.specs.Steps.{headStep, bodyStep, askedIndex, Finds, BodyFinds}
+use Rattle.map.proofs.StepLaws.{not-both, run-fits}
 
+-- ---- the three fields, by fetches
+field-fetched : (b : List ℕ) (p : ℕ) (x : Step) (f : ℕ → Step)
+    → pick (ltb (length (drop p b)) fieldSize) x (f (value (drop p b)))
+    ≡ pick (ltb (length b) (p + fieldSize)) x (f (fetched fieldSize b p))
+field-fetched b p x f = go (ltb (length b) (p + fieldSize)) refl
+  where
+    go : (t : Bool) → ltb (length b) (p + fieldSize) ≡ t
+        → pick (ltb (length (drop p b)) fieldSize) x (f (value (drop p b))) ≡ pick t x (f (fetched fieldSize b p))
+    go true q = simp (cut-off b p (ltb-true (length b) (p + fieldSize) q))
+    go false q =
+        let h = ltb-false (length b) (p + fieldSize) q in
+        simp (in-full b p h) (ap f (sym (fetched-value b p h)))
+
+module _ (b : List ℕ) where
+  abbrev pub segmentsFetched : Step
+  segmentsFetched =
+      let n = fetched fieldSize b 4 in
+      pick (ltb (length b) headSize) (Stop 23) (pick (ltb n 1) (Stop 24) (pick (ltb mostElevations n) (Stop 24) (Next n)))
+
+  abbrev pub minutesFetched : Step
+  minutesFetched = pick (ltb (length b) (2 * fieldSize)) (Stop 23) (pick (ltb mostMinutes (fetched fieldSize b 2)) (Stop 24)
+      segmentsFetched)
+
+  pub head-fetched : headStep b ≡ pick (ltb (length b) fieldSize) (Stop 23) (pick (ltb (fetched fieldSize b 0) 1) (Stop 24) minutesFetched)
+  head-fetched =
+      let segments = fieldChecks (drop 4 b) (either (ltb (segmentsIn b) 1) (ltb mostElevations (segmentsIn b))) in
+      let third = decide segments Stop (Next (segmentsIn b)) in
+      let second = pick (ltb (length (drop 2 b)) fieldSize) (Stop 23) (pick (ltb mostMinutes (minutesIn b)) (Stop 24) third) in
+      let e₃ : third ≡ segmentsFetched
+      = ap (λ (s : Step). pick (ltb (length (drop 4 b)) fieldSize) (Stop 23) s)
+      (sym (one-test (ltb (segmentsIn b) 1) (ltb mostElevations (segmentsIn b)) (Stop 24) (Next (segmentsIn b))))
+      ∙ field-fetched b 4 (Stop 23) (λ n. pick (ltb n 1) (Stop 24) (pick (ltb mostElevations n) (Stop 24) (Next n))) in
+      let e₂ : second ≡ minutesFetched
+      = field-fetched b 2 (Stop 23) (λ n. pick (ltb mostMinutes n) (Stop 24) third)
+      ∙ ap (λ (s : Step). pick (ltb (length b) (2 * fieldSize)) (Stop 23) (pick (ltb mostMinutes (fetched fieldSize b 2))
+      (Stop 24) s)) e₃ in
+      field-fetched b 0 (Stop 23) (λ n. pick (ltb n 1) (Stop 24) second)
+      ∙ ap (λ (s : Step). pick (ltb (length b) fieldSize) (Stop 23) (pick (ltb (fetched fieldSize b 0) 1) (Stop 24) s)) e₂
+
+-- ---- the body by its parts
 abbrev segments : List ℕ → List Check
-segments b = runChecks elevationPart (segmentsIn b) (drop 6 b)
+segments b = runChecks elevationPart (segmentsIn b) (drop headSize b)
+
+pub head-stop : (b : List ℕ) (n : ℕ) → Stop n ≡ headStep b → Stop n ≡ bodyStep b
+head-stop b n e = sym (part-stops (headChecks b) (segments b ++ leftoverChecks b) (segmentsIn b) (Next (segmentsIn b)) n (sym e))
 
 -- the azimuths of all elevation segments, counted through
 counted-through : (n : ℕ) (b : List ℕ) → runStep azimuthPart (n * azimuths) b ≡ runStep elevationPart n b
 counted-through n b =
     ap (λ (ks : List Check). stepBy ks (runSize azimuthPart (n * azimuths) b)) (sym (checks-flat n b))
     ∙ ap (λ (k : ℕ). stepBy (runChecks elevationPart n b) k) (sym (size-flat n b))
-
-pub segments-found : (b : List ℕ) (m i j : ℕ) (r : Found) → i ≡ j
-    → Finds (runStep azimuthPart (m * azimuths) (take (length b - 6) (drop 6 b))) (runSize azimuthPart i (take (length b - 6) (drop 6 b))) r
-    → Finds (runStep elevationPart m (drop 6 b)) (runSize azimuthPart j (drop 6 b)) r
-segments-found b m i j r e f =
-    let p = part-is b 6 in
-    let s : runStep azimuthPart (m * azimuths) (take (length b - 6) (drop 6 b)) ≡ runStep elevationPart m (drop 6 b)
-    = ap (λ (l : List ℕ). runStep azimuthPart (m * azimuths) l) p ∙ counted-through m (drop 6 b) in
-    record {
-      checked = f .checked ∙ s;
-      placed =
-          λ n q.
-          f .placed n (q ∙ sym s)
-          ∙ ap (λ (l : List ℕ). runSize azimuthPart i l) p
-          ∙ ap (λ (k : ℕ). runSize azimuthPart k (drop 6 b)) e;
-    }
-
-pub head-stop : (b : List ℕ) (n : ℕ) → Stop n ≡ headStep b → Stop n ≡ bodyStep b
-head-stop b n e = sym (part-stops (headChecks b) (segments b ++ leftoverChecks b) (segmentsIn b) (Next (segmentsIn b)) n (sym e))
-
--- ---- the three fields passed
-module _ (b : List ℕ) (m : ℕ) (e : Next m ≡ headStep b) where
-  pub head-long : 6 ≤ length b
-  head-long =
-      let p = all-hold (headChecks b) (step-none (headChecks b) (segmentsIn b) m (sym e) .0) in
-      let l : 2 ≤ length (drop 4 b) = ltb-false (length (drop 4 b)) 2 (p .1 .1 .1 .1 .0) in
-      let k = simp length-drop at l in
-      omega arith
-
-  pub head-most : m ≤ mostElevations
-  head-most =
-      let p = all-hold (headChecks b) (step-none (headChecks b) (segmentsIn b) m (sym e) .0) in
-      let l = ltb-false mostElevations (segmentsIn b) (neither (ltb (segmentsIn b) 1) (ltb mostElevations (segmentsIn b)) (p .1 .1 .1 .1 .1 .0) .1) in
-      omega (arith, l, step-none (headChecks b) (segmentsIn b) m (sym e) .1)
-
-  count-is : segmentsIn b ≡ m
-  count-is = step-none (headChecks b) (segmentsIn b) m (sym e) .1
-
-  body-is : bodyStep b ≡ decide (segments b ++ leftoverChecks b) Stop (Next (segmentsIn b))
-  body-is = part-passes (headChecks b) (segments b ++ leftoverChecks b) (segmentsIn b) (Next (segmentsIn b)) m (sym e)
-
-  counted : runStep elevationPart m (drop 6 b) ≡ runStep elevationPart (segmentsIn b) (drop 6 b)
-  counted = ap (λ (k : ℕ). runStep elevationPart k (drop 6 b)) (sym count-is)
-
-  pub segments-stop : (n : ℕ) → Stop n ≡ runStep elevationPart m (drop 6 b) → Stop n ≡ bodyStep b
-  segments-stop n f =
-      sym (body-is ∙ part-stops (segments b) (leftoverChecks b) (runSize elevationPart (segmentsIn b) (drop 6 b)) (Next (segmentsIn b)) n (sym (f ∙ counted)))
-
-  -- ---- and the elevation segments
-  module _ (s : ℕ) (f : Next s ≡ runStep elevationPart m (drop 6 b)) where
-    size-is : runSize elevationPart (segmentsIn b) (drop 6 b) ≡ s
-    size-is = step-none (segments b) (runSize elevationPart (segmentsIn b) (drop 6 b)) s (sym (f ∙ counted)) .1
-
-    pub segments-fit : 6 + s ≤ length b
-    segments-fit =
-        let p = step-none (segments b) (runSize elevationPart (segmentsIn b) (drop 6 b)) s (sym (f ∙ counted)) in
-        let l : runSize elevationPart (segmentsIn b) (drop 6 b) ≤ length (drop 6 b) = run-long elevationPart elevation-long (segmentsIn b) (drop 6 b) (all-hold (segments b) (p .0)) in
-        let k = simp length-drop at l in
-        omega (arith, size-is, head-long)
-
-    left-is : bodyStep b ≡ decide (leftoverChecks b) Stop (Next (segmentsIn b))
-    left-is =
-        body-is ∙ part-passes (segments b) (leftoverChecks b) (runSize elevationPart (segmentsIn b) (drop 6 b)) (Next (segmentsIn b)) s (sym (f ∙ counted))
-
-    pub body-left : 6 + s < length b → Stop 23 ≡ bodyStep b
-    body-left h =
-        let l : 6 + runSize elevationPart (segmentsIn b) (drop 6 b) < length b = omega (arith, size-is) in
-        sym (left-is ∙ simp (lt-ltb (6 + runSize elevationPart (segmentsIn b) (drop 6 b)) (length b) l))
-
-    pub body-next : length b ≤ 6 + s → Next m ≡ bodyStep b
-    body-next h =
-        let l : length b ≤ 6 + runSize elevationPart (segmentsIn b) (drop 6 b) = omega (arith, size-is) in
-        ap Next (sym count-is) ∙ sym (left-is ∙ simp (le-ltb (6 + runSize elevationPart (segmentsIn b) (drop 6 b)) (length b) l))
 
 -- ---- the least of two
 pub least-low : (a b : ℕ) → pick (ltb a b) a b ≤ b
@@ -124,22 +97,101 @@ least-first a b h = go (ltb a b) refl
     go true e = refl
     go false e = omega (arith, ltb-false a b e)
 
--- ---- the body, and where an azimuth of it begins
-module _ (index : ℕ) (b : List ℕ) where
-  pub body-none : (r : Found) (k : ℕ) → r ≡ record { step = Stop k; place = 0 } → Stop k ≡ bodyStep b → BodyFinds index b r
-  body-none r k e f = record { checked = ap (λ (x : Found). x .step) e ∙ f; placed = λ n q i. not-both k n (bodyStep b) f q }
+-- ---- the three fields passed
+module _ (b : List ℕ) (m : ℕ) (e : Next m ≡ headStep b) where
+  passed : AllHold (headChecks b)
+  passed = all-hold (headChecks b) (step-none (headChecks b) (segmentsIn b) m (sym e) .0)
 
-  pub body-found : (m place all : ℕ) → Next m ≡ bodyStep b → all ≡ m * azimuths → place ≡ runSize azimuthPart (pick (ltb index all) index all) (drop 6 b)
-      → BodyFinds index b (record { step = Next m; place = place })
-  body-found m place all e a p =
-      record {
-        checked = e;
-        placed =
-            λ n q i.
-            let c : n ≡ m = cc (q ∙ sym e) in
-            let l : index ≤ all = omega (arith, i, c, a) in
-            p ∙ ap (λ (k : ℕ). runSize azimuthPart k (drop 6 b)) (least-first index all l);
-      }
+  count-is : segmentsIn b ≡ m
+  count-is = step-none (headChecks b) (segmentsIn b) m (sym e) .1
+
+  pub head-long : headSize ≤ length b
+  head-long =
+      let l : fieldSize ≤ length (drop 4 b) = ltb-false (length (drop 4 b)) fieldSize (passed .1 .1 .1 .1 .0) in
+      let k = simp length-drop at l in
+      omega arith
+
+  pub head-most : m ≤ mostElevations
+  head-most =
+      let t = neither (ltb (segmentsIn b) 1) (ltb mostElevations (segmentsIn b)) (passed .1 .1 .1 .1 .1 .0) .1 in
+      omega (arith, ltb-false mostElevations (segmentsIn b) t, count-is)
+
+  body-is : bodyStep b ≡ decide (segments b ++ leftoverChecks b) Stop (Next (segmentsIn b))
+  body-is = part-passes (headChecks b) (segments b ++ leftoverChecks b) (segmentsIn b) (Next (segmentsIn b)) m (sym e)
+
+  -- the azimuths behind them, as they are lent
+  abbrev behind : List ℕ
+  behind = take (length b - headSize) (drop headSize b)
+
+  behind-is : runStep azimuthPart (m * azimuths) behind ≡ runStep elevationPart (segmentsIn b) (drop headSize b)
+  behind-is =
+      ap (λ (l : List ℕ). runStep azimuthPart (m * azimuths) l) (part-is b headSize)
+      ∙ counted-through m (drop headSize b)
+      ∙ ap (λ (k : ℕ). runStep elevationPart k (drop headSize b)) (sym count-is)
+
+  module _ (index : ℕ) (f : Found) (finds : Finds (runStep azimuthPart (m * azimuths) behind) (runSize azimuthPart index behind) f) where
+    pub azimuths-stop : (n : ℕ) → f .step ≡ Stop n → Stop n ≡ bodyStep b
+    azimuths-stop n g =
+        sym (body-is ∙ part-stops (segments b) (leftoverChecks b) (runSize elevationPart (segmentsIn b) (drop headSize b))
+        (Next (segmentsIn b)) n (sym behind-is ∙ sym (finds .checked) ∙ g))
+
+    module _ (s : ℕ) (g : f .step ≡ Next s) where
+      passes : Next s ≡ runStep azimuthPart (m * azimuths) behind
+      passes = sym g ∙ finds .checked
+
+      size-is : runSize elevationPart (segmentsIn b) (drop headSize b) ≡ s
+      size-is = step-none (segments b) (runSize elevationPart (segmentsIn b) (drop headSize b)) s (sym (passes ∙ behind-is)) .1
+
+      pub azimuths-fit : headSize + s ≤ length b
+      azimuths-fit =
+          let l : s ≤ length behind = run-fits azimuthPart azimuth-long (m * azimuths) behind s passes in
+          let k = ap (λ (x : List ℕ). length x) (part-is b headSize) ∙ length-drop headSize b in
+          omega (arith, l, k, head-long)
+
+      left-is : bodyStep b ≡ decide (leftoverChecks b) Stop (Next (segmentsIn b))
+      left-is =
+          body-is ∙ part-passes (segments b) (leftoverChecks b) (runSize elevationPart (segmentsIn b) (drop headSize b))
+          (Next (segmentsIn b)) s (sym (passes ∙ behind-is))
+
+      pub body-left : headSize + s < length b → Stop 23 ≡ bodyStep b
+      body-left h =
+          let l : headSize + runSize elevationPart (segmentsIn b) (drop headSize b) < length b = omega (arith, size-is) in
+          sym (left-is ∙ simp (lt-ltb (headSize + runSize elevationPart (segmentsIn b) (drop headSize b)) (length b) l))
+
+      body-next : length b ≤ headSize + s → Next m ≡ bodyStep b
+      body-next h =
+          let l : length b ≤ headSize + runSize elevationPart (segmentsIn b) (drop headSize b) = omega (arith, size-is) in
+          ap Next (sym count-is)
+          ∙ sym (left-is ∙ simp (le-ltb (headSize + runSize elevationPart (segmentsIn b) (drop headSize b)) (length b) l))
+
+      -- where the one of the index begins
+      place-is : headSize + f .place ≡ placeOf index b
+      place-is =
+          ap (λ (k : ℕ). headSize + k)
+          (finds .placed s passes ∙ ap (λ (l : List ℕ). runSize azimuthPart index l) (part-is b headSize))
+
+      pub place-fits : index ≤ m * azimuths → headSize + f .place ≤ length b
+      place-fits h =
+          let e : index + (m * azimuths - index) ≡ m * azimuths = omega arith in
+          let k = ap (λ (n : ℕ). runSize azimuthPart n behind) (sym e) ∙ run-add azimuthPart index (m * azimuths - index) behind in
+          let n = step-none (runChecks azimuthPart (m * azimuths) behind) (runSize azimuthPart (m * azimuths) behind) s (sym passes) .1 in
+          omega (arith, k, n, finds .placed s passes, azimuths-fit)
+
+      pub body-found : (asked : ℕ) → index ≡ pick (ltb asked (m * azimuths)) asked (m * azimuths) → length b ≤ headSize + s
+          → BodyFinds asked b (record { step = Next m; place = headSize + f .place })
+      body-found asked i h =
+          record {
+            checked = body-next h;
+            placed =
+                λ n q l.
+                let c : n ≡ m = cc (q ∙ sym (body-next h)) in
+                place-is ∙ ap (λ (k : ℕ). placeOf k b) (i ∙ least-first asked (m * azimuths) (omega (arith, l, c)));
+          }
+
+-- a body that is refused tells no place
+pub body-none : (index : ℕ) (b : List ℕ) (r : Found) (k : ℕ) → r ≡ record { step = Stop k; place = 0 } → Stop k ≡ bodyStep b
+    → BodyFinds index b r
+body-none index b r k e f = record { checked = ap (λ (x : Found). x .step) e ∙ f; placed = λ n q i. not-both k n (bodyStep b) f q }
 
 -- ---- what is answered of it
 pub map-stop : (b : List ℕ) (n : ℕ) → Stop n ≡ bodyStep b → refused n ≡ summaryOf b
@@ -152,7 +204,8 @@ map-given b m e =
     let h = map-facts b (all-hold (mapChecks b) p) .here in
     let d : fetched 2 b 0 ≡ dateIn b = fetched-value b 0 (omega arith) in
     let q : fetched 2 b 2 ≡ minutesIn b = fetched-value b 2 (omega arith) in
-    let n : fetched 2 b 4 ≡ length (mapIn b .elevations) = fetched-value b 4 (omega arith) ∙ sym (run-count elevationPart (segmentsIn b) (drop 6 b)) in
+    let n : fetched 2 b 4 ≡ length (mapIn b .elevations) = fetched-value b 4 (omega arith)
+    ∙ sym (run-count elevationPart (segmentsIn b) (drop 6 b)) in
     let s : _≡_ {A = Summary} (record { date = fetched 2 b 0; minutes = fetched 2 b 2; elevations = fetched 2 b 4 }) (summary (mapIn b))
     = λ i. record { date = d i; minutes = q i; elevations = n i } in
     ap given s ∙ sym (decide-none (mapChecks b) refused (given (summary (mapIn b))) p)
@@ -167,20 +220,15 @@ query-stop b elevation azimuth kilometre n e =
     ∙ decide-some (mapChecks b) refused (decide ask refused v) n (step-first (mapChecks b) (segmentsIn b) n (sym e)))
 
 module _ (b : List ℕ) (m : ℕ) (e : Next m ≡ bodyStep b) where
-  facts : MapFacts b
-  facts = map-facts b (all-hold (mapChecks b) (step-none (mapChecks b) (segmentsIn b) m (sym e) .0))
+  holds : AllHold (mapChecks b)
+  holds = all-hold (mapChecks b) (step-none (mapChecks b) (segmentsIn b) m (sym e) .0)
 
   segments-are : segmentsIn b ≡ m
   segments-are = step-none (mapChecks b) (segmentsIn b) m (sym e) .1
 
-  query-long : 6 ≤ length b
-  query-long = facts .here
-
-  query-most : m ≤ mostElevations
-  query-most = omega (arith, facts .most, segments-are)
-
   module _ (elevation azimuth kilometre : ℕ) where
-    query-is : codeOf b elevation azimuth kilometre ≡ rule (askedChecks m elevation azimuth kilometre) (codeAt (mapIn b) elevation azimuth kilometre)
+    query-is : codeOf b elevation azimuth kilometre ≡ rule (askedChecks m elevation azimuth kilometre)
+        (codeAt (mapIn b) elevation azimuth kilometre)
     query-is =
         let ask = askedChecks (segmentsIn b) elevation azimuth kilometre in
         let v = codeAt (mapIn b) elevation azimuth kilometre in
@@ -200,50 +248,27 @@ module _ (b : List ℕ) (m : ℕ) (e : Next m ≡ bodyStep b) where
         asked-azimuth a = sym (query-is ∙ simp (ne-eqb elevation 0 z, le-ltb m elevation h, le-ltb azimuth azimuths a))
 
         module _ (a : azimuth < azimuths) where
+          by-kilometre : codeOf b elevation azimuth kilometre
+              ≡ rule (check 21 (ltb lastKilometre kilometre) ∷ []) (codeAt (mapIn b) elevation azimuth kilometre)
+          by-kilometre = query-is ∙ simp (ne-eqb elevation 0 z, le-ltb m elevation h, lt-ltb azimuth azimuths a)
+
           pub asked-far : lastKilometre < kilometre → refused 21 ≡ codeOf b elevation azimuth kilometre
-          asked-far k = sym (query-is ∙ simp (ne-eqb elevation 0 z, le-ltb m elevation h, lt-ltb azimuth azimuths a, lt-ltb lastKilometre kilometre k))
+          asked-far k = sym (by-kilometre ∙ simp (lt-ltb lastKilometre kilometre k))
 
-          inside : elevation - 1 < segmentsIn b
-          inside = omega (arith, segments-are)
+          pub asked-given : kilometre ≤ lastKilometre
+              → given (codeAt (mapIn b) elevation azimuth kilometre) ≡ codeOf b elevation azimuth kilometre
+          asked-given k = sym (by-kilometre ∙ simp (le-ltb lastKilometre kilometre k))
 
-          asked-fits : PassFits ((elevation - 1) * azimuths + azimuth) (drop 6 b)
-          asked-fits = asked-there (segmentsIn b) (elevation - 1) azimuth (drop 6 b) inside a (facts .elevations)
-
-          asked-given : kilometre ≤ lastKilometre
-              → given (codeThere ((elevation - 1) * azimuths + azimuth) kilometre (drop 6 b)) ≡ codeOf b elevation azimuth kilometre
-          asked-given k =
-              ap (λ (zs : List Zone). given (codeFrom 0 zs kilometre)) (sym (asked-zones (segmentsIn b) (elevation - 1) azimuth (drop 6 b) inside a))
-              ∙ sym
-              (query-is
-              ∙ simp (ne-eqb elevation 0 z, le-ltb m elevation h, lt-ltb azimuth azimuths a, le-ltb lastKilometre kilometre k))
-
-          -- by the azimuth that was found
-          module _ (index place : ℕ) (asked : index ≡ indexOf elevation azimuth) (found : index ≤ m * azimuths → place ≡ runSize azimuthPart index (drop 6 b)) where
-            index-is : index ≡ (elevation - 1) * azimuths + azimuth
-            index-is =
-                let l : elevation ≤ mostElevations = omega (arith, query-most) in
-                asked ∙ simp (ne-eqb elevation 0 z, le-ltb mostElevations elevation l, lt-leb azimuths azimuth a)
-
-            place-is : place ≡ runSize azimuthPart ((elevation - 1) * azimuths + azimuth) (drop 6 b)
-            place-is =
-                let l : index ≤ m * azimuths = omega (arith, index-is) in
-                found l ∙ ap (λ (k : ℕ). runSize azimuthPart k (drop 6 b)) index-is
-
-            azimuth-is : drop (6 + place) b ≡ azimuthThere ((elevation - 1) * azimuths + azimuth) (drop 6 b)
-            azimuth-is = sym (drop-drop place 6 b) ∙ ap (λ (k : ℕ). drop k (drop 6 b)) place-is
-
-            pub place-fits : 6 + place ≤ length b
-            place-fits =
-                let l = simp length-drop at asked-fits in
-                omega (arith, l, place-is, query-long)
-
-            pub azimuth-fits : azimuthPart .size (drop (6 + place) b) ≤ length (drop (6 + place) b)
-            azimuth-fits =
-                let i = (elevation - 1) * azimuths + azimuth in
-                let l : azimuthPart .size (azimuthThere i (drop 6 b)) ≤ length (azimuthThere i (drop 6 b))
-                = rw (length-drop (runSize azimuthPart i (drop 6 b)) (drop 6 b)) (omega (arith, asked-fits)) in
-                subst (λ (x : List ℕ). azimuthPart .size x ≤ length x) (sym azimuth-is) l
-
-            pub code-given : kilometre ≤ lastKilometre
-                → given (codeFrom 0 (azimuthPart .read (drop (6 + place) b)) kilometre) ≡ codeOf b elevation azimuth kilometre
-            code-given k = ap (λ (x : List ℕ). given (codeFrom 0 (azimuthPart .read x) kilometre)) azimuth-is ∙ asked-given k
+          -- the azimuth that was found is the one asked for
+          pub asked-stands : (index place : ℕ) → index ≡ askedIndex elevation azimuth
+              → (index ≤ m * azimuths → place ≡ placeOf index b) → AzimuthStands b elevation azimuth place
+          asked-stands index place asked found =
+              let f = map-facts b holds .most in
+              let i : index ≡ indexOf elevation azimuth = asked ∙ simp (
+                ne-eqb elevation 0 z,
+                le-ltb mostElevations elevation (omega (arith, f, segments-are)),
+                lt-leb azimuths azimuth a,
+              ) in
+              let p : place ≡ placeOf (indexOf elevation azimuth) b = found (omega (arith, i)) ∙ ap (λ (k : ℕ). placeOf k b) i in
+              subst (AzimuthStands b elevation azimuth) (sym p)
+              (azimuths-stand b holds elevation azimuth (omega arith) (omega (arith, segments-are)) a)

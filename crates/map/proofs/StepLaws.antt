@@ -4,10 +4,10 @@ use native.Mathlib.Omega.{arith}
 use mathlib.Core.Path.{_≡_, sym, ap, _∙_}
 use mathlib.Core.List.{List, _++_}
 use lib.ListN.{length, drop}
+use Rattle.wire.specs.Parts.{Part, runSize, runChecks}
 use Rattle.wire.specs.Checks.{Check, decide, AllHold}
 use Rattle.wire.proofs.CheckLaws.{never, decide-none, decide-some, all-hold}
-use Rattle.map_spec.specs.Reading.{Part, runSize, runChecks}
-use Rattle.map_spec.proofs.Runs.{run-add, checks-add, run-long}
+use Rattle.wire.proofs.PartLaws.{run-add, checks-add, run-long}
 use Rattle.map_check.specs.declared.Step.{Step}
 use Rattle.map_check.specs.declared.Step.the-variants.{Next, Stop}
 use Rattle.map_check.specs.Told.{stepBy, runStep}
@@ -37,13 +37,15 @@ module _ {A : Type 0} (part : Part A) (count index : ℕ) (b : List ℕ) (inside
     pub first-ends : place ≡ runSize part index b
     first-ends = sym (step-none (runChecks part index b) (runSize part index b) place (sym e) .1)
 
-    second-run : runStep part count b ≡ decide (runChecks part (count - index) (drop place b)) Stop (Next (place + runSize part (count - index) (drop place b)))
+    second-run : runStep part count b ≡ decide (runChecks part (count - index) (drop place b)) Stop
+        (Next (place + runSize part (count - index) (drop place b)))
     second-run =
         let d = drop (runSize part index b) b in
         let all = Next (runSize part index b + runSize part (count - index) d) in
         two-runs
         ∙ part-passes (runChecks part index b) (runChecks part (count - index) d) (runSize part index b) all place (sym e)
-        ∙ ap (λ (k : ℕ). decide (runChecks part (count - index) (drop k b)) Stop (Next (k + runSize part (count - index) (drop k b)))) (sym first-ends)
+        ∙ ap (λ (k : ℕ). decide (runChecks part (count - index) (drop k b)) Stop
+        (Next (k + runSize part (count - index) (drop k b)))) (sym first-ends)
 
     pub second-stops : (k : ℕ) → Stop k ≡ runStep part (count - index) (drop place b) → Stop k ≡ runStep part count b
     second-stops k f =
@@ -59,7 +61,8 @@ module _ {A : Type 0} (part : Part A) (count index : ℕ) (b : List ℕ) (inside
         ap (λ (k : ℕ). Next (place + k)) (sym (p .1)) ∙ sym (second-run ∙ decide-none ks Stop (Next (place + n)) (p .0))
 
 -- so many parts that pass lie within the bytes
-pub run-fits : {A : Type 0} (part : Part A) → ((b : List ℕ) → AllHold (part .checks b) → part .size b ≤ length b) → (count : ℕ) (b : List ℕ) (n : ℕ)
+pub run-fits : {A : Type 0} (part : Part A) → ((b : List ℕ) → AllHold (part .checks b) → part .size b ≤ length b)
+    → (count : ℕ) (b : List ℕ) (n : ℕ)
     → Next n ≡ runStep part count b → n ≤ length b
 run-fits part long count b n e =
     let p = step-none (runChecks part count b) (runSize part count b) n (sym e) in
@@ -71,5 +74,6 @@ pub not-both : {A : Type 0} (k n : ℕ) (right : Step) → Stop k ≡ right → 
 not-both k n right e f = never (cc (e ∙ sym f))
 
 -- so it tells no place
-pub none-found : (right : Step) (place : ℕ) (r : Found) (k : ℕ) → r ≡ record { step = Stop k; place = 0 } → Stop k ≡ right → Finds right place r
+pub none-found : (right : Step) (place : ℕ) (r : Found) (k : ℕ) → r ≡ record { step = Stop k; place = 0 } → Stop k ≡ right
+    → Finds right place r
 none-found right place r k e f = record { checked = ap (λ (x : Found). x .step) e ∙ f; placed = λ n q. not-both k n right f q }

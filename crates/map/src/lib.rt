@@ -1,24 +1,29 @@
 // Message 15, the clutter filter map: a body is checked in one pass, which also tells where the azimuth asked for begins.
+use map_check::FIELD_SIZE;
 use map_check::LAST_KILOMETRE;
 use map_check::Step;
+use map_check::ZONE_SIZE;
 use wire::refusal;
 ghost use mathlib.Core.Path.{_≡_};
 ghost use Prim.Native.Nat.{_≤_};
 ghost use lib.Dec.{ltb};
-ghost use lib.ListN.{length};
-ghost use Rattle.wire.specs.Checks.{pick};
-ghost use Rattle.map_spec.specs.Map.{codeFrom};
-ghost use Rattle.map_spec.specs.Reading.{runSize, azimuthPart, summaryOf, codeOf};
+ghost use Rattle.wire.specs.Parts.{runSize};
+ghost use Rattle.wire.specs.Checks.{pick, AllHold};
+ghost use Rattle.map_spec.specs.Map.{lastKilometre, codeFrom};
+ghost use Rattle.map_spec.specs.Reading.{azimuthPart, summaryOf, codeOf};
 ghost use Rattle.map_check.specs.declared.Step.the-variants.{Stop};
 ghost use Rattle.map_check.specs.Told.{runStep};
 ghost use Rattle.map.specs.Told.{tellMap, tellCode};
-ghost use Rattle.map.specs.Steps.{headStep, Finds, BodyFinds, indexOf};
+ghost use Rattle.map.specs.Steps.{headStep, Finds, BodyFinds, askedIndex};
 
 const MOST_MINUTES: u16 = 1440;
 
-const MOST_ELEVATIONS: u16 = 5;
+pub const MOST_ELEVATIONS: usize = 5;
 
 pub const AZIMUTHS: usize = 360;
+
+// The bytes of the fields before the azimuths.
+pub const HEAD_SIZE: usize = 3 * FIELD_SIZE;
 
 // A checked map's date, minutes and number of elevation segments, or the number of refusal.
 pub enum MapAnswer {
@@ -38,12 +43,6 @@ struct Found {
     place: usize,
 }
 
-fn wide(x: u16) -> usize
-    ensures { λ r. ⌜ r ≡ x ⌝ }
-{
-    x as usize
-}
-
 fn found_none(number: u8) -> Found
     ensures { λ r. ⌜ r ≡ record { step = Stop number; place = 0 } ⌝ }
 {
@@ -53,7 +52,7 @@ fn found_none(number: u8) -> Found
     }
 }
 
-// The check halts at the azimuth of an index and goes on from there: that is where it begins.
+// Checks `count` azimuths in two calls: those before the index, and the rest. The azimuth with the index begins where the first call ends.
 fn find_azimuth(part: &[u8], count: usize, index: usize) -> Found
     requires { ⌜ index ≤ count ⌝ }
     ensures { λ r. ⌜ Finds (runStep azimuthPart count (now (part .entry))) (runSize azimuthPart index (now (part .entry))) r ⌝ }
@@ -74,29 +73,29 @@ fn find_azimuth(part: &[u8], count: usize, index: usize) -> Found
 fn check_head(body: &[u8]) -> Step
     ensures { λ r. ⌜ r ≡ headStep (now (body .entry)) ⌝ }
 {
-    if body.len() < 2 {
+    if body.len() < FIELD_SIZE {
         return Step::Stop(refusal::LENGTH);
     }
     if wire::fetch16(body, 0) < 1 {
         return Step::Stop(refusal::FIELD);
     }
-    if body.len() < 4 {
+    if body.len() < 2 * FIELD_SIZE {
         return Step::Stop(refusal::LENGTH);
     }
     if MOST_MINUTES < wire::fetch16(body, 2) {
         return Step::Stop(refusal::FIELD);
     }
-    if body.len() < 6 {
+    if body.len() < HEAD_SIZE {
         return Step::Stop(refusal::LENGTH);
     }
-    let count = wire::fetch16(body, 4);
+    let count = wire::fetch16(body, 4) as usize;
     if count < 1 {
         return Step::Stop(refusal::FIELD);
     }
     if MOST_ELEVATIONS < count {
         return Step::Stop(refusal::FIELD);
     }
-    Step::Next(wide(count))
+    Step::Next(count)
 }
 
 fn least(a: usize, b: usize) -> usize
@@ -108,25 +107,25 @@ fn least(a: usize, b: usize) -> usize
     b
 }
 
-// The whole body: the number of its elevation segments, and where the azimuth of an index begins after the first six bytes. The azimuths
-// of all elevation segments are counted through from 0.
+// The whole body: the number of its elevation segments, and where the azimuth with an index begins. The index counts the azimuths of
+// all elevation segments from 0.
 fn check_body(body: &[u8], index: usize) -> Found
     ensures { λ r. ⌜ BodyFinds index (now (body .entry)) r ⌝ }
 {
     match check_head(body) {
         Step::Next(count) => {
             let all = count * AZIMUTHS;
-            let found = find_azimuth(&body[6..], all, least(index, all));
+            let found = find_azimuth(&body[HEAD_SIZE..], all, least(index, all));
             let place = found.place;
             let step = found.step;
             match step {
                 Step::Next(size) => {
-                    if 6 + size < body.len() {
+                    if HEAD_SIZE + size < body.len() {
                         return found_none(refusal::LENGTH);
                     }
                     Found {
                         step: Step::Next(count),
-                        place,
+                        place: HEAD_SIZE + place,
                     }
                 }
                 Step::Stop(number) => found_none(number),
@@ -153,32 +152,32 @@ pub fn check_map(body: &[u8]) -> MapAnswer
     }
 }
 
-// The code at a kilometre of the azimuth that a checked part begins with: that of the first zone that does not end before it.
+// The code at a kilometre of a checked azimuth, which the part begins with: the code of the first zone whose end is not below it.
 fn zone_code(part: &[u8], kilometre: usize) -> u16
-    requires { ⌜ azimuthPart .size (now part) ≤ length (now part) ⌝ }
+    requires { ⌜ AllHold (azimuthPart .checks (now part)) × (kilometre ≤ lastKilometre) ⌝ }
     ensures { λ r. ⌜ r ≡ codeFrom 0 (azimuthPart .read (now (part .entry))) kilometre ⌝ }
 {
     let mut left = wire::fetch16(part, 0);
-    let mut at: u32 = 2;
+    let mut at = FIELD_SIZE as u32;
     while 0 < left {
-        let end = wide(wire::fetch16(part, at + 2));
-        if kilometre < end + 1 {
-            return wire::fetch16(part, at);
+        let zone = wire::fetch32(part, at);
+        if kilometre <= map_check::end_of(zone) as usize {
+            return map_check::code_of(zone);
         }
-        at += 4;
+        at += ZONE_SIZE as u32;
         left -= 1;
     }
     0
 }
 
-// The azimuth asked for, counted through from 0, or 0 where no map has one.
+// The index of the azimuth asked for, over all elevation segments from 0. Where no map has such an azimuth it is 0.
 fn index_of(elevation: usize, azimuth: usize) -> usize
-    ensures { λ r. ⌜ r ≡ indexOf elevation azimuth ⌝ }
+    ensures { λ r. ⌜ r ≡ askedIndex elevation azimuth ⌝ }
 {
     if elevation == 0 {
         return 0;
     }
-    if wide(MOST_ELEVATIONS) < elevation {
+    if MOST_ELEVATIONS < elevation {
         return 0;
     }
     if AZIMUTHS <= azimuth {
@@ -208,8 +207,7 @@ pub fn code_at(body: &[u8], elevation: usize, azimuth: usize, kilometre: usize) 
             if LAST_KILOMETRE < kilometre {
                 return CodeAnswer::Refused(refusal::ASKED_FOR);
             }
-            let start = 6 + place;
-            let code = zone_code(&body[start..], kilometre);
+            let code = zone_code(&body[place..], kilometre);
             CodeAnswer::Code(code)
         }
         Step::Stop(number) => CodeAnswer::Refused(number),

@@ -1,21 +1,26 @@
 -- A walk of checked parts: a part that stops, stops the walk; after a part that passes the walk goes on behind it. Assumes nothing.
-use Prim.Native.Nat.{ℕ, zero, suc, _+_, _*_, _-_, _≤_, _<_}
+use Prim.Native.Nat.{ℕ, zero, suc, _+_, _*_, _-_, _/_, _≤_, _<_}
 use native.Mathlib.Nat.{add-zero, zero-add, add-assoc}
 use native.Mathlib.Omega.{arith}
-use mathlib.Core.Path.{_≡_, sym, ap, _∙_}
+use mathlib.Core.Path.{_≡_, sym, ap, _∙_, subst}
 use mathlib.Core.Option.{none, some}
 use mathlib.Core.List.{List, _++_}
-use lib.ListN.{length, drop, length-drop}
+use lib.ListN.{length, take, drop, length-drop}
 use lib.Seq.{drop-drop}
 use borrow.Author.Tests.{lt-ltb, le-ltb}
+use Rattle.wire.specs.Parts.{Part, runSize, runChecks}
+use Rattle.wire.specs.Numbers.{fetched}
+use Rattle.wire.proofs.ListLaws.{part-is}
 use Rattle.wire.specs.Checks.{Check, decide, first, AllHold}
 use Rattle.wire.proofs.CheckLaws.{never, passed, stopped, decide-append, decide-none, decide-some, all-hold}
-use Rattle.map_spec.specs.Map.{mostZones}
-use Rattle.map_spec.specs.Reading.{value, after, zonesChecks, Part, runSize, runChecks, azimuthPart}
+use Rattle.map_spec.specs.Map.{mostZones, kilometres, fieldSize, zoneSize}
+use Rattle.map_spec.proofs.PartLaws.{fetched-value}
+use Rattle.map_spec.specs.Reading.{value, after, zonesChecks, azimuthPart}
 use Rattle.map_check.specs.declared.Step.{Step}
 use Rattle.map_check.specs.declared.Step.the-variants.{Next, Stop}
 use Rattle.map_check.specs.Told.{stepBy, partStep, runStep}
-use Rattle.map_check.specs.Steps.{zonesStep}
+use Rattle.map_check.specs.Steps.{nextEnd, zonesStep, CutOff}
+use Rattle.map_check.proofs.RisingLaws.{whole-stop, whole-next}
 
 -- ---- one part
 pub step-first : (ks : List Check) (n k : ℕ) → stepBy ks n ≡ Stop k → first ks ≡ some k
@@ -35,31 +40,73 @@ module _ (ks rest : List Check) (n : ℕ) (end : Step) where
 pub less-one : (l : ℕ) → suc l - 1 ≡ l
 less-one l = omega arith
 
--- ---- one azimuth
-module _ (b : List ℕ) where
-  pub azimuth-cut : length b < 2 → Stop 23 ≡ partStep azimuthPart b
-  azimuth-cut h = simp (lt-ltb (length b) 2 h)
+-- ---- one azimuth, by its zone count as it was fetched
+pub azimuth-cut : (b : List ℕ) → length b < fieldSize → Stop 23 ≡ partStep azimuthPart b
+azimuth-cut b h = simp (lt-ltb (length b) fieldSize h)
 
-  pub azimuth-none : 2 ≤ length b → value b < 1 → Stop 24 ≡ partStep azimuthPart b
-  azimuth-none h k = simp (le-ltb (length b) 2 h, lt-ltb (value b) 1 k)
+module _ (b : List ℕ) (here : fieldSize ≤ length b) (count : ℕ) (fetched-count : count ≡ fetched fieldSize b 0) where
+  counted : count ≡ value b
+  counted = fetched-count ∙ fetched-value b 0 (omega arith)
 
-  pub azimuth-many : 2 ≤ length b → 1 ≤ value b → mostZones < value b → Stop 24 ≡ partStep azimuthPart b
-  azimuth-many h l k = simp (le-ltb (length b) 2 h, le-ltb (value b) 1 l, lt-ltb mostZones (value b) k)
+  pub azimuth-none : count < 1 → Stop 24 ≡ partStep azimuthPart b
+  azimuth-none h = simp (le-ltb (length b) fieldSize here, lt-ltb (value b) 1 (omega (arith, counted)))
 
-  module _ (h : 2 ≤ length b) (l : 1 ≤ value b) (k : value b ≤ mostZones) where
-    azimuth-zones : partStep azimuthPart b ≡ decide (zonesChecks (value b) 0 (after b)) Stop (Next (azimuthPart .size b))
-    azimuth-zones = simp (le-ltb (length b) 2 h, le-ltb (value b) 1 l, le-ltb mostZones (value b) k)
+  module _ (some : 1 ≤ count) where
+    pub azimuth-many : mostZones < count → Stop 24 ≡ partStep azimuthPart b
+    azimuth-many h =
+        simp (
+          le-ltb (length b) fieldSize here,
+          le-ltb (value b) 1 (omega (arith, counted)),
+          lt-ltb mostZones (value b) (omega (arith, counted)),
+        )
 
-    pub azimuth-stop : (n : ℕ) → Stop n ≡ zonesStep (value b) (after b) → Stop n ≡ partStep azimuthPart b
-    azimuth-stop n e =
-        let ks = zonesChecks (value b) 0 (after b) in
-        sym (azimuth-zones ∙ decide-some ks Stop (Next (azimuthPart .size b)) n (step-first ks (4 * value b) n (sym e)))
+    module _ (few : count ≤ mostZones) where
+      zones-decide : partStep azimuthPart b ≡ decide (zonesChecks (value b) 0 (after b)) Stop (Next (azimuthPart .size b))
+      zones-decide =
+          simp (
+            le-ltb (length b) fieldSize here,
+            le-ltb (value b) 1 (omega (arith, counted)),
+            le-ltb mostZones (value b) (omega (arith, counted)),
+          )
 
-    pub azimuth-next : (n : ℕ) → Next n ≡ zonesStep (value b) (after b) → Next (2 + n) ≡ partStep azimuthPart b
-    azimuth-next n e =
-        let ks = zonesChecks (value b) 0 (after b) in
-        let p = step-none ks (4 * value b) n (sym e) in
-        ap (λ (m : ℕ). Next (2 + m)) (sym (p .1)) ∙ sym (azimuth-zones ∙ decide-none ks Stop (Next (azimuthPart .size b)) (p .0))
+      azimuth-stop : (n : ℕ) → Stop n ≡ zonesStep (value b) (after b) → Stop n ≡ partStep azimuthPart b
+      azimuth-stop n e =
+          let ks = zonesChecks (value b) 0 (after b) in
+          sym (zones-decide ∙ decide-some ks Stop (Next (azimuthPart .size b)) n (step-first ks (zoneSize * value b) n (sym e)))
+
+      -- the zones are not all there
+      pub azimuth-short : length b < fieldSize + zoneSize * count → (n : ℕ)
+          → CutOff (take (length b - fieldSize) (drop fieldSize b)) n → Stop n ≡ partStep azimuthPart b
+      azimuth-short h n cut =
+          let p = part-is b fieldSize in
+          let l : length (after b) < zoneSize * value b = rw length-drop (omega (arith, counted)) in
+          azimuth-stop n (subst (λ (x : List ℕ). CutOff x n) p cut (value b) l)
+
+      -- they are, and come to an end
+      module _ (whole : fieldSize + zoneSize * count ≤ length b) (end : ℕ) where
+        abbrev zonesOf : List ℕ
+        zonesOf = take (fieldSize + zoneSize * count - fieldSize) (drop fieldSize b)
+
+        module _ (told : end ≡ nextEnd (length zonesOf / zoneSize) 0 zonesOf 0) where
+          some-value : 1 ≤ value b
+          some-value = omega (arith, counted)
+
+          there : zoneSize * value b ≤ length (after b)
+          there = rw length-drop (omega (arith, counted))
+
+          sized : fieldSize + zoneSize * count - fieldSize ≡ zoneSize * value b
+          sized = omega (arith, counted)
+
+          pub azimuth-wrong : (end ≡ kilometres → ⊥) → Stop 24 ≡ partStep azimuthPart b
+          azimuth-wrong n = azimuth-stop 24 (whole-stop (after b) (value b) some-value there _ sized end told n)
+
+          pub azimuth-right : end ≡ kilometres → Next (fieldSize + zoneSize * count) ≡ partStep azimuthPart b
+          azimuth-right e =
+              let ks = zonesChecks (value b) 0 (after b) in
+              let p = step-none ks (zoneSize * value b) (zoneSize * value b)
+              (sym (whole-next (after b) (value b) some-value there _ sized end told e)) in
+              ap (λ (n : ℕ). Next (fieldSize + zoneSize * n)) counted
+              ∙ sym (zones-decide ∙ decide-none ks Stop (Next (azimuthPart .size b)) (p .0))
 
 -- ---- a run of parts: what is left of a walk from a place
 abbrev pub walk : {A : Type 0} → Part A → ℕ → ℕ → List ℕ → Step
@@ -84,7 +131,8 @@ module _ {A : Type 0} (part : Part A) where
       let s = part .size d in
       part-stops (part .checks d) (runChecks part l (drop s d)) s (Next (at + (s + runSize part l (drop s d)))) k e
 
-  pub walk-turn : (left at : ℕ) (b : List ℕ) (m : ℕ) → 0 < left → Next m ≡ partStep part (drop at b) → walk part (left - 1) (at + m) b ≡ walk part left at b
+  pub walk-turn : (left at : ℕ) (b : List ℕ) (m : ℕ) → 0 < left → Next m ≡ partStep part (drop at b)
+      → walk part (left - 1) (at + m) b ≡ walk part left at b
   walk-turn zero at b m h e = absurd (omega arith)
   walk-turn (suc l) at b m h e = ap (λ (k : ℕ). walk part k (at + m) b) (less-one l) ∙ sym (walk-turn′ l at b m (sym e))
 

@@ -1,15 +1,15 @@
--- What a checked part of a body tells: how far it reaches, or the number of its refusal.
+-- What the check of a part means: the bytes that it takes, or the number of its refusal.
 use Prim.Native.Nat.{ℕ}
 use mathlib.Core.List.{List}
+use Rattle.wire.specs.Parts.{Part, runSize, runChecks}
 use Rattle.wire.specs.Checks.{Check, decide}
-use Rattle.map_spec.specs.Reading.{Part, runSize, runChecks}
 use Rattle.map_check.specs.declared.Step.{Step}
 use Rattle.map_check.specs.declared.Step.the-variants.{Next, Stop}
 
 abbrev pub stepBy : List Check → ℕ → Step
 stepBy ks n = decide ks Stop (Next n)
 
--- an azimuth or an elevation segment, and so many of them: the bytes that they take
+-- the check of one part, and of `count` parts in a row: the bytes that they take, or a refusal
 abbrev pub partStep : {A : Type 0} → Part A → List ℕ → Step
 partStep part b = stepBy (part .checks b) (part .size b)
 

@@ -1,23 +1,29 @@
-// The check of a clutter filter map's azimuths: so many of them one after the other, zone by zone.
+// The check of a clutter filter map's azimuths: a given number of them, zone by zone.
 use wire::refusal;
 ghost use mathlib.Core.Path.{_≡_};
-ghost use Prim.Native.Nat.{_*_, _/_, _≤_};
-ghost use lib.Dec.{ltb};
+ghost use Prim.Native.Nat.{_*_, _/_, _%_, _≤_};
 ghost use lib.ListN.{length};
-ghost use Rattle.wire.specs.Numbers.{fetched};
-ghost use Rattle.map_spec.specs.Map.{mostCode, mostZones};
+ghost use Rattle.map_spec.specs.Map.{mostZones, halfwordNumbers, zoneSize};
 ghost use Rattle.map_spec.specs.Reading.{azimuthPart};
 ghost use Rattle.map_check.specs.Told.{partStep, runStep};
-ghost use Rattle.map_check.specs.Steps.{nextEnd, CutOff};
+ghost use Rattle.map_check.specs.Steps.{zoneBroken, nextEnd, CutOff};
 
-const MOST_ZONES: usize = 20;
+pub const MOST_ZONES: usize = 20;
 
 const MOST_CODE: u16 = 2;
 
 pub const LAST_KILOMETRE: usize = 511;
 
-// Above every end that a zone may have, and above the one that follows the last.
-const NO_END: usize = 513;
+// Bytes: of a field, and of a zone.
+pub const FIELD_SIZE: usize = 2;
+
+pub const ZONE_SIZE: usize = 2 * FIELD_SIZE;
+
+// How many values a halfword can have.
+const HALFWORD_NUMBERS: u32 = 65536;
+
+// The answer for a broken zone. It is above 512, the greatest answer for zones in range.
+const NO_END: usize = LAST_KILOMETRE + 2;
 
 // A part of the map that was checked: the bytes that it takes, or the number of refusal.
 pub enum Step {
@@ -25,82 +31,97 @@ pub enum Step {
     Stop(u8),
 }
 
-fn wide(x: u16) -> usize
-    ensures { λ r. ⌜ r ≡ x ⌝ }
+// The code and the end of a zone that was fetched as one number.
+pub fn code_of(zone: u32) -> u16
+    ensures { λ r. ⌜ r ≡ zone / halfwordNumbers ⌝ }
 {
-    x as usize
+    (zone / HALFWORD_NUMBERS) as u16
 }
 
-// Whether the code at a place is out of range. One that is cut off is not.
-fn code_broken(zones: &[u8], at: u32) -> bool
-    ensures { λ r. ⌜ r ≡ ltb mostCode (fetched 2 (now (zones .entry)) at) ⌝ }
+pub fn end_of(zone: u32) -> u16
+    ensures { λ r. ⌜ r ≡ zone % halfwordNumbers ⌝ }
 {
-    MOST_CODE < wire::fetch16(zones, at)
+    (zone % HALFWORD_NUMBERS) as u16
 }
 
-// The least end that a zone after the zones that are all there may have, or one that no zone may have where a code is out of range or
-// an end does not rise. Ends that rise to 511 are none above it, so that is asked once, at the last.
-fn next_end(zones: &[u8]) -> usize
-    requires { ⌜ length (now zones) ≤ 4 * mostZones ⌝ }
-    ensures { λ r. ⌜ r ≡ nextEnd (length (now (zones .entry)) / 4) 0 (now (zones .entry)) 0 ⌝ }
+// Whether the zone's code is out of range, or its end is below `from`.
+fn zone_broken(zone: u32, from: u32) -> bool
+    ensures { λ r. ⌜ r ≡ zoneBroken from zone ⌝ }
 {
-    let mut at: u32 = 0;
-    let mut from: usize = 0;
-    while at as usize + 4 <= zones.len() {
-        if code_broken(zones, at) {
-            return NO_END;
-        }
-        let end = wide(wire::fetch16(zones, at + 2));
-        if end < from {
-            return NO_END;
-        }
-        from = end + 1;
-        at += 4;
+    if MOST_CODE < code_of(zone) {
+        return true;
     }
-    from
+    (end_of(zone) as u32) < from
 }
 
-// The number of refusal of zones of which the last are not all there, however many there are to be.
+// The least end that may follow the whole zones: one more than the last end. NO_END if a code is out of range or an end does not rise.
+// Ends rise strictly, so it is enough that the last is 511. A zone is fetched a turn before it is checked: else the compiler
+// loads its code and its end separately.
+fn next_end(zones: &[u8]) -> usize
+    requires { ⌜ length (now zones) ≤ zoneSize * mostZones ⌝ }
+    ensures { λ r. ⌜ r ≡ nextEnd (length (now (zones .entry)) / zoneSize) 0 (now (zones .entry)) 0 ⌝ }
+{
+    if zones.len() < ZONE_SIZE {
+        return 0;
+    }
+    let mut zone = wire::fetch32(zones, 0);
+    let mut from: u32 = 0;
+    let mut at = ZONE_SIZE;
+    while at + ZONE_SIZE <= zones.len() {
+        if zone_broken(zone, from) {
+            return NO_END;
+        }
+        from = end_of(zone) as u32 + 1;
+        zone = wire::fetch32(&zones[at..at + ZONE_SIZE], 0);
+        at += ZONE_SIZE;
+    }
+    if zone_broken(zone, from) {
+        return NO_END;
+    }
+    end_of(zone) as usize + 1
+}
+
+// The number of refusal of zones that are cut off: 24 if a field before the cut is bad, else 23.
 fn cut_zones(zones: &[u8]) -> u8
-    requires { ⌜ length (now zones) ≤ 4 * mostZones ⌝ }
+    requires { ⌜ length (now zones) ≤ zoneSize * mostZones ⌝ }
     ensures { λ r. ⌜ CutOff (now (zones .entry)) r ⌝ }
 {
     let cut = refusal::LENGTH;
     if LAST_KILOMETRE + 1 < next_end(zones) {
         return refusal::FIELD;
     }
-    let at = zones.len() / 4 * 4;
-    if code_broken(zones, at as u32) {
+    let at = zones.len() / ZONE_SIZE * ZONE_SIZE;
+    if MOST_CODE < wire::fetch16(zones, at as u32) {
         return refusal::FIELD;
     }
     cut
 }
 
-// The azimuth that the part begins with: its zone count, and its zones.
+// Checks the azimuth that the part begins with: its zone count and its zones.
 fn check_azimuth(part: &[u8]) -> Step
     ensures { λ r. ⌜ r ≡ partStep azimuthPart (now (part .entry)) ⌝ }
 {
-    if part.len() < 2 {
+    if part.len() < FIELD_SIZE {
         return Step::Stop(refusal::LENGTH);
     }
-    let count = wide(wire::fetch16(part, 0));
+    let count = wire::fetch16(part, 0) as usize;
     if count < 1 {
         return Step::Stop(refusal::FIELD);
     }
     if MOST_ZONES < count {
         return Step::Stop(refusal::FIELD);
     }
-    let size = 2 + 4 * count;
+    let size = FIELD_SIZE + ZONE_SIZE * count;
     if part.len() < size {
-        return Step::Stop(cut_zones(&part[2..]));
+        return Step::Stop(cut_zones(&part[FIELD_SIZE..]));
     }
-    if next_end(&part[2..size]) != LAST_KILOMETRE + 1 {
+    if next_end(&part[FIELD_SIZE..size]) != LAST_KILOMETRE + 1 {
         return Step::Stop(refusal::FIELD);
     }
     Step::Next(size)
 }
 
-// So many azimuths from the part's start, those of all elevation segments counted through.
+// Checks `count` azimuths in a row from the part's start, across elevation segments.
 pub fn check_azimuths(part: &[u8], count: usize) -> Step
     ensures { λ r. ⌜ r ≡ runStep azimuthPart count (now (part .entry)) ⌝ }
 {

@@ -1,21 +1,23 @@
--- A body that no check refuses: it is long enough, what is read of it is in range, and its bytes are those that the map renders to. Assumes nothing.
+-- A body that no check refuses: it is long enough, what is read of it is in range, and its bytes are those that the map renders to. Assumes
+-- nothing.
 use Prim.Native.Nat.{ℕ, zero, suc, _+_, _*_, _≤_, _<_}
 use native.Mathlib.Omega.{arith}
 use mathlib.Core.Path.{_≡_, refl, sym, ap, _∙_}
 use mathlib.Core.List.{List, _++_, append-nil}
 use lib.ListN.{length, drop, length-drop, drop-of-length-le}
 use lib.Seq.{drop-drop}
+use Rattle.wire.specs.Parts.{runSize, runIn, fieldsOf}
 use Rattle.wire.specs.Properties.{Each}
 use Rattle.wire.specs.Numbers.{num, be, Octets}
 use Rattle.wire.specs.Checks.{AllHold}
 use Rattle.wire.specs.Tables.{render}
 use Rattle.wire.proofs.NumberLaws.{num-fits, octets-drop}
-use Rattle.map_spec.specs.Map.{azimuths, lastKilometre, Zone, fieldsOf, zoneFields, azimuthFields, elevationFields, mapBytes, ZoneInRange, AzimuthInRange, ElevationInRange, InRange}
-use Rattle.map_spec.specs.Reading.{value, after, zonesChecks, zonesIn, runSize, runIn, azimuthPart, elevationPart, dateIn, minutesIn, segmentsIn, mapChecks, mapIn}
+use Rattle.map_spec.specs.Map.{azimuths, zoneFields, azimuthFields, elevationFields, mapBytes, ZoneInRange, AzimuthInRange, ElevationInRange, InRange}
+use Rattle.map_spec.specs.Reading.{value, after, zonesChecks, zonesIn, azimuthPart, elevationPart, dateIn, minutesIn, segmentsIn, mapChecks, mapIn}
 use Rattle.map_spec.proofs.FieldLaws.{field-back}
 use Rattle.map_spec.proofs.CheckFacts.{zone-facts, azimuth-facts, map-facts}
-use Rattle.map_spec.proofs.Runs.{run-count, run-long, run-range, run-back}
-use Rattle.map_spec.proofs.ZoneLaws.{LastAt, RisesFrom, rises-ends}
+use Rattle.wire.proofs.PartLaws.{run-count, run-range, run-back}
+use Rattle.map_spec.proofs.ZoneLaws.{Rises, rises-ends}
 
 -- ---- zones
 pub zones-long : (n from : ℕ) (b : List ℕ) → AllHold (zonesChecks n from b) → 4 * n ≤ length b
@@ -38,25 +40,21 @@ zones-range (suc n) from b p =
     let f = zone-facts n from b p in
     (record { code = f .code; end = f .end .high }, zones-range n (suc (value (after b))) (after (after b)) (f .rest))
 
-last-at : (n : ℕ) (z : Zone) (b : List ℕ) → (n ≡ 0 → z .end ≡ lastKilometre) → LastAt z (zonesIn n b)
+pub zones-rise : (n from : ℕ) (b : List ℕ) → 1 ≤ n → AllHold (zonesChecks n from b) → Rises from (zonesIn n b)
 unfolding zonesIn
-last-at zero z b h = h refl
-last-at (suc n) z b h = tt
-
-pub zones-rise : (n from : ℕ) (b : List ℕ) → AllHold (zonesChecks n from b) → RisesFrom from (zonesIn n b)
-unfolding zonesIn
-zones-rise zero from b p = tt
-zones-rise (suc n) from b p =
-    let f = zone-facts n from b p in
-    let z : Zone = record { code = value b; end = value (after b) } in
-    (f .end .low, last-at n z (after (after b)) (f .end .last), zones-rise n (suc (value (after b))) (after (after b)) (f .rest))
+zones-rise zero from b h p = absurd (omega arith)
+zones-rise (suc zero) from b h p = let f = zone-facts 0 from b p in (f .end .low, ap suc (f .end .last refl))
+zones-rise (suc (suc n)) from b h p =
+    let f = zone-facts (suc n) from b p in
+    (f .end .low, zones-rise (suc n) (suc (value (after b))) (after (after b)) (omega arith) (f .rest))
 
 two-fields : (n : ℕ) (b : List ℕ) → drop (4 * suc n) b ≡ drop (4 * n) (after (after b))
 two-fields n b =
     let e : 4 * suc n ≡ 2 + (2 + 4 * n) = omega arith in
     ap (λ (k : ℕ). drop k b) e ∙ sym (drop-drop (2 + 4 * n) 2 b) ∙ sym (drop-drop (4 * n) 2 (drop 2 b))
 
-zones-back : (n from : ℕ) (b : List ℕ) → Octets b → AllHold (zonesChecks n from b) → render (fieldsOf zoneFields (zonesIn n b)) ++ drop (4 * n) b ≡ b
+zones-back : (n from : ℕ) (b : List ℕ) → Octets b → AllHold (zonesChecks n from b)
+    → render (fieldsOf zoneFields (zonesIn n b)) ++ drop (4 * n) b ≡ b
 unfolding zonesIn
 zones-back zero from b o p = refl
 zones-back (suc n) from b o p =
@@ -79,7 +77,7 @@ azimuth-long b p =
     let k = simp length-drop at q in
     omega (arith, f .here)
 
-azimuth-range : (b : List ℕ) → AllHold (azimuthPart .checks b) → AzimuthInRange (azimuthPart .read b)
+pub azimuth-range : (b : List ℕ) → AllHold (azimuthPart .checks b) → AzimuthInRange (azimuthPart .read b)
 azimuth-range b p =
     let f = azimuth-facts b p in
     let n = zones-count (value b) (after b) in
@@ -87,24 +85,27 @@ azimuth-range b p =
       some = omega (arith, f .some);
       most = omega (arith, f .most);
       zones = zones-range (value b) 0 (after b) (f .zones);
-      rise = rises-ends 0 (zonesIn (value b) (after b)) (zones-rise (value b) 0 (after b) (f .zones));
+      rise = rises-ends 0 (zonesIn (value b) (after b)) (zones-rise (value b) 0 (after b) (f .some) (f .zones));
     }
 
-azimuth-back : (b : List ℕ) → Octets b → AllHold (azimuthPart .checks b) → render (azimuthFields (azimuthPart .read b)) ++ drop (azimuthPart .size b) b ≡ b
+azimuth-back : (b : List ℕ) → Octets b → AllHold (azimuthPart .checks b) → render (azimuthFields (azimuthPart .read b)) ++ drop
+    (azimuthPart .size b) b ≡ b
 azimuth-back b o p =
     let f = azimuth-facts b p in
     let r = render (fieldsOf zoneFields (zonesIn (value b) (after b))) in
     let t = drop (2 + 4 * value b) b in
     let d : r ++ t ≡ after b
     = ap (λ (x : List ℕ). r ++ x) (sym (drop-drop (4 * value b) 2 b)) ∙ zones-back (value b) 0 (after b) (octets-drop 2 b o) (f .zones) in
-    ap (λ (n : ℕ). be 2 n ++ (r ++ t)) (zones-count (value b) (after b)) ∙ ap (λ (x : List ℕ). be 2 (value b) ++ x) d ∙ field-back b o (f .here)
+    ap (λ (n : ℕ). be 2 n ++ (r ++ t)) (zones-count (value b) (after b)) ∙ ap (λ (x : List ℕ). be 2 (value b) ++ x) d
+    ∙ field-back b o (f .here)
 
 -- ---- an elevation segment
-pub elevation-long : (b : List ℕ) → AllHold (elevationPart .checks b) → elevationPart .size b ≤ length b
-elevation-long b p = run-long azimuthPart azimuth-long azimuths b p
-
 elevation-range : (b : List ℕ) → AllHold (elevationPart .checks b) → ElevationInRange (elevationPart .read b)
-elevation-range b p = record { all = run-count azimuthPart azimuths b; each = run-range azimuthPart AzimuthInRange azimuth-range azimuths b p }
+elevation-range b p = record {
+  all = run-count azimuthPart azimuths b;
+  each = run-range azimuthPart AzimuthInRange azimuth-range
+      azimuths b p;
+}
 
 elevation-back : (b : List ℕ) → Octets b → AllHold (elevationPart .checks b)
     → render (elevationFields (elevationPart .read b)) ++ drop (elevationPart .size b) b ≡ b
@@ -135,7 +136,8 @@ accepted-bytes b o p =
     let l₂ : 2 ≤ length (drop 2 b) = rw length-drop (omega (arith, f .here)) in
     let l₄ : 2 ≤ length (drop 4 b) = rw length-drop (omega (arith, f .here)) in
     let i : c ≡ y =
-    sym (run-back elevationPart elevationFields elevation-back n c (octets-drop 6 b o) (f .elevations)) ∙ ap (λ (x : List ℕ). y ++ x) (drop-of-length-le c l) ∙ append-nil y in
+    sym (run-back elevationPart elevationFields elevation-back n c (octets-drop 6 b o) (f .elevations))
+    ∙ ap (λ (x : List ℕ). y ++ x) (drop-of-length-le c l) ∙ append-nil y in
     let e₄ : drop 4 b ≡ be 2 n ++ y =
     sym (field-back (drop 4 b) (octets-drop 4 b o) l₄) ∙ ap (λ (x : List ℕ). be 2 n ++ x) (drop-drop 2 4 b ∙ i) in
     let e₂ : drop 2 b ≡ be 2 (minutesIn b) ++ (be 2 n ++ y) =

@@ -10,7 +10,7 @@ use borrow.Author.Tests.{leb-true, leb-false, le-leb, lt-leb}
 use Rattle.wire.specs.Properties.{Each}
 use Rattle.map_spec.specs.Map.{mostCode, lastKilometre, Zone, ZoneInRange, AzimuthInRange, codeFrom, noZone, startOf}
 use Rattle.map_spec.specs.Theorems.{OneZone}
-use Rattle.map_spec.proofs.ZoneLaws.{RisesFrom, ends-rise}
+use Rattle.map_spec.proofs.ZoneLaws.{Rises, ends-rise}
 
 -- ---- the same with the first zone's kilometres from `from` on
 abbrev startFrom : ℕ → List Zone → ℕ → ℕ
@@ -37,13 +37,13 @@ record OneFrom (from : ℕ) (zs : List Zone) (kilometre code : ℕ) : Type 0 whe
   coded : getD zs zone noZone .code ≡ code
   range : code ≤ mostCode
 
--- each end is at least the least that rises
-ends-above : (from : ℕ) (zs : List Zone) (k : ℕ) → RisesFrom from zs → k < length zs → from ≤ getD zs k noZone .end
+-- each end is at least `from`
+ends-above : (from : ℕ) (zs : List Zone) (k : ℕ) → Rises from zs → k < length zs → from ≤ getD zs k noZone .end
 ends-above from [] k r h = absurd (omega arith)
 ends-above from (z ∷ zs) zero r h = r .0
-ends-above from (z ∷ zs) (suc k) r h = omega (arith, r .0, ends-above (suc (z .end)) zs k (r .2) (omega arith))
+ends-above from (z ∷ zs) (suc k) r h = omega (arith, r .0, ends-above (suc (z .end)) zs k (r .1) (omega arith))
 
-module _ (from : ℕ) (z : Zone) (zs : List Zone) (kilometre : ℕ) (r : RisesFrom from (z ∷ zs)) (low : from ≤ kilometre) where
+module _ (from : ℕ) (z : Zone) (zs : List Zone) (kilometre : ℕ) (r : Rises from (z ∷ zs)) (low : from ≤ kilometre) where
   -- the kilometre is within the first zone
   here : kilometre ≤ z .end → z .code ≤ mostCode → OneFrom from (z ∷ zs) kilometre (codeFrom from (z ∷ zs) kilometre)
   unfolding codeFrom
@@ -56,7 +56,7 @@ module _ (from : ℕ) (z : Zone) (zs : List Zone) (kilometre : ℕ) (r : RisesFr
       first (suc k) v =
           let l = v .listed in
           let a = v .after in
-          let g = ends-above (z .end) (z ∷ zs) k (omega arith, r .1, r .2) (omega arith) in
+          let g = ends-above (z .end) (z ∷ zs) k (omega arith, r .1) (omega arith) in
           absurd (omega arith)
 
   -- it is past the first zone, and within one of those after it
@@ -79,31 +79,40 @@ module _ (from : ℕ) (z : Zone) (zs : List Zone) (kilometre : ℕ) (r : RisesFr
       later zero v = absurd (omega (arith, v .upTo))
       later (suc k) v =
           ap suc
-          (o .only k (record { listed = omega (arith, v .listed); after = subst (λ (s : ℕ). s ≤ kilometre) (start-suc from z zs k) (v .after); upTo = v .upTo }))
+          (o .only k (record {
+            listed = omega (arith, v .listed);
+            after = subst (λ (s : ℕ). s ≤ kilometre) (start-suc from z zs k)
+                (v .after);
+            upTo = v .upTo;
+          }))
 
-one-from : (from : ℕ) (z : Zone) (zs : List Zone) (kilometre : ℕ) → Each ZoneInRange (z ∷ zs) → RisesFrom from (z ∷ zs) → from ≤ kilometre
-    → kilometre ≤ lastKilometre → OneFrom from (z ∷ zs) kilometre (codeFrom from (z ∷ zs) kilometre)
-one-from from z [] kilometre g r low high = here from z [] kilometre r low (omega (arith, r .1)) (g .0 .code)
-one-from from z (y ∷ ys) kilometre g r low high =
-    go (leb kilometre (z .end)) refl (λ h. one-from (suc (z .end)) y ys kilometre (g .1) (r .2) h high)
+one-from : (from : ℕ) (zs : List Zone) (kilometre : ℕ) → Each ZoneInRange zs → Rises from zs → from ≤ kilometre
+    → kilometre ≤ lastKilometre → OneFrom from zs kilometre (codeFrom from zs kilometre)
+one-from from [] kilometre g r low high = absurd (omega (arith, r))
+one-from from (z ∷ zs) kilometre g r low high =
+    go (leb kilometre (z .end)) refl (λ h. one-from (suc (z .end)) zs kilometre (g .1) (r .1) h high)
   where
     go : (t : Bool) → leb kilometre (z .end) ≡ t
-        → (suc (z .end) ≤ kilometre → OneFrom (suc (z .end)) (y ∷ ys) kilometre (codeFrom (suc (z .end)) (y ∷ ys) kilometre))
-        → OneFrom from (z ∷ (y ∷ ys)) kilometre (codeFrom from (z ∷ (y ∷ ys)) kilometre)
-    go true e i = here from z (y ∷ ys) kilometre r low (leb-true kilometre (z .end) e) (g .0 .code)
-    go false e i =
-        let h = leb-false kilometre (z .end) e in
-        there from z (y ∷ ys) kilometre r low h (i h)
+        → (suc (z .end) ≤ kilometre → OneFrom (suc (z .end)) zs kilometre (codeFrom (suc (z .end)) zs kilometre))
+        → OneFrom from (z ∷ zs) kilometre (codeFrom from (z ∷ zs) kilometre)
+    go true e i = here from z zs kilometre r low (leb-true kilometre (z .end) e) (g .0 .code)
+    go false e i = let h = leb-false kilometre (z .end) e in there from z zs kilometre r low h (i h)
 
-pub one-zone : (zs : List Zone) (kilometre : ℕ) → AzimuthInRange zs → kilometre ≤ lastKilometre → OneZone zs kilometre (codeFrom 0 zs kilometre)
+pub one-zone : (zs : List Zone) (kilometre : ℕ) → AzimuthInRange zs → kilometre ≤ lastKilometre
+    → OneZone zs kilometre (codeFrom 0 zs kilometre)
 one-zone [] kilometre a h = absurd (omega (arith, a .some))
 one-zone (z ∷ zs) kilometre a h =
-    let o = one-from 0 z zs kilometre (a .zones) (ends-rise 0 z zs (omega arith) (a .rise)) (omega arith) h in
+    let o = one-from 0 (z ∷ zs) kilometre (a .zones) (ends-rise 0 z zs (omega arith) (a .rise)) (omega arith) h in
     let v = o .covers in
     record {
       zone = o .zone;
       covers = record { listed = v .listed; after = rw (start-zero (z ∷ zs) (o .zone)) (v .after); upTo = v .upTo };
-      only = λ k w. o .only k (record { listed = w .listed; after = subst (λ (s : ℕ). s ≤ kilometre) (start-zero (z ∷ zs) k) (w .after); upTo = w .upTo });
+      only = λ k w. o .only k (record {
+        listed = w .listed;
+        after = subst (λ (s : ℕ). s ≤ kilometre) (start-zero (z ∷ zs) k)
+            (w .after);
+        upTo = w .upTo;
+      });
       coded = o .coded;
       range = o .range;
     }

@@ -2,11 +2,11 @@
 pub mod FieldLaws
 pub mod CheckFacts
 pub mod ZoneLaws
-pub mod Runs
 pub mod Accepted
 pub mod Rendered
 pub mod Coverage
 pub mod Theorems
 pub mod Places
+pub mod ZoneWalk
 pub mod CasesHold
 pub mod PartLaws

@@ -34,9 +34,6 @@ module _ (b : List ℕ) (p : ℕ) where
   pub next-in-full : p + 4 ≤ length b → ltb (length (after (drop p b))) 2 ≡ false
   next-in-full h = rw (after-drop b p) (in-full b (p + 2) (omega arith))
 
-  pub next-value : p + 4 ≤ length b → fetched 2 b (p + 2) ≡ value (after (drop p b))
-  next-value h = rw (after-drop b p) (fetched-value b (p + 2) (omega arith))
-
   pub next-rest : after (after (drop p b)) ≡ drop (p + 4) b
   next-rest =
       let e : p + 2 + 2 ≡ p + 4 = omega arith in

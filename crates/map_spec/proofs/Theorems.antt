@@ -1,5 +1,5 @@
 -- The theorems that specs/Theorems.antt states. Assumes nothing.
-use Prim.Native.Nat.{ℕ, _-_}
+use Prim.Native.Nat.{ℕ, _-_, _≤_, _<_}
 use native.Mathlib.Omega.{arith}
 use mathlib.Core.Path.{_≡_, sym, ap, _∙_, subst}
 use mathlib.Core.List.{List, []}
@@ -8,7 +8,7 @@ use Rattle.wire.proofs.EachLaws.{each-at}
 use Rattle.wire.specs.Answers.{refused, given, rule}
 use Rattle.wire.proofs.CheckLaws.{all-hold, none-broken, decide-none, decide-some, decide-append}
 use Rattle.wire.proofs.AnswerLaws.{rule-given, rule-refused}
-use Rattle.map_spec.specs.Map.{FilterMap, mapBytes, AzimuthInRange, ElevationInRange, InRange, codeAt}
+use Rattle.map_spec.specs.Map.{azimuths, FilterMap, mapBytes, AzimuthInRange, ElevationInRange, InRange, zonesAt, codeAt}
 use Rattle.map_spec.specs.Reading.{segmentsIn, mapChecks, mapIn, mapOf, summary, askedChecks}
 use Rattle.map_spec.specs.Theorems.{AcceptedExactly, OneMap, OneCode, CheckAnswers, QueryAnswers, RefusedFirst}
 use Rattle.map_spec.proofs.Accepted.{accepted-range, accepted-bytes}
@@ -35,16 +35,20 @@ accepted-exactly b o m = (there, back)
 pub one-map : OneMap
 one-map m n r s e = sym (rendered-read m r) ∙ ap (λ (l : List ℕ). mapIn l) e ∙ rendered-read n s
 
-pub one-code : OneCode
-one-code m r elevation azimuth kilometre low high there far =
+pub azimuth-in-range : (m : FilterMap) → InRange m → (elevation azimuth : ℕ) → 1 ≤ elevation → elevation ≤ length (m .elevations)
+    → azimuth < azimuths → AzimuthInRange (zonesAt m elevation azimuth)
+azimuth-in-range m r elevation azimuth low high around =
     let e = each-at ElevationInRange (m .elevations) [] (elevation - 1) (r .each) (omega arith) in
-    one-zone (getD (getD (m .elevations) (elevation - 1) []) azimuth []) kilometre
-    (each-at AzimuthInRange (getD (m .elevations) (elevation - 1) []) [] azimuth (e .each) (omega (arith, e .all)))
-    far
+    each-at AzimuthInRange (getD (m .elevations) (elevation - 1) []) [] azimuth (e .each) (omega (arith, e .all))
+
+pub one-code : OneCode
+one-code m r elevation azimuth kilometre low high around far =
+    one-zone (zonesAt m elevation azimuth) kilometre (azimuth-in-range m r elevation azimuth low high around) far
 
 pub check-answers : CheckAnswers
 check-answers m r =
-    decide-none (mapChecks (mapBytes m)) refused (given (summary (mapIn (mapBytes m)))) (none-broken (mapChecks (mapBytes m)) (rendered-pass m r))
+    decide-none (mapChecks (mapBytes m)) refused (given (summary (mapIn (mapBytes m)))) (none-broken (mapChecks (mapBytes m))
+    (rendered-pass m r))
     ∙ ap (λ (n : FilterMap). given (summary n)) (rendered-read m r)
 
 pub query-answers : QueryAnswers
@@ -52,9 +56,11 @@ query-answers m r elevation azimuth kilometre =
     let b = mapBytes m in
     let ask = askedChecks (segmentsIn b) elevation azimuth kilometre in
     decide-append (mapChecks b) ask refused (given (codeAt (mapIn b) elevation azimuth kilometre))
-    ∙ decide-none (mapChecks b) refused (rule ask (codeAt (mapIn b) elevation azimuth kilometre)) (none-broken (mapChecks b) (rendered-pass m r))
+    ∙ decide-none (mapChecks b) refused (rule ask (codeAt (mapIn b) elevation azimuth kilometre))
+    (none-broken (mapChecks b) (rendered-pass m r))
     ∙ ap (λ (n : ℕ). rule (askedChecks n elevation azimuth kilometre) (codeAt (mapIn b) elevation azimuth kilometre)) (segments-is m r)
-    ∙ ap (λ (n : FilterMap). rule (askedChecks (length (m .elevations)) elevation azimuth kilometre) (codeAt n elevation azimuth kilometre)) (rendered-read m r)
+    ∙ ap (λ (n : FilterMap). rule (askedChecks (length (m .elevations)) elevation azimuth kilometre)
+    (codeAt n elevation azimuth kilometre)) (rendered-read m r)
 
 pub refused-first : RefusedFirst
 refused-first b n e =

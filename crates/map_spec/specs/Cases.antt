@@ -1,4 +1,4 @@
--- Document 01's case 14, and both sides of each range, as one statement over a list: the rules themselves answer so, of whole bodies.
+-- Ends that do not rise, and both sides of each range, as one statement over a list of whole bodies and the rules' answers.
 -- The starred case stands in `demands`.
 use Prim.Native.Nat.{ℕ}
 use mathlib.Core.Path.{_≡_}
@@ -63,7 +63,7 @@ cases =
     ∷ checked (head 1 0 0) (refused 24)
     ∷ checked (head 1 0 5) (refused 23)
     ∷ checked (head 1 0 6) (refused 24)
-    -- an early 24 comes before any later cut; the last byte cut off; a byte left over
+    -- an early 24 comes before a later cut; the last byte is missing; one byte too many
     ∷ checked (head 1 0 1 ++ be 2 21) (refused 24)
     ∷ checked (head 1 0 1 ++ be 2 20) (refused 23)
     ∷ checked (take 2169 body13) (refused 23)

@@ -1,14 +1,15 @@
 -- What a clutter filter map is, apart from any reader: its values, its table, its ranges and its meaning.
-use Prim.Native.Nat.{ℕ, zero, suc, _-_, _≤_, _<_}
+use Prim.Native.Nat.{ℕ, zero, suc, _+_, _*_, _-_, _≤_, _<_}
 use mathlib.Core.Path.{_≡_}
-use mathlib.Core.List.{List, [], _∷_, _++_}
+use mathlib.Core.List.{List, [], _∷_}
 use lib.Dec.{leb}
 use lib.ListN.{length, getD}
 use Rattle.wire.specs.Properties.{Each}
 use Rattle.wire.specs.Checks.{pick, both}
 use Rattle.wire.specs.Tables.{Field, field, render}
+use Rattle.wire.specs.Parts.{fieldsOf}
 
--- ---- the paper's limits, each once
+-- ---- the limits, each once
 abbrev pub mostMinutes : ℕ
 mostMinutes = 1440
 
@@ -27,9 +28,30 @@ mostCode = 2
 abbrev pub lastKilometre : ℕ
 lastKilometre = 511
 
--- the greatest number of a halfword, which every field is
+-- counted from 0
+abbrev pub kilometres : ℕ
+kilometres = suc lastKilometre
+
+-- every field is a halfword: its greatest number, and how many numbers it can hold
 abbrev pub mostHalfword : ℕ
 mostHalfword = 65535
+
+abbrev pub halfwordNumbers : ℕ
+halfwordNumbers = suc mostHalfword
+
+-- bytes: of a field, of a zone, and of the fields before the azimuths
+abbrev pub fieldSize : ℕ
+fieldSize = 2
+
+abbrev pub zoneSize : ℕ
+zoneSize = 2 * fieldSize
+
+abbrev pub headSize : ℕ
+headSize = 3 * fieldSize
+
+-- the greatest size of an azimuth
+abbrev pub mostAzimuthSize : ℕ
+mostAzimuthSize = fieldSize + zoneSize * mostZones
 
 -- ---- the map
 -- "pairs of code (0-2) and end range (0-511)"
@@ -43,11 +65,8 @@ pub record FilterMap : Type 0 where
   pub minutes : ℕ
   pub elevations : List (List (List Zone))
 
--- ---- its table, every field a halfword: "date, minutes, elevation segments; for each of these, 360 azimuths; for each, zone count, then pairs"
-abbrev pub fieldsOf : {A : Type 0} → (A → List Field) → List A → List Field
-fieldsOf fields [] = []
-fieldsOf fields (x ∷ xs) = fields x ++ fieldsOf fields xs
-
+-- ---- its table, every field a halfword: "date, minutes, elevation segments; for each of these, 360 azimuths; for each, zone count, then
+-- pairs"
 abbrev pub zoneFields : Zone → List Field
 zoneFields z = field 2 (z .code) ∷ field 2 (z .end) ∷ []
 
@@ -112,7 +131,7 @@ zonesAt m elevation azimuth = getD (getD (m .elevations) (elevation - 1) []) azi
 abbrev pub codeAt : FilterMap → ℕ → ℕ → ℕ → ℕ
 codeAt m elevation azimuth kilometre = codeFrom 0 (zonesAt m elevation azimuth) kilometre
 
--- the same said of one zone: the k-th of the list (from 0) covers the kilometre
+-- the same, said of one zone: zone k of the list (from 0) covers the kilometre
 abbrev pub noZone : Zone
 noZone = record { code = 0; end = 0 }
 

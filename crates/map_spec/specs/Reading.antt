@@ -7,20 +7,21 @@ use lib.ListN.{length, drop}
 use Rattle.wire.specs.Numbers.{num}
 use Rattle.wire.specs.Checks.{either, both, Check, check}
 use Rattle.wire.specs.Answers.{Answer, rule}
-use Rattle.map_spec.specs.Map.{mostMinutes, mostElevations, azimuths, mostZones, mostCode, lastKilometre, Zone, FilterMap, codeAt}
+use Rattle.wire.specs.Parts.{Part, runSize, runChecks, runIn}
+use Rattle.map_spec.specs.Map.{mostMinutes, mostElevations, azimuths, mostZones, mostCode, lastKilometre, fieldSize, zoneSize, headSize, Zone, FilterMap, codeAt}
 
 -- ---- "Body 15: fields in byte order, 23 for one that is cut off"; 24 for one out of range. Each rule is over the bytes that are left.
 -- the number in the field that the bytes begin with, and the bytes after it
 abbrev pub value : List ℕ → ℕ
-value b = num 2 b 0
+value b = num fieldSize b 0
 
 abbrev pub after : List ℕ → List ℕ
-after b = drop 2 b
+after b = drop fieldSize b
 
 abbrev pub fieldChecks : List ℕ → Bool → List Check
-fieldChecks b outOfRange = check 23 (ltb (length b) 2) ∷ check 24 outOfRange ∷ []
+fieldChecks b outOfRange = check 23 (ltb (length b) fieldSize) ∷ check 24 outOfRange ∷ []
 
--- "end range (0-511)", "ends rise strictly and the last is 511": `from` is the least end that rises, `left` the zones that come after
+-- "end range (0-511)", "ends rise strictly and the last is 511": `from` is the least end allowed, `left` the number of zones that follow
 abbrev pub endBroken : ℕ → ℕ → ℕ → Bool
 endBroken left from end = either (ltb lastKilometre end) (either (ltb end from) (both (eqb left 0) (not (eqb end lastKilometre))))
 
@@ -37,30 +38,11 @@ unfoldable pub zonesIn : ℕ → List ℕ → List Zone
 zonesIn zero b = []
 zonesIn (suc n) b = record { code = value b; end = value (after b) } ∷ zonesIn n (after (after b))
 
--- ---- parts of the body, each as long as its own bytes say
--- a part that the bytes begin with: how many bytes it takes, its checks, and what stands in it
-pub record Part (A : Type 0) : Type 0 where
-  pub size : List ℕ → ℕ
-  pub checks : List ℕ → List Check
-  pub read : List ℕ → A
-
--- the same of n such parts, one after the other
-unfoldable pub runSize : {A : Type 0} → Part A → ℕ → List ℕ → ℕ
-runSize part zero b = 0
-runSize part (suc n) b = part .size b + runSize part n (drop (part .size b) b)
-
-unfoldable pub runChecks : {A : Type 0} → Part A → ℕ → List ℕ → List Check
-runChecks part zero b = []
-runChecks part (suc n) b = part .checks b ++ runChecks part n (drop (part .size b) b)
-
-unfoldable pub runIn : {A : Type 0} → Part A → ℕ → List ℕ → List A
-runIn part zero b = []
-runIn part (suc n) b = part .read b ∷ runIn part n (drop (part .size b) b)
-
+-- ---- parts of the body
 -- "zone count 1 to 20, then pairs"
 abbrev pub azimuthPart : Part (List Zone)
 azimuthPart = record {
-  size = λ b. 2 + 4 * value b;
+  size = λ b. fieldSize + zoneSize * value b;
   checks = λ b. fieldChecks b (either (ltb (value b) 1) (ltb mostZones (value b))) ++ zonesChecks (value b) 0 (after b);
   read = λ b. zonesIn (value b) (after b);
 }
@@ -88,17 +70,17 @@ headChecks b =
 
 -- "leftovers 23 last"
 abbrev pub leftoverChecks : List ℕ → List Check
-leftoverChecks b = check 23 (ltb (6 + runSize elevationPart (segmentsIn b) (drop 6 b)) (length b)) ∷ []
+leftoverChecks b = check 23 (ltb (headSize + runSize elevationPart (segmentsIn b) (drop headSize b)) (length b)) ∷ []
 
 abbrev pub mapChecks : List ℕ → List Check
-mapChecks b = headChecks b ++ runChecks elevationPart (segmentsIn b) (drop 6 b) ++ leftoverChecks b
+mapChecks b = headChecks b ++ runChecks elevationPart (segmentsIn b) (drop headSize b) ++ leftoverChecks b
 
 -- ---- the map that stands in the bytes
 abbrev pub mapIn : List ℕ → FilterMap
-mapIn b = record { date = dateIn b; minutes = minutesIn b; elevations = runIn elevationPart (segmentsIn b) (drop 6 b) }
+mapIn b = record { date = dateIn b; minutes = minutesIn b; elevations = runIn elevationPart (segmentsIn b) (drop headSize b) }
 
 -- ---- what is answered
--- the map itself, of a body that no check refuses
+-- the map of a body, or the number of the first broken check
 abbrev pub mapOf : List ℕ → Answer FilterMap
 mapOf b = rule (mapChecks b) (mapIn b)
 

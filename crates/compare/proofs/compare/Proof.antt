@@ -11,68 +11,45 @@ use borrow.Author.Needs.{needs}
 use Rattle.compare.proofs.compare.Statement.{statement}
 use Rattle.compare.proofs.compare.Tie as tie
 
-check-map-requires : tie.Need-check-map-requires
-check-map-requires c κs = search needs
-
-enum-known-number : tie.Need-enum-known-number
-enum-known-number c = search needs
-
-enum-known-older : tie.Need-enum-known-older
-enum-known-older c = search needs
-
-check-map-requires-2 : tie.Need-check-map-requires-2
-check-map-requires-2 c κs = search needs
-
-enum-known-number-2 : tie.Need-enum-known-number-2
-enum-known-number-2 c = search needs
-
-enum-known-newer : tie.Need-enum-known-newer
-enum-known-newer c = search needs
-
 -- the first map passed
-counts-old : (c : tie.After-older) → Counts (c .older .given .0 .1 .1 .0) (now (c .before .before .before .before .before .before .args .old))
+counts-old : (c : tie.After-older)
+    → Counts (c .older .given .0 .1 .1 .0) (now (c .before .before .before .before .before .before .args .old))
 counts-old c =
     map-counts (now (c .before .before .before .before .before .before .args .old)) _ _ _
     (sym (ap tellMap (c .older .given .1)) ∙ c .before .before .check-map .ensures)
 
 compare-checked-requires : tie.Need-compare-checked-requires
 compare-checked-requires c κs =
+    let earlier = c .before .before .before .before .before .before in
+    let check-map2 = c .before .before .before .before .check-map2 in
+    let newer = c .before .before .newer in
     let a = c .before .before .before .before .before .before .before .before .before .before .before .before .args in (
-      counts-old (c .before .before .before .before .before .before),
-      map-counts (now (a .new)) _ _ _ (sym (ap tellMap (c .before .before .newer .given .1)) ∙ c .before .before .before .before .check-map2 .ensures),
+      counts-old earlier,
+      map-counts (now (a .new)) _ _ _ (sym (ap tellMap (newer .given .1)) ∙ check-map2 .ensures),
     )
 
 returns : tie.Need-returns
 returns c =
+    let check-map = c .before .before .before .check-map in
+    let number = c .before .number in
     let a = c .before .before .before .before .before .before .before .args in
-    kept tellCompare (comparisonOf (now (a .old)) (now (a .new)) (now (a .out))) (Refused (c .before .number .given .0 .0)) _ (now (a .out))
-    (first-refused (now (a .old)) (now (a .new)) (now (a .out)) _ (sym (ap tellMap (c .before .number .given .1)) ∙ c .before .before .before .check-map .ensures)) refl
+    kept tellCompare (comparisonOf (now (a .old)) (now (a .new)) (now (a .out))) (Refused (number .given .0 .0)) _ (now (a .out))
+    (first-refused (now (a .old)) (now (a .new)) (now (a .out)) _ (sym (ap tellMap (number .given .1)) ∙ check-map .ensures)) refl
 
 returns-2 : tie.Need-returns-2
 returns-2 c =
+    let earlier = c .before .before .before .before .before in
+    let check-map2 = c .before .before .before .check-map2 in
+    let number2 = c .before .number2 in
     let a = c .before .before .before .before .before .before .before .before .before .before .before .args in
-    kept tellCompare (comparisonOf (now (a .old)) (now (a .new)) (now (a .out))) (Refused (c .before .number2 .given .0 .0)) _ (now (a .out))
-    (second-refused (now (a .old)) (now (a .new)) (now (a .out)) (counts-old (c .before .before .before .before .before) .checked) _
-    (sym (ap tellMap (c .before .number2 .given .1)) ∙ c .before .before .before .check-map2 .ensures)) refl
-
-same-length : tie.Need-same-length
-same-length c = search needs
+    kept tellCompare (comparisonOf (now (a .old)) (now (a .new)) (now (a .out))) (Refused (number2 .given .0 .0)) _ (now (a .out))
+    (second-refused (now (a .old)) (now (a .new)) (now (a .out)) (counts-old earlier .checked) _
+    (sym (ap tellMap (number2 .given .1)) ∙ check-map2 .ensures)) refl
 
 returns-3 : tie.Need-returns-3
-returns-3 c = search needs
+returns-3 c = c .before .before .compare-checked .ensures
 
 pub compare-spec : {M : Type 1} → statement M
 compare-spec =
-    tie.close
-    (tie.spec
-    check-map-requires
-    enum-known-number
-    enum-known-older
-    check-map-requires-2
-    enum-known-number-2
-    enum-known-newer
-    compare-checked-requires
-    returns
-    returns-2
-    same-length
-    returns-3)
+    tie.close (tie.spec (λ c κs. search needs) (λ c. search needs) (λ c. search needs) (λ c κs. search needs) (λ c. search needs)
+    (λ c. search needs) compare-checked-requires returns returns-2 (λ c. search needs) returns-3)

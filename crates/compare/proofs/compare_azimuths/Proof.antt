@@ -1,325 +1,187 @@
-use borrow.Author.Needs.{needs}
 use Prim.Native.Nat.{ℕ, _+_, _*_, _-_, _/_, _%_, _≤_, _<_}
 use denote.Ref.{now}
 use native.Mathlib.Omega.{arith}
 use mathlib.Core.Path.{_≡_, refl, sym, ap, _∙_, subst}
-use lib.ListN.{length}
+use mathlib.Core.List.{List}
+use lib.ListN.{length, drop}
 use Rattle.wire.specs.Sheets.{sheet}
+use Rattle.map_spec.specs.Map.{azimuths, mostElevations, kilometres}
+use Rattle.map_spec.specs.Reading.{azimuthPart}
+use Rattle.map_spec.specs.Places.{AzimuthStands}
 use Rattle.map_spec.proofs.CheckFacts.{map-facts}
-use Rattle.compare.proofs.AzimuthWalk.{Reached, reached-start, reached-more, reached-next, reached-past, going-old, going-new, inside-old, inside-new, going-few, going-done, checked-part, size-part, length-part, run-part, parts-same, parts-listed}
+use Rattle.compare_spec.specs.Comparing.{differenceSize}
+use Rattle.compare.specs.Steps.{mostCounted}
+use Rattle.compare.proofs.EntryLaws.{enough-old}
+use Rattle.compare.proofs.AzimuthWalk.{Reached, reached-start, reached-next, reached-past, reached-few, reached-done}
+use Rattle.compare.proofs.AzimuthWalk.{stands-old, stands-new, checked-part, checked-size, run-part}
+use Rattle.compare.proofs.AzimuthWalk.{parts-same, parts-listed}
+use borrow.Author.Needs.{needs}
 use Rattle.compare.proofs.compare_azimuths.Statement.{statement}
 use Rattle.compare.proofs.compare_azimuths.Tie as tie
 
 abbrev Inv-loop : tie.InvT-loop
 Inv-loop old new elevations out₀ total index₀ i₀ j₀ count₀ out index i j count =
-    (elevations ≤ 5) × (total ≡ 360 * elevations) × (index ≤ total) × (i ≤ length old) × (j ≤ length new) × (length out ≡ length out₀)
-    × Reached old new elevations out₀ index out i j count
+    (elevations ≤ mostElevations) × (total ≡ azimuths * elevations) × (index ≤ total) × (i ≤ length old) × (j ≤ length new)
+    × (length out ≡ length out₀) × Reached old new out₀ index out i j count
 
 abbrev μ-loop : tie.MeasureT-loop
 μ-loop old new elevations out₀ total index₀ i₀ j₀ count₀ out index i j count = total - index
 
-mul-total : tie.Need-mul-total Inv-loop μ-loop
-mul-total c = search needs
+-- what the function began with, on the way to the loop's head
+module _ (h : tie.At-loop Inv-loop μ-loop) where
+  abbrev start : tie.Start Inv-loop μ-loop
+  start = h .before .before .before .before
+
+  abbrev old : List ℕ
+  old = now (start .args .old)
+
+  abbrev new : List ℕ
+  new = now (start .args .new)
+
+  abbrev total : ℕ
+  total = azimuths * start .args .elevations
+
+  -- the walk at a place of this round
+  abbrev Stands : ℕ → ℕ → ℕ → Type 0
+  Stands k i j = Reached old new (now (start .args .out)) k (h .loop .out) i j (h .loop .count)
+
+-- the loop's head, and the places behind the azimuths that are passed over
+module _ (p : tie.After-pass Inv-loop μ-loop) where
+  abbrev head : tie.At-loop Inv-loop μ-loop
+  head = p .before .before .before .before .before .before
+
+  abbrev index : ℕ
+  index = head .loop .index + p .pass .result .azimuths
+
+  abbrev i : ℕ
+  i = head .loop .i + p .pass .result .bytes
+
+  abbrev j : ℕ
+  j = head .loop .j + p .pass .result .bytes
+
+  passed : (i ≤ length (old head)) × (j ≤ length (new head)) × (index ≤ total head) × Stands head index i j
+  passed =
+      let l = head .loop in
+      let run = p .pass .result in
+      let e = p .pass .ensures in
+      let same = p .before .before .same-bytes in
+      let most : index ≤ total head = omega arith in
+      let bytes : run .bytes ≡ _ = e .2 ∙ run-part (old head) (l .i) (run .azimuths) in (
+        omega arith,
+        omega arith,
+        most,
+        subst (λ (x : ℕ). Stands head index (l .i + x) (l .j + x)) (sym bytes)
+            (reached-past (old head) (new head) (start head .pre) (run .azimuths) (same .result) (l .inv .6) most
+            (parts-same (same .result) (old head) (new head) (l .i) (l .j) (same .ensures .2)) (omega arith)),
+      )
+
+-- an azimuth is left: where it stands in both, and that there are not too many differences before it
+module _ (t : tie.Then1 Inv-loop μ-loop) where
+  abbrev run : tie.After-pass Inv-loop μ-loop
+  run = t .before .before .before .before
+
+  left : index run < total (head run)
+  left = omega arith
+
+  abbrev Azimuth : List ℕ → ℕ → Type 0
+  Azimuth b at = AzimuthStands b (1 + index run / azimuths) (index run % azimuths) at
+
+  standing : Azimuth (old (head run)) (i run) × Azimuth (new (head run)) (j run) × (head run .loop .count + kilometres ≤ mostCounted)
+  standing =
+      let h = head run in
+      let c = start h .pre in
+      let r = passed run .3 in (
+        stands-old (old h) (new h) c r left,
+        stands-new (old h) (new h) c r left,
+        reached-few (old h) (new h) c r left,
+      )
+
+-- the bytes that it takes
+abbrev one-old : tie.After-size-of Inv-loop μ-loop → tie.Then1 Inv-loop μ-loop
+one-old c = c .before .before .before .before .before .before .before .before
+
+abbrev one : tie.After-size-of2 Inv-loop μ-loop → tie.Then1 Inv-loop μ-loop
+one c = one-old (c .before .before)
+
+size-old : (c : tie.After-size-of Inv-loop μ-loop) → let p = run (one-old c) in
+    c .size-of .result ≡ azimuthPart .size (drop (i p) (old (head p)))
+size-old c = c .size-of .ensures ∙ checked-size (old (head (run (one-old c)))) _ (standing (one-old c) .0 .passes)
+
+size-new : (c : tie.After-size-of2 Inv-loop μ-loop) → let p = run (one c) in
+    c .size-of2 .result ≡ azimuthPart .size (drop (j p) (new (head p)))
+size-new c = c .size-of2 .ensures ∙ checked-size (new (head (run (one c)))) _ (standing (one c) .1 .passes)
 
 loop-holds : tie.Need-loop-holds Inv-loop μ-loop
 loop-holds c =
     let s = c .before .before .before in
     let a = s .args in
-    let old = map-facts (now (a .old)) (s .pre .0 .checked) in
-    let new = map-facts (now (a .new)) (s .pre .1 .checked) in (
-      omega (arith, s .pre .0 .enough, old .most),
+    let facts = map-facts (now (a .old)) (s .pre .inOld) in (
+      omega (arith, enough-old (s .pre), facts .most),
       refl,
       omega arith,
-      old .here,
-      new .here,
+      facts .here,
+      map-facts (now (a .new)) (s .pre .inNew) .here,
       refl,
-      reached-start (now (a .old)) (now (a .new)) (a .elevations) (s .pre .0) (s .pre .1) (now (a .out)),
+      reached-start (now (a .old)) (now (a .new)) (s .pre),
     )
-
-sub-same-bytes : tie.Need-sub-same-bytes Inv-loop μ-loop
-sub-same-bytes c = search needs
-
-part-same-bytes-start : tie.Need-part-same-bytes-start Inv-loop μ-loop
-part-same-bytes-start c = search needs
-
-part-same-bytes-end : tie.Need-part-same-bytes-end Inv-loop μ-loop
-part-same-bytes-end c = search needs
-
-sub-same-bytes-2 : tie.Need-sub-same-bytes-2 Inv-loop μ-loop
-sub-same-bytes-2 c = search needs
-
-part-same-bytes-start-2 : tie.Need-part-same-bytes-start-2 Inv-loop μ-loop
-part-same-bytes-start-2 c = search needs
-
-part-same-bytes-end-2 : tie.Need-part-same-bytes-end-2 Inv-loop μ-loop
-part-same-bytes-end-2 c = search needs
-
-same-bytes-requires : tie.Need-same-bytes-requires Inv-loop μ-loop
-same-bytes-requires c κs = search needs
-
-sub-pass : tie.Need-sub-pass Inv-loop μ-loop
-sub-pass c = search needs
-
-part-pass-start : tie.Need-part-pass-start Inv-loop μ-loop
-part-pass-start c = search needs
-
-part-pass-end : tie.Need-part-pass-end Inv-loop μ-loop
-part-pass-end c = search needs
-
-sub-pass-2 : tie.Need-sub-pass-2 Inv-loop μ-loop
-sub-pass-2 c = search needs
-
-pass-requires : tie.Need-pass-requires Inv-loop μ-loop
-pass-requires c κs = c .before .same-bytes .ensures .0
-
--- after the azimuths that are passed over
-passed : (c : tie.After-pass Inv-loop μ-loop)
-    → let a = c .before .before .before .before .before .before .before .before .before .before .args in
-    let l = c .before .before .before .before .before .before .loop in
-    let run = c .pass .result in
-    (l .i + run .bytes ≤ length (now (a .old))) × (l .j + run .bytes ≤ length (now (a .new))) × (l .index + run .azimuths ≤ 360 * a .elevations)
-    × Reached (now (a .old)) (now (a .new)) (a .elevations) (now (a .out)) (l .index + run .azimuths) (l .out) (l .i + run .bytes) (l .j + run .bytes) (l .count)
-passed c =
-    let s = c .before .before .before .before .before .before .before .before .before .before in
-    let a = s .args in
-    let l = c .before .before .before .before .before .before .loop in
-    let run = c .pass .result in
-    let p = c .pass .ensures in
-    let same = c .before .before .same-bytes in
-    let most : l .index + run .azimuths ≤ 360 * a .elevations = omega (arith, p .0, l .inv .1, l .inv .2) in
-    let e : run .bytes ≡ _ = p .2 ∙ run-part (run .azimuths) (now (a .old)) (l .i) in (
-      omega (arith, p .1, same .ensures .0, length-part (now (a .old)) (l .i), l .inv .3),
-      omega (arith, p .1, same .ensures .1, length-part (now (a .new)) (l .j), l .inv .4),
-      most,
-      subst (λ (x : ℕ). Reached (now (a .old)) (now (a .new)) (a .elevations) (now (a .out)) (l .index + run .azimuths) (l .out) (l .i + x) (l .j + x) (l .count)) (sym e)
-          (reached-past (now (a .old)) (now (a .new)) (a .elevations) (s .pre .0) (s .pre .1) (now (a .out)) (run .azimuths) (l .index) (l .out) (l .i) (l .j) (l .count) (same .result) (l .inv .6) most
-          (parts-same (same .result) (now (a .old)) (now (a .new)) (l .i) (l .j) (same .ensures .2)) (omega (arith, e, p .1))),
-    )
-
-add-i : tie.Need-add-i Inv-loop μ-loop
-add-i c =
-    let s = c .before .before .before .before .before .before .before .before .before .before .before in
-    let t = passed (c .before) in
-    record { fits = omega (arith, t .0, s .good .0 .0) }
-
-add-j : tie.Need-add-j Inv-loop μ-loop
-add-j c =
-    let s = c .before .before .before .before .before .before .before .before .before .before .before .before in
-    let t = passed (c .before .before) in
-    record { fits = omega (arith, t .1, s .good .1 .0) }
-
-add-index : tie.Need-add-index Inv-loop μ-loop
-add-index c =
-    let l = c .before .before .before .before .before .before .before .before .before .loop in
-    let t = passed (c .before .before .before) in
-    record { fits = omega (arith, t .2, l .inv .0) }
-
-add-elevation : tie.Need-add-elevation Inv-loop μ-loop
-add-elevation c = search needs
-
-cast-elevation : tie.Need-cast-elevation Inv-loop μ-loop
-cast-elevation c = search needs
-
-cast-azimuth : tie.Need-cast-azimuth Inv-loop μ-loop
-cast-azimuth c = search needs
-
-sub-compare-zones : tie.Need-sub-compare-zones Inv-loop μ-loop
-sub-compare-zones c = search needs
-
-part-compare-zones-start : tie.Need-part-compare-zones-start Inv-loop μ-loop
-part-compare-zones-start c = search needs
-
-part-compare-zones-end : tie.Need-part-compare-zones-end Inv-loop μ-loop
-part-compare-zones-end c = search needs
-
-sub-compare-zones-2 : tie.Need-sub-compare-zones-2 Inv-loop μ-loop
-sub-compare-zones-2 c = search needs
-
-part-compare-zones-start-2 : tie.Need-part-compare-zones-start-2 Inv-loop μ-loop
-part-compare-zones-start-2 c = search needs
-
-part-compare-zones-end-2 : tie.Need-part-compare-zones-end-2 Inv-loop μ-loop
-part-compare-zones-end-2 c = search needs
 
 compare-zones-requires : tie.Need-compare-zones-requires Inv-loop μ-loop
 compare-zones-requires c κs =
-    let s = c .before .before .before .before .before .before .before .before .before .before .before .before .before .before .before .before .before in
-    let a = s .args in
-    let l = c .before .before .before .before .before .before .before .before .before .before .before .before .before .loop in
-    let run = c .before .before .before .before .before .before .before .pass .result in
-    let t = passed (c .before .before .before .before .before .before .before) in
-    let k = l .index + run .azimuths in
-    let i = l .i + run .bytes in
-    let j = l .j + run .bytes in
-    let near : k < 360 * a .elevations = omega (arith, c .before .before .before .if1 .taken, l .inv .1) in
-    let more = reached-more (now (a .old)) (now (a .new)) (a .elevations) (s .pre .0) (s .pre .1) (now (a .out)) k (l .out) i j (l .count) (t .3) near in (
-      checked-part (now (a .old)) i (going-old (now (a .old)) (now (a .new)) (a .elevations) (s .pre .0) (s .pre .1) (now (a .out)) (l .out) (1 + k / 360) (k % 360) i j (l .count) (t .3) more),
-      checked-part (now (a .new)) j (going-new (now (a .old)) (now (a .new)) (a .elevations) (s .pre .0) (s .pre .1) (now (a .out)) (l .out) (1 + k / 360) (k % 360) i j (l .count) (t .3) more),
-      going-few (now (a .old)) (now (a .new)) (a .elevations) (s .pre .0) (s .pre .1) (now (a .out)) (l .out) (1 + k / 360) (k % 360) i j (l .count) (t .3) more,
-    )
-
-sub-size-of : tie.Need-sub-size-of Inv-loop μ-loop
-sub-size-of c = search needs
-
-part-size-of-start : tie.Need-part-size-of-start Inv-loop μ-loop
-part-size-of-start c = search needs
-
-part-size-of-end : tie.Need-part-size-of-end Inv-loop μ-loop
-part-size-of-end c = search needs
-
-size-of-requires : tie.Need-size-of-requires Inv-loop μ-loop
-size-of-requires c κs = search needs
+    let t = c .before .before .before in
+    let h = head (run t) in
+    let n = standing t in
+    (checked-part (old h) _ (n .0 .passes), checked-part (new h) _ (n .1 .passes), n .2)
 
 add-i-2 : tie.Need-add-i-2 Inv-loop μ-loop
 add-i-2 c =
-    let s = c .before .before .before .before .before .before .before .before .before .before .before .before .before .before .before .before .before .before .before .before .before .before in
-    let a = s .args in
-    let l = c .before .before .before .before .before .before .before .before .before .before .before .before .before .before .before .before .before .before .loop in
-    let run = c .before .before .before .before .before .before .before .before .before .before .before .before .pass .result in
-    let t = passed (c .before .before .before .before .before .before .before .before .before .before .before .before) in
-    let k = l .index + run .azimuths in
-    let i = l .i + run .bytes in
-    let j = l .j + run .bytes in
-    let near : k < 360 * a .elevations = omega (arith, c .before .before .before .before .before .before .before .before .if1 .taken, l .inv .1) in
-    let more = reached-more (now (a .old)) (now (a .new)) (a .elevations) (s .pre .0) (s .pre .1) (now (a .out)) k (l .out) i j (l .count) (t .3) near in
-    let e = c .size-of .ensures ∙ size-part (now (a .old)) i in
-    let h = inside-old (now (a .old)) (now (a .new)) (a .elevations) (s .pre .0) (s .pre .1) (now (a .out)) (l .out) (1 + k / 360) (k % 360) i j (l .count) (t .3) more in
-    record { fits = omega (arith, e, h, s .good .0 .0) }
-
-sub-size-of-2 : tie.Need-sub-size-of-2 Inv-loop μ-loop
-sub-size-of-2 c = search needs
-
-part-size-of-start-2 : tie.Need-part-size-of-start-2 Inv-loop μ-loop
-part-size-of-start-2 c = search needs
-
-part-size-of-end-2 : tie.Need-part-size-of-end-2 Inv-loop μ-loop
-part-size-of-end-2 c = search needs
-
-size-of-requires-2 : tie.Need-size-of-requires-2 Inv-loop μ-loop
-size-of-requires-2 c κs = search needs
+    let t = one-old c in
+    record { fits = omega (arith, size-old c, standing t .0 .within, start (head (run t)) .good .0 .0) }
 
 add-j-2 : tie.Need-add-j-2 Inv-loop μ-loop
 add-j-2 c =
-    let s = c .before .before .before .before .before .before .before .before .before .before .before .before .before .before .before .before .before .before .before .before .before .before .before .before in
-    let a = s .args in
-    let l = c .before .before .before .before .before .before .before .before .before .before .before .before .before .before .before .before .before .before .before .before .loop in
-    let run = c .before .before .before .before .before .before .before .before .before .before .before .before .before .before .pass .result in
-    let t = passed (c .before .before .before .before .before .before .before .before .before .before .before .before .before .before) in
-    let k = l .index + run .azimuths in
-    let i = l .i + run .bytes in
-    let j = l .j + run .bytes in
-    let near : k < 360 * a .elevations = omega (arith, c .before .before .before .before .before .before .before .before .before .before .if1 .taken, l .inv .1) in
-    let more = reached-more (now (a .old)) (now (a .new)) (a .elevations) (s .pre .0) (s .pre .1) (now (a .out)) k (l .out) i j (l .count) (t .3) near in
-    let e = c .size-of2 .ensures ∙ size-part (now (a .new)) j in
-    let h = inside-new (now (a .old)) (now (a .new)) (a .elevations) (s .pre .0) (s .pre .1) (now (a .out)) (l .out) (1 + k / 360) (k % 360) i j (l .count) (t .3) more in
-    record { fits = omega (arith, e, h, s .good .1 .0) }
-
-add-index-2 : tie.Need-add-index-2 Inv-loop μ-loop
-add-index-2 c =
-    let l = c .before .before .before .before .before .before .before .before .before .before .before .before .before .before .before .before .before .before .before .before .loop in
-    let t = passed (c .before .before .before .before .before .before .before .before .before .before .before .before .before .before) in
-    record { fits = omega (arith, t .2, l .inv .0) }
-
-loop-less : tie.Need-loop-less Inv-loop μ-loop
-loop-less c =
-    omega (arith, c .before .before .before .before .before .before .before .before .before .before .if1 .taken)
+    let t = one c in
+    record { fits = omega (arith, size-new c, standing t .1 .within, start (head (run t)) .good .1 .0) }
 
 loop-again : tie.Need-loop-again Inv-loop μ-loop
 loop-again c =
-    let s = c .before .before .before .before .before .before .before .before .before .before .before .before .before .before .before .before .before .before .before .before .before .before .before .before in
-    let a = s .args in
-    let l = c .before .before .before .before .before .before .before .before .before .before .before .before .before .before .before .before .before .before .before .before .loop in
-    let run = c .before .before .before .before .before .before .before .before .before .before .before .before .before .before .pass .result in
-    let t = passed (c .before .before .before .before .before .before .before .before .before .before .before .before .before .before) in
-    let k = l .index + run .azimuths in
-    let i = l .i + run .bytes in
-    let j = l .j + run .bytes in
-    let near : k < 360 * a .elevations = omega (arith, c .before .before .before .before .before .before .before .before .before .before .if1 .taken, l .inv .1) in
-    let more = reached-more (now (a .old)) (now (a .new)) (a .elevations) (s .pre .0) (s .pre .1) (now (a .out)) k (l .out) i j (l .count) (t .3) near in
-    let z = c .before .before .before .before .before .before .compare-zones in
-    let e = c .before .before .size-of .ensures ∙ size-part (now (a .old)) i in
-    let f = c .size-of2 .ensures ∙ size-part (now (a .new)) j in
-    let h = inside-old (now (a .old)) (now (a .new)) (a .elevations) (s .pre .0) (s .pre .1) (now (a .out)) (l .out) (1 + k / 360) (k % 360) i j (l .count) (t .3) more in
-    let m = inside-new (now (a .old)) (now (a .new)) (a .elevations) (s .pre .0) (s .pre .1) (now (a .out)) (l .out) (1 + k / 360) (k % 360) i j (l .count) (t .3) more in (
+    let t = one c in
+    let p = run t in
+    let h = head p in
+    let l = h .loop in
+    let n = standing t in
+    let earlier = c .before .before in
+    let z = earlier .before .before .before .before .compare-zones in (
       l .inv .0,
       l .inv .1,
-      omega (arith, near, l .inv .1),
-      omega (arith, e, h),
-      omega (arith, f, m),
+      omega arith,
+      omega (arith, size-old earlier, n .0 .within),
+      omega (arith, size-new c, n .1 .within),
       z .kept .1 .1 .1 .1 .0 ∙ l .inv .5,
-      reached-next (now (a .old)) (now (a .new)) (a .elevations) (s .pre .0) (s .pre .1) (now (a .out)) k (l .out) i j (l .count) (t .3) near (z .last .1 .1 .1 .1 .0) (z .result) (i + c .before .before .size-of .result) (j + c .size-of2 .result)
-          (z .ensures ∙ parts-listed (1 + k / 360) (k % 360) (now (a .old)) (now (a .new)) i j (sheet (6 * l .count) (l .out))) (ap (λ (n : ℕ). i + n) e) (ap (λ (n : ℕ). j + n) f),
+      reached-next (old h) (new h) (start h .pre) (passed p .3) (left t)
+          (z .ensures ∙ parts-listed (1 + index p / azimuths) (index p % azimuths) (old h) (new h) (i p) (j p)
+          (sheet (differenceSize * l .count) (l .out)))
+          (ap (λ (x : ℕ). i p + x) (size-old earlier)) (ap (λ (x : ℕ). j p + x) (size-new c)),
     )
-
-loop-less-2 : tie.Need-loop-less-2 Inv-loop μ-loop
-loop-less-2 c =
-    omega (arith, c .if1 .left, c .before .before .before .before .before .before .before .before .before .loop-test .taken)
 
 loop-again-2 : tie.Need-loop-again-2 Inv-loop μ-loop
 loop-again-2 c =
-    let l = c .before .before .before .before .before .before .before .before .before .before .loop in
-    let run = c .before .before .before .before .pass .result in
-    let t = passed (c .before .before .before .before) in
-    let j = l .j + run .bytes in (l .inv .0, l .inv .1, omega (arith, t .2, l .inv .1), t .0, t .1, l .inv .5, t .3)
-
-same-length : tie.Need-same-length Inv-loop μ-loop
-same-length c = search needs
+    let p = c .before .before .before .before in
+    let l = head p .loop in
+    let r = passed p in
+    (l .inv .0, l .inv .1, omega arith, r .0, r .1, l .inv .5, r .3)
 
 returns : tie.Need-returns Inv-loop μ-loop
 returns c =
-    let s = c .before .before .before .before .before in
-    let a = s .args in
-    let l = c .before .loop in
-    let h : a .elevations < 1 + l .index / 360 = omega (arith, c .loop-test .left, l .inv .1) in
-    going-done (now (a .old)) (now (a .new)) (a .elevations) (s .pre .0) (s .pre .1) (now (a .out)) (l .out) (1 + l .index / 360) (l .index % 360) (l .i) (l .j) (l .count) (l .inv .6) h
+    let h = c .before in
+    reached-done (old h) (new h) (start h .pre) (h .loop .inv .6) (omega arith)
 
 pub compare-azimuths-spec : {M : Type 1} → statement M
 compare-azimuths-spec =
-    tie.close
-    (tie.spec
-    Inv-loop
-    μ-loop
-    mul-total
-    loop-holds
-    sub-same-bytes
-    part-same-bytes-start
-    part-same-bytes-end
-    sub-same-bytes-2
-    part-same-bytes-start-2
-    part-same-bytes-end-2
-    same-bytes-requires
-    sub-pass
-    part-pass-start
-    part-pass-end
-    sub-pass-2
-    pass-requires
-    add-i
-    add-j
-    add-index
-    add-elevation
-    cast-elevation
-    cast-azimuth
-    sub-compare-zones
-    part-compare-zones-start
-    part-compare-zones-end
-    sub-compare-zones-2
-    part-compare-zones-start-2
-    part-compare-zones-end-2
-    compare-zones-requires
-    sub-size-of
-    part-size-of-start
-    part-size-of-end
-    size-of-requires
-    add-i-2
-    sub-size-of-2
-    part-size-of-start-2
-    part-size-of-end-2
-    size-of-requires-2
-    add-j-2
-    add-index-2
-    loop-less
-    loop-again
-    loop-less-2
-    loop-again-2
-    same-length
+    tie.close (tie.spec Inv-loop μ-loop (λ c. search needs) loop-holds (λ c. search needs) (λ c. search needs) (λ c. search needs)
+    (λ c. search needs) (λ c. search needs) (λ c. search needs) (λ c κs. search needs) (λ c. search needs) (λ c. search needs)
+    (λ c. search needs) (λ c. search needs) (λ c κs. search needs) (λ c. search needs) (λ c. search needs) (λ c. search needs)
+    (λ c. search needs) (λ c. search needs) (λ c. search needs) (λ c. search needs) (λ c. search needs) (λ c. search needs)
+    (λ c. search needs) (λ c. search needs) (λ c. search needs) compare-zones-requires (λ c. search needs) (λ c. search needs)
+    (λ c. search needs) (λ c κs. search needs) add-i-2 (λ c. search needs) (λ c. search needs) (λ c. search needs)
+    (λ c κs. search needs) add-j-2 (λ c. omega arith) (λ c. omega arith) loop-again (λ c. search needs) loop-again-2 (λ c. search needs)
     returns)

@@ -4,8 +4,9 @@ use denote.Ref.{now}
 use native.Mathlib.Omega.{arith}
 use mathlib.Core.Path.{_≡_, sym}
 use lib.ListN.{length}
-use Rattle.map_spec.specs.Reading.{runSize, azimuthPart}
-use Rattle.map_spec.proofs.Runs.{run-none}
+use Rattle.map_spec.specs.Reading.{azimuthPart}
+use Rattle.wire.specs.Parts.{runSize}
+use Rattle.wire.proofs.PartLaws.{run-none}
 use Rattle.compare.proofs.AzimuthWalk.{run-on}
 use Rattle.compare.proofs.pass.Statement.{statement}
 use Rattle.compare.proofs.pass.Tie as tie
@@ -19,32 +20,8 @@ abbrev μ-loop : tie.MeasureT-loop
 loop-holds : tie.Need-loop-holds Inv-loop μ-loop
 loop-holds c = let s = c .before in (s .pre, omega arith, omega arith, sym (run-none azimuthPart (now (s .args .part))))
 
-sub-size-of : tie.Need-sub-size-of Inv-loop μ-loop
-sub-size-of c = search needs
-
-part-size-of-start : tie.Need-part-size-of-start Inv-loop μ-loop
-part-size-of-start c = search needs
-
-part-size-of-end : tie.Need-part-size-of-end Inv-loop μ-loop
-part-size-of-end c = search needs
-
-size-of-requires : tie.Need-size-of-requires Inv-loop μ-loop
-size-of-requires c κs = search needs
-
-sub-if1 : tie.Need-sub-if1 Inv-loop μ-loop
-sub-if1 c = search needs
-
 returns : tie.Need-returns Inv-loop μ-loop
 returns c = let l = c .before .before .before .before .loop in (l .inv .2, l .inv .1, l .inv .3)
-
-add-at : tie.Need-add-at Inv-loop μ-loop
-add-at c = search needs
-
-add-count : tie.Need-add-count Inv-loop μ-loop
-add-count c = search needs
-
-loop-less : tie.Need-loop-less Inv-loop μ-loop
-loop-less c = search needs
 
 loop-again : tie.Need-loop-again Inv-loop μ-loop
 loop-again c =
@@ -62,19 +39,6 @@ returns-2 c = let l = c .before .loop in (l .inv .2, l .inv .1, l .inv .3)
 
 pub pass-spec : {M : Type 1} → statement M
 pass-spec =
-    tie.close
-    (tie.spec
-    Inv-loop
-    μ-loop
-    loop-holds
-    sub-size-of
-    part-size-of-start
-    part-size-of-end
-    size-of-requires
-    sub-if1
-    returns
-    add-at
-    add-count
-    loop-less
-    loop-again
+    tie.close (tie.spec Inv-loop μ-loop loop-holds (λ c. search needs) (λ c. search needs) (λ c. search needs)
+    (λ c κs. search needs) (λ c. search needs) returns (λ c. search needs) (λ c. search needs) (λ c. search needs) loop-again
     returns-2)

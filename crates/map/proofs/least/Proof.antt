@@ -1,9 +1,6 @@
 use borrow.Author.Tests.{lt-ltb, le-ltb}
-use borrow.Author.Needs.{needs}
 use Rattle.map.proofs.least.Statement.{statement}
 use Rattle.map.proofs.least.Tie as tie
-use Rattle.map.proofs.least.Reads as reads
-use Rattle.map.proofs.least.Lts as lts
 
 returns : tie.Need-returns
 returns c = simp (lt-ltb _ _ (c .if1 .taken))

@@ -1,4 +1,4 @@
-use Prim.Native.Nat.{ℕ, _≤_}
+use Prim.Native.Nat.{ℕ, _+_, _≤_}
 use denote.Ref.{now}
 use mathlib.Core.Path.{_≡_, sym, ap, _∙_}
 use mathlib.Core.List.{List}
@@ -19,63 +19,48 @@ Inv-loop part count left₀ at₀ left at = (at ≤ length part) × (walk azimut
 abbrev μ-loop : tie.MeasureT-loop
 μ-loop part count left₀ at₀ left at = left
 
-checked : (c : tie.After-check-azimuth Inv-loop μ-loop) → c .check-azimuth .result ≡ partStep azimuthPart (drop (c .before .before .before .loop .at) (now (c .before .before .before .before .before .args .part)))
+checked : (c : tie.After-check-azimuth Inv-loop μ-loop)
+    → c .check-azimuth .result
+    ≡ partStep azimuthPart (drop (c .before .before .before .loop .at) (now (c .before .before .before .before .before .args .part)))
 checked c =
-    let b = now (c .before .before .before .before .before .args .part) in
-    c .check-azimuth .ensures ∙ ap (λ (l : List ℕ). partStep azimuthPart l) (part-is b (c .before .before .before .loop .at))
+    c .check-azimuth .ensures
+    ∙ ap (λ (l : List ℕ). partStep azimuthPart l) (part-is (now (c .before .before .before .before .before .args .part))
+    (c .before .before .before .loop .at))
 
 loop-holds : tie.Need-loop-holds Inv-loop μ-loop
-loop-holds c =
-    let a = c .before .args in
-    let b = now (a .part) in
-    (search needs, walk-start azimuthPart (a .count) b)
+loop-holds c = let a = c .before .args in (search needs, walk-start azimuthPart (a .count) (now (a .part)))
 
-sub-check-azimuth : tie.Need-sub-check-azimuth Inv-loop μ-loop
-sub-check-azimuth c = search needs
-
-part-check-azimuth-start : tie.Need-part-check-azimuth-start Inv-loop μ-loop
-part-check-azimuth-start c = search needs
-
-part-check-azimuth-end : tie.Need-part-check-azimuth-end Inv-loop μ-loop
-part-check-azimuth-end c = search needs
-
-check-azimuth-requires : tie.Need-check-azimuth-requires Inv-loop μ-loop
-check-azimuth-requires c κs = search needs
-
-enum-known-size : tie.Need-enum-known-size Inv-loop μ-loop
-enum-known-size c = search needs
+-- an azimuth that passed lies within the part
+inside : (c : tie.After-size Inv-loop μ-loop)
+    → c .before .before .before .before .before .loop .at + c .size .given .0 .0 ≤ length
+    (now (c .before .before .before .before .before .before .before .args .part))
+inside c =
+    let l = c .before .before .before .before .before .loop in
+    part-fits azimuthPart azimuth-long (l .at) (now (c .before .before .before .before .before .before .before .args .part))
+    (c .size .given .0 .0) (l .inv .0)
+    (sym (c .size .given .1) ∙ checked (c .before .before))
 
 add-at : tie.Need-add-at Inv-loop μ-loop
-add-at c =
-    let b = now (c .before .before .before .before .before .before .before .before .args .part) in
-    let l = c .before .before .before .before .before .before .loop in
-    let g = c .before .before .before .before .before .before .before .before .good .0 .0 in
-    let f = part-fits azimuthPart azimuth-long (l .at) b (c .before .size .given .0 .0) (l .inv .0) (sym (c .before .size .given .1) ∙ checked (c .before .before .before)) in
-    record { fits = omega (arith, g, f) }
-
-sub-left : tie.Need-sub-left Inv-loop μ-loop
-sub-left c = search needs
-
-loop-less : tie.Need-loop-less Inv-loop μ-loop
-loop-less c = search needs
+add-at c = let z = c .before in
+    record { fits = omega (arith, inside z, z .before .before .before .before .before .before .before .good .0 .0) }
 
 loop-again : tie.Need-loop-again Inv-loop μ-loop
 loop-again c =
-    let b = now (c .before .before .before .before .before .before .before .before .args .part) in
-    let l = c .before .before .before .before .before .before .loop in
-    let n = c .before .size .given .0 .0 in
-    let e = sym (c .before .size .given .1) ∙ checked (c .before .before .before) in
-    (part-fits azimuthPart azimuth-long (l .at) b n (l .inv .0) e, walk-turn azimuthPart (l .left) (l .at) b n (c .before .before .before .before .before .loop-test .taken) e ∙ l .inv .1)
-
-enum-known-number : tie.Need-enum-known-number Inv-loop μ-loop
-enum-known-number c = search needs
+    let z = c .before in
+    let l = z .before .before .before .before .before .loop in (
+      inside z,
+      walk-turn azimuthPart (l .left) (l .at) (now (z .before .before .before .before .before .before .before .args .part))
+          (z .size .given .0 .0) (z .before .before .before .before .loop-test .taken)
+          (sym (z .size .given .1) ∙ checked (z .before .before)) ∙ l .inv .1,
+    )
 
 returns : tie.Need-returns Inv-loop μ-loop
 returns c =
-    let b = now (c .before .before .before .before .before .before .before .before .args .part) in
-    let l = c .before .before .before .before .before .before .loop in
-    walk-stop azimuthPart (l .left) (l .at) b (c .before .number .given .0 .0) (c .before .before .before .before .before .loop-test .taken)
-    (sym (c .before .number .given .1) ∙ checked (c .before .before .before))
+    let z = c .before in
+    let l = z .before .before .before .before .before .loop in
+    walk-stop azimuthPart (l .left) (l .at) (now (z .before .before .before .before .before .before .before .args .part))
+    (z .number .given .0 .0) (z .before .before .before .before .loop-test .taken)
+    (sym (z .number .given .1) ∙ checked (z .before .before))
     ∙ l .inv .1
 
 returns-2 : tie.Need-returns-2 Inv-loop μ-loop
@@ -85,20 +70,6 @@ returns-2 c =
 
 pub check-azimuths-spec : {M : Type 1} → statement M
 check-azimuths-spec =
-    tie.close
-    (tie.spec
-    Inv-loop
-    μ-loop
-    loop-holds
-    sub-check-azimuth
-    part-check-azimuth-start
-    part-check-azimuth-end
-    check-azimuth-requires
-    enum-known-size
-    add-at
-    sub-left
-    loop-less
-    loop-again
-    enum-known-number
-    returns
-    returns-2)
+    tie.close (tie.spec Inv-loop μ-loop loop-holds (λ c. search needs) (λ c. search needs) (λ c. search needs)
+    (λ c κs. search needs) (λ c. search needs) add-at (λ c. search needs) (λ c. search needs) loop-again (λ c. search needs)
+    returns returns-2)
