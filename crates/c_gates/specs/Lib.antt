@@ -1,3 +1,3 @@
--- The gates of a moment, and what a gate is worth, as the structs that C receives.
+-- The gates of a moment, and the value of a gate, as the structs that C receives.
 pub mod Face
 pub mod Steps

@@ -1,19 +1,11 @@
 -- What the private functions promise each other. No public promise cites this file.
 use Prim.Native.Nat.{_+_, _-_}
 use Rattle.radial_spec.specs.Description.{momentHead, momentBytes}
-use Rattle.radial.specs.declared.MomentHead.{MomentHead}
+use Rattle.radial_check.specs.declared.MomentHead.{MomentHead}
+use Rattle.radial_check.specs.Told.{headBack}
 use Rattle.c_gates.specs.declared.UlmGates.{UlmGates}
+use Rattle.c_gates.specs.Face.{gatesBy}
 
 -- a moment's gates by its head
 abbrev pub headGates : MomentHead → UlmGates
-headGates h = record {
-  refusal = 0;
-  gates = h .gates;
-  word = h .word;
-  scale = h .«scale_bits»;
-  offset = h .«offset_bits»;
-  first = h .first;
-  interval = h .interval;
-  start = h .place + momentHead;
-  size = momentBytes (h .gates) (h .word) - momentHead;
-}
+headGates h = gatesBy (headBack h) (h .place + momentHead) (momentBytes (h .gates) (h .word) - momentHead)

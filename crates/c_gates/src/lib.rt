@@ -1,4 +1,4 @@
-// The gates of a moment, and what a gate is worth, as C receives them.
+// The gates of a moment, and the value of a gate, as C receives them.
 ghost use mathlib.Core.Path.{_≡_};
 ghost use Rattle.wire.specs.Numbers.{be};
 ghost use Rattle.wire.specs.Answers.{refused};
@@ -9,8 +9,8 @@ ghost use Rattle.c_gates.specs.Face.{gatesFace, worthFace};
 ghost use Rattle.c_gates.specs.Steps.{headGates};
 use gate_value::GateAnswer;
 use radial::MomentAnswer;
-use radial::MomentHead;
 use radial_check::MOMENT_HEAD;
+use radial_check::MomentHead;
 
 #[repr(C)]
 pub struct UlmGates {
@@ -78,12 +78,9 @@ fn no_gates(number: u8) -> UlmGates
 fn four(name: u32) -> [u8; 4]
     ensures { λ r. ⌜ r ≡ be 4 name ⌝ }
 {
-    [
-        (name / 16777216) as u8,
-        (name / 65536 % 256) as u8,
-        (name / 256 % 256) as u8,
-        (name % 256) as u8,
-    ]
+    let mut bytes = [0u8; 4];
+    wire::store32(&mut bytes, 0, name);
+    bytes
 }
 
 pub fn gate(body: &[u8], name: u32, gate: u64) -> UlmGate

@@ -1,14 +1,15 @@
 -- The laws between what the library answers of radials and the structs that C receives. Assumes nothing.
 use Prim.Native.Nat.{ℕ}
-use mathlib.Core.Path.{_≡_, refl, ap}
+use mathlib.Core.Path.{_≡_, refl, sym, ap}
 use mathlib.Core.Option.{Option, none, some}
 use Rattle.wire.specs.Answers.{Answer, refused, given}
 use Rattle.wire.proofs.CheckLaws.{never}
 use Rattle.radial_spec.specs.Description.{Moment, Description}
 use Rattle.radial_spec.specs.Lookups.{Asked, noSuch, lies}
+use Rattle.wire.proofs.OnwardLaws.{shows-refused}
 use Rattle.radial_heading.specs.declared.Heading.{Heading}
-use Rattle.radial.specs.declared.MomentHead.{MomentHead}
-use Rattle.radial.specs.Told.{headOf, Told, headIfAny, blockShown}
+use Rattle.radial_check.specs.declared.MomentHead.{MomentHead}
+use Rattle.radial.specs.Told.{headOf, Told, headIfAny, toldOf, blockShown}
 use Rattle.radial_heading.specs.Told.{headingShown}
 use Rattle.radial.specs.declared.Lying.{Lying as Placed}
 use Rattle.c_radial.specs.declared.UlmRadial.{UlmRadial}
@@ -43,7 +44,8 @@ radial-shown (given d) = refl
 -- what the lookup tells of a block is what C receives
 module _ (k : Placed) where
   told-constant : (name place size : ℕ) (o : Option Moment)
-      → _≡_ {A = Told} (record { name = k .name; place = k .place; size = k .size; head = none }) (record { name = name; place = place; size = size; head = headIfAny o })
+      → _≡_ {A = Told} (record { name = k .name; place = k .place; size = k .size; head = none })
+      (record { name = name; place = place; size = size; head = headIfAny o })
       → constantFace (k .name) (k .place) (k .size) ≡ lyingFace name place size o
   told-constant name place size none e =
       let p : k .name ≡ name = ap (λ (t : Told). t .name) e in
@@ -53,7 +55,8 @@ module _ (k : Placed) where
   told-constant name place size (some m) e = never (cc (ap (λ (t : Told). t .head) e))
 
   told-moment : (h : MomentHead) (name place size : ℕ) (o : Option Moment)
-      → _≡_ {A = Told} (record { name = k .name; place = k .place; size = k .size; head = some h }) (record { name = name; place = place; size = size; head = headIfAny o })
+      → _≡_ {A = Told} (record { name = k .name; place = k .place; size = k .size; head = some h })
+      (record { name = name; place = place; size = size; head = headIfAny o })
       → headFace k h ≡ lyingFace name place size o
   told-moment h name place size none e = never (cc (ap (λ (t : Told). t .head) e))
   told-moment h name place size (some m) e =
@@ -63,13 +66,15 @@ module _ (k : Placed) where
       let s : h ≡ headOf m = cc (ap (λ (t : Told). t .head) e) in
       simp (p, q, r, s)
 
-  pub block-constant : (a : Answer Asked) → given (some (record { name = k .name; place = k .place; size = k .size; head = none })) ≡ blockShown a
+  pub block-constant : (a : Answer Asked)
+      → given (some (record { name = k .name; place = k .place; size = k .size; head = none })) ≡ blockShown a
       → constantFace (k .name) (k .place) (k .size) ≡ blockFace a
   block-constant (refused n) e = never (cc e)
   block-constant (given noSuch) e = never (cc e)
   block-constant (given (lies l)) e = told-constant (l .name) (l .place) (l .size) (l .moment) (cc e)
 
-  pub block-moment : (h : MomentHead) (a : Answer Asked) → given (some (record { name = k .name; place = k .place; size = k .size; head = some h })) ≡ blockShown a
+  pub block-moment : (h : MomentHead) (a : Answer Asked)
+      → given (some (record { name = k .name; place = k .place; size = k .size; head = some h })) ≡ blockShown a
       → headFace k h ≡ blockFace a
   block-moment h (refused n) e = never (cc e)
   block-moment h (given noSuch) e = never (cc e)
@@ -81,6 +86,4 @@ block-none (given noSuch) e = refl
 block-none (given (lies l)) e = never (cc e)
 
 pub block-refused : (a : Answer Asked) (n : ℕ) → _≡_ {A = Answer (Option Told)} (refused n) (blockShown a) → noBlock n ≡ blockFace a
-block-refused (refused k) n e = let p : n ≡ k = cc e in ap noBlock p
-block-refused (given noSuch) n e = never (cc e)
-block-refused (given (lies l)) n e = never (cc e)
+block-refused a n e = sym (ap blockFace (shows-refused a toldOf n e))

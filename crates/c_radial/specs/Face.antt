@@ -3,6 +3,7 @@ use Prim.Native.Nat.{ℕ}
 use mathlib.Core.Option.{Option, none, some}
 use Rattle.wire.specs.Answers.{Answer, refused, given}
 use Rattle.radial_spec.specs.Description.{Moment, Description, blockCount, gates}
+use Rattle.radial_spec.specs.Refusal.{Head, headBy, storedHead}
 use Rattle.radial_spec.specs.Lookups.{Asked, noSuch, lies}
 use Rattle.c_radial.specs.declared.UlmRadial.{UlmRadial}
 use Rattle.c_radial.specs.declared.UlmBlock.{UlmBlock}
@@ -44,64 +45,40 @@ radialFace (given d) = record {
   blocks = blockCount d;
 }
 
+-- a block: a refusal's number or 0, whether it was found, its name, place and size, and the fields of a moment's head
+abbrev pub blockBy : ℕ → ℕ → ℕ → ℕ → ℕ → Head → UlmBlock
+blockBy refusal found name place size h = record {
+  refusal = refusal;
+  found = found;
+  name = name;
+  reserved = h .reserved;
+  gates = h .gates;
+  first = h .first;
+  interval = h .interval;
+  overlay = h .overlay;
+  noise = h .noise;
+  flags = h .flags;
+  word = h .word;
+  scale = h .scale;
+  offset = h .offset;
+  start = place;
+  size = size;
+}
+
+-- where there is no head its fields are 0
+abbrev pub noHead : Head
+noHead = headBy (λ w k. 0)
+
 -- a block that is not there, with a refusal's number or 0
 abbrev pub noBlock : ℕ → UlmBlock
-noBlock n = record {
-  refusal = n;
-  found = 0;
-  name = 0;
-  reserved = 0;
-  gates = 0;
-  first = 0;
-  interval = 0;
-  overlay = 0;
-  noise = 0;
-  flags = 0;
-  word = 0;
-  scale = 0;
-  offset = 0;
-  start = 0;
-  size = 0;
-}
+noBlock n = blockBy n 0 0 0 0 noHead
 
 -- "for the three constant blocks only found, name, start and size"
 abbrev pub constantFace : ℕ → ℕ → ℕ → UlmBlock
-constantFace name place size = record {
-  refusal = 0;
-  found = 1;
-  name = name;
-  reserved = 0;
-  gates = 0;
-  first = 0;
-  interval = 0;
-  overlay = 0;
-  noise = 0;
-  flags = 0;
-  word = 0;
-  scale = 0;
-  offset = 0;
-  start = place;
-  size = size;
-}
+constantFace name place size = blockBy 0 1 name place size noHead
 
 abbrev pub momentFace : ℕ → ℕ → ℕ → Moment → UlmBlock
-momentFace name place size m = record {
-  refusal = 0;
-  found = 1;
-  name = name;
-  reserved = m .reserved;
-  gates = gates m;
-  first = m .first;
-  interval = m .interval;
-  overlay = m .overlay;
-  noise = m .noise;
-  flags = m .flags;
-  word = m .word;
-  scale = m .scale;
-  offset = m .offset;
-  start = place;
-  size = size;
-}
+momentFace name place size m = blockBy 0 1 name place size (storedHead m)
 
 abbrev pub lyingFace : ℕ → ℕ → ℕ → Option Moment → UlmBlock
 lyingFace name place size none = constantFace name place size

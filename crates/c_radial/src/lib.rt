@@ -6,7 +6,7 @@ ghost use Rattle.c_radial.specs.Face.{radialFace, noBlock, constantFace,
 ghost use Rattle.c_radial.specs.Steps.{headFace};
 use radial::BlockAnswer;
 use radial::Lying;
-use radial::MomentHead;
+use radial_check::MomentHead;
 
 #[repr(C)]
 pub struct UlmRadial {
@@ -84,45 +84,29 @@ pub fn block(body: &[u8], block: u32) -> UlmBlock
 fn constant_block(k: Lying) -> UlmBlock
     ensures { λ r. ⌜ r ≡ constantFace (k .name) (k .place) (k .size) ⌝ }
 {
-    UlmBlock {
-        refusal: 0,
-        found: 1,
-        name: k.name,
-        reserved: 0,
-        gates: 0,
-        first: 0,
-        interval: 0,
-        overlay: 0,
-        noise: 0,
-        flags: 0,
-        word: 0,
-        scale: 0,
-        offset: 0,
-        start: k.place as u64,
-        size: k.size as u64,
-    }
+    let mut block = no_block(0);
+    block.found = 1;
+    block.name = k.name;
+    block.start = k.place as u64;
+    block.size = k.size as u64;
+    block
 }
 
 fn moment_block(k: Lying, h: MomentHead) -> UlmBlock
     ensures { λ r. ⌜ r ≡ headFace k h ⌝ }
 {
-    UlmBlock {
-        refusal: 0,
-        found: 1,
-        name: k.name,
-        reserved: h.reserved,
-        gates: h.gates as u32,
-        first: h.first as u32,
-        interval: h.interval as u32,
-        overlay: h.overlay as u32,
-        noise: h.noise as u32,
-        flags: h.flags as u32,
-        word: h.word as u32,
-        scale: h.scale_bits,
-        offset: h.offset_bits,
-        start: k.place as u64,
-        size: k.size as u64,
-    }
+    let mut block = constant_block(k);
+    block.reserved = h.reserved;
+    block.gates = h.gates as u32;
+    block.first = h.first as u32;
+    block.interval = h.interval as u32;
+    block.overlay = h.overlay as u32;
+    block.noise = h.noise as u32;
+    block.flags = h.flags as u32;
+    block.word = h.word as u32;
+    block.scale = h.scale_bits;
+    block.offset = h.offset_bits;
+    block
 }
 
 fn no_block(number: u8) -> UlmBlock

@@ -7,5 +7,6 @@ use Rattle.gate_value.specs.Value.{valueOf}
 use Rattle.gate_value.specs.Cases.{Table}
 
 pub table : Table
-unfolding valueOf ofBits Ieee.lt Ieee.div Ieee.sub Ieee.add Ieee.neg Ieee.sum Ieee.round Ieee.units Ieee.odd Ieee.size Ieee.span Ieee.climb Ieee.ofInt Ieee.ofFields trailingZeros
+unfolding valueOf ofBits Ieee.lt Ieee.div Ieee.sub Ieee.add Ieee.neg Ieee.sum Ieee.round Ieee.units Ieee.odd Ieee.size Ieee.span
+    Ieee.climb Ieee.ofInt Ieee.ofFields trailingZeros
 table = (refl, (refl, (refl, (refl, (refl, (refl, (refl, (refl, tt))))))))

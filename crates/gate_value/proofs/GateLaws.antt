@@ -8,9 +8,9 @@ use lib.ListN.{getD}
 use borrow.Author.Tests.{lt-leb}
 use Rattle.wire.specs.Checks.{pick, someBroken}
 use Rattle.wire.specs.Answers.{Answer, refused, given, onward}
-use Rattle.wire.proofs.CheckLaws.{never}
 use Rattle.radial_spec.specs.Description.{Moment, gates}
 use Rattle.radial_spec.specs.Lookups.{Coded as CodedOf, momentOf, codedIn, codedOf}
+use Rattle.wire.proofs.OnwardLaws.{shows-given}
 use Rattle.radial_spec.proofs.Naming.{unnamed}
 use Rattle.radial.specs.declared.Coded.{Coded}
 use Rattle.radial.specs.Told.{headOf, codeShown}
@@ -41,12 +41,12 @@ by-code (given m) i = go (leb (gates m) i)
     go false = refl
 
 -- the two floats of every head that is handed over with a code are those of its bits
-floats : (a : Answer CodedOf) (c : Coded) → given c ≡ codeShown a → (c .head .scale ≡ float (c .head .«scale_bits»)) × (c .head .offset ≡ float (c .head .«offset_bits»))
-floats (refused n) c e = never (cc e)
-floats (given g) c e =
-    let p : c ≡ record { code = g .code; head = headOf (g .moment) } = cc e in
+floats : (a : Answer CodedOf) (c : Coded) → given c ≡ codeShown a
+    → (c .head .scale ≡ float (c .head .«scale_bits»)) × (c .head .offset ≡ float (c .head .«offset_bits»))
+floats a c e =
+    let s = shows-given a (λ (g : CodedOf). record { code = g .code; head = headOf (g .moment) }) c e in
     subst
-    (λ (x : Coded). (x .head .scale ≡ float (x .head .«scale_bits»)) × (x .head .offset ≡ float (x .head .«offset_bits»))) (sym p)
+    (λ (x : Coded). (x .head .scale ≡ float (x .head .«scale_bits»)) × (x .head .offset ≡ float (x .head .«offset_bits»))) (sym (s .is))
     (refl, refl)
 
 module _ (b : List ℕ) (name i : ℕ) where
@@ -67,4 +67,5 @@ module _ (b : List ℕ) (name i : ℕ) where
     pub gate-worth : broken ≡ false → given (worthBy (c .code) (c .head .scale) (c .head .offset)) ≡ gateOf b name i
     gate-worth h =
         let f = floats (codedOf b name i) c e in
-        value-given (c .code) (c .head .«scale_bits») (c .head .«offset_bits») (c .head .scale) (c .head .offset) h (f .0) (f .1) ∙ answered (given c) e
+        value-given (c .code) (c .head .«scale_bits») (c .head .«offset_bits») (c .head .scale) (c .head .offset) h (f .0) (f .1)
+        ∙ answered (given c) e

@@ -5,7 +5,8 @@ use mathlib.Core.Bool.{Bool, true, false, not, cond, _&&_, Bool·beq}
 use native.Mathlib.Nat.{zero-mul}
 use lib.Dec.{ltb, eqb, eqb·suc-zero}
 use lib.IntN.{ℤ, pos}
-use lib.Ieee.{Float, nan, inf, fin, binary32, unlike, up, down, low, prec, emax, size, nearest, odd, units, round, neg, sum, add, sub, div, lt, ofInt, ofBits, ofFields, isNan}
+use lib.Ieee.{Float, nan, inf, fin, binary32, unlike, up, down, low, prec, emax, size, nearest, odd, units, round, neg, sum, add, sub}
+use lib.Ieee.{div, lt, ofInt, ofBits, ofFields, isNan}
 use lib.Ieee.Scale.{finite}
 use borrow.Author.Tests.{not-false}
 use Rattle.wire.specs.Checks.{pick}
@@ -30,7 +31,8 @@ inf-no-nan s = refl
 units-no-nan : (s : Bool) (q k : ℕ) → isNan (units binary32 s q k) ≡ false
 unfolding units
 units-no-nan s q k =
-    cond-no-nan (ltb (q * 2 ^ k) (2 ^ (low binary32 + suc (emax binary32)))) (odd 25 s q k 149) (inf s) (odd-no-nan 25 s q k 149) (inf-no-nan s)
+    cond-no-nan (ltb (q * 2 ^ k) (2 ^ (low binary32 + suc (emax binary32)))) (odd 25 s q k 149) (inf s) (odd-no-nan 25 s q k 149)
+    (inf-no-nan s)
 
 round-no-nan : (s : Bool) (n d : ℕ) → isNan (round binary32 s n d) ≡ false
 unfolding round
@@ -43,11 +45,13 @@ round-no-nan s n d =
 sum-no-nan : (s : Bool) (a : ℕ) (t : Bool) (b c : ℕ) → isNan (sum binary32 s a t b c) ≡ false
 unfolding sum
 sum-no-nan s a t b c =
-    cond-no-nan (Bool·beq s t) (round binary32 s (a + b) c) (cond (ltb a b) (round binary32 t (b - a) c) (round binary32 (s && ltb b a) (a - b) c))
+    cond-no-nan (Bool·beq s t) (round binary32 s (a + b) c) (cond (ltb a b) (round binary32 t (b - a) c)
+    (round binary32 (s && ltb b a) (a - b) c))
     (round-no-nan s (a + b) c)
-    (cond-no-nan (ltb a b) (round binary32 t (b - a) c) (round binary32 (s && ltb b a) (a - b) c) (round-no-nan t (b - a) c) (round-no-nan (s && ltb b a) (a - b) c))
+    (cond-no-nan (ltb a b) (round binary32 t (b - a) c) (round binary32 (s && ltb b a) (a - b) c) (round-no-nan t (b - a) c)
+    (round-no-nan (s && ltb b a) (a - b) c))
 
--- a number less a finite one
+-- a number minus a finite one is no NaN
 sub-no-nan : (x y : Float) → isNan x ≡ false → finite y ≡ true → isNan (sub binary32 x y) ≡ false
 unfolding sub add neg isNan
 sub-no-nan nan y h k = never (cc h)
@@ -58,14 +62,14 @@ sub-no-nan (fin s m e) nan h k = never (cc k)
 sub-no-nan (fin s m e) (inf t) h k = never (cc k)
 sub-no-nan (fin s m e) (fin t n d) h k = sum-no-nan s (m * up e * down d) (not t) (n * up d * down e) (down e * down d)
 
--- a number by a finite one that is not 0
+-- a number divided by a finite one that is not 0 is no NaN
 div-no-nan : (x : Float) (t : Bool) (n : ℕ) (d : ℤ) → isNan x ≡ false → isNan (div binary32 x (fin t (suc n) d)) ≡ false
 unfolding div isNan
 div-no-nan nan t n d h = never (cc h)
 div-no-nan (inf s) t n d h = refl
 div-no-nan (fin s m e) t n d h = rw (eqb·suc-zero n) (round-no-nan (unlike s t) (m * up e * down d) (suc n * up d * down e))
 
--- what is finite and above 0 is no zero
+-- nor is one divided by a finite one above 0
 above-not-zero : (x y : Float) → isNan x ≡ false → finite y ≡ true → lt (float 0) y ≡ true → isNan (div binary32 x y) ≡ false
 unfolding lt ofBits ofFields odd
 above-not-zero x nan h k p = never (cc k)
@@ -88,7 +92,8 @@ unfolding valueOf
 never-nan code scale offset v e =
     let p = rule-given (valueChecks scale offset) (worthOf code scale offset) (worth v) e in
     let h = all-hold (valueChecks scale offset) (p .0) in
-    let w : scaled code (float scale) (float offset) ≡ v = worth-is (eqb code 0) (eqb code 1) (scaled code (float scale) (float offset)) v (p .1) in
+    let w : scaled code (float scale) (float offset)
+    ≡ v = worth-is (eqb code 0) (eqb code 1) (scaled code (float scale) (float offset)) v (p .1) in
     rw (← w)
     (above-not-zero (sub binary32 (ofInt binary32 (pos code)) (float offset)) (float scale)
     (sub-no-nan (ofInt binary32 (pos code)) (float offset) (int-no-nan code) (not-false (finite (float offset)) (h .1 .1 .0)))

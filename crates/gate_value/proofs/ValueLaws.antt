@@ -10,7 +10,8 @@ use Rattle.wire.proofs.CheckLaws.{decide-same}
 use Rattle.gate_value.specs.Value.{float, Worth, valueChecks, worthBy, worthOf, valueOf}
 
 module _ (code scale offset : ℕ) where
-  by-tests : (t : Bool) → someBroken (valueChecks scale offset) ≡ t → valueOf code scale offset ≡ pick t (refused 22) (given (worthOf code scale offset))
+  by-tests : (t : Bool) → someBroken (valueChecks scale offset) ≡ t
+      → valueOf code scale offset ≡ pick t (refused 22) (given (worthOf code scale offset))
   unfolding valueOf
   by-tests t e =
       decide-same 22 (valueChecks scale offset) [] refused (given (worthOf code scale offset)) (refl, (refl, (refl, tt)))

@@ -1,5 +1,5 @@
--- What the contract of each public function says of a call, as Rattle reads it from src/ (`Learnt`): its promise, and that no two results of one call
--- meet it. Assumes nothing.
+-- What the contract of each public function says of a call, as Rattle reads it from src/ (`Learnt`): its promise, and that no two results
+-- of one call meet it. Assumes nothing.
 use denote.Ref.{now}
 use mathlib.Core.Path.{_≡_, refl}
 use Rattle.wire.proofs.AnswerLaws.{only-answer}
@@ -30,7 +30,8 @@ gate-apart (Refused n) BelowThreshold e = never (cc e)
 gate-apart (Refused n) RangeFolded e = never (cc e)
 gate-apart (Refused n) (Refused m) e = cc e
 
-pub value-says : (κs code scale offset r last : _) → value.Learnt κs (code, (scale, (offset, tt))) r last → tellGate r ≡ valueOf code scale offset
+pub value-says : (κs code scale offset r last : _) → value.Learnt κs (code, (scale, (offset, tt))) r last
+    → tellGate r ≡ valueOf code scale offset
 value-says κs code scale offset r last l = l
 
 pub value-one : (κs code scale offset r r₂ last last₂ : _) → value.Learnt κs (code, (scale, (offset, tt))) r last

@@ -1,4 +1,4 @@
--- What holds of every gate's answer.
+-- What holds for the answer of every gate.
 use Prim.Native.Nat.{ℕ, _<_}
 use mathlib.Core.Path.{_≡_}
 use mathlib.Core.Bool.{false}
@@ -12,16 +12,16 @@ use Rattle.radial_spec.specs.Refusal.{radialOf}
 use Rattle.radial_spec.specs.Lookups.{momentOf}
 use Rattle.gate_value.specs.Value.{worth, valueOf, gateOf}
 
--- gate i's answer is that of the description's code i
+-- the answer for gate i is the one for code i of the description
 abbrev pub OfItsCode : Type 0
 OfItsCode = (b : List ℕ) (name i : ℕ) (m : Moment) → momentOf b name ≡ given m → i < gates m
     → gateOf b name i ≡ valueOf (getD (m .codes) i 0) (m .scale) (m .offset)
 
--- bodies of one length that are equal at every byte that the description names have the same gate answers
+-- two bodies of one length that are equal at every byte the description names have the same gate answers
 abbrev pub Unnamed : Type 0
 Unnamed = (b b′ : List ℕ) (d : Description) → Octets b → length b′ ≡ length b → radialOf b ≡ given d
     → ((i : ℕ) → Named d i → getD b′ i 0 ≡ getD b i 0) → (name gate : ℕ) → gateOf b′ name gate ≡ gateOf b name gate
 
--- a value that is handed over is never a NaN
+-- no value handed over is a NaN
 abbrev pub NeverNan : Type 0
 NeverNan = (code scale offset : ℕ) (v : Float) → valueOf code scale offset ≡ given (worth v) → isNan v ≡ false

@@ -1,4 +1,4 @@
--- Document 01's number and values for each case of an answer.
+-- What each case of an answer means: the number of refusal, or the values.
 use Rattle.wire.specs.Answers.{Answer, refused, given}
 use Rattle.gate_value.specs.declared.GateAnswer.{GateAnswer}
 use Rattle.gate_value.specs.declared.GateAnswer.the-variants.{Value, BelowThreshold, RangeFolded, Refused}

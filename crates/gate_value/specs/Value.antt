@@ -1,4 +1,5 @@
--- "Gate value: a moment's scale and offset travel with it." In the logic's own account of IEEE 754, where a float is a number, an infinity or the one NaN.
+-- "Gate value: a moment's scale and offset travel with it." In the logic's own account of IEEE 754, where a float is a number, an infinity
+-- or the one NaN.
 use Prim.Native.Nat.{ℕ}
 use mathlib.Core.Bool.{Bool, not}
 use mathlib.Core.List.{List, [], _∷_}
@@ -12,7 +13,7 @@ use Rattle.wire.specs.Answers.{Answer, refused, rule, onward}
 use Rattle.radial_spec.specs.Description.{Moment, gates}
 use Rattle.radial_spec.specs.Lookups.{momentOf}
 
--- the float of 32 bits
+-- the float with these 32 bits
 abbrev pub float : ℕ → Float
 float bits = ofBits binary32 bits
 
@@ -26,7 +27,7 @@ notAbove0 bits = not (lt (float 0) (float bits))
 abbrev pub valueChecks : ℕ → ℕ → List Check
 valueChecks scale offset = check 22 (notFinite scale) ∷ check 22 (notAbove0 scale) ∷ check 22 (notFinite offset) ∷ []
 
--- what a code is worth
+-- the meaning of a code
 pub data Worth : Type 0 where
   belowThreshold : Worth
   rangeFolded : Worth

@@ -19,13 +19,7 @@ pub enum GateAnswer {
     Refused(u8),
 }
 
-fn not_finite(bits: u32) -> bool
-    ensures { λ r. ⌜ r ≡ notFinite bits ⌝ }
-{
-    INFINITE <= bits % SIGN
-}
-
-// The float of 32 bits that are a finite one's.
+// The float with these 32 bits, which are those of a finite float.
 fn finite_of(bits: u32) -> f32
     requires { ⌜ notFinite bits ≡ false ⌝ }
     ensures { λ r. ⌜ r ≡ float bits ⌝ }
@@ -33,34 +27,33 @@ fn finite_of(bits: u32) -> f32
     f32::from_bits(bits)
 }
 
+// The finite floats above 0 are exactly the bit patterns from 1 to the one before an infinity's.
 fn breaks_value(scale: u32, offset: u32) -> bool
     ensures { λ r. ⌜ r ≡ someBroken (valueChecks scale offset) ⌝ }
 {
-    if not_finite(scale) {
+    if scale == 0 {
         return true;
     }
-    let zero = wire::float_of(0);
-    let above = zero < finite_of(scale);
-    if !above {
+    if INFINITE <= scale {
         return true;
     }
-    not_finite(offset)
+    INFINITE <= offset % SIGN
 }
 
-// What a code is worth, with a scale and an offset that are not refused.
+// The meaning of a code, with a scale and an offset that are not refused.
 fn worth(code: u16, scale: f32, offset: f32) -> GateAnswer
     ensures { λ r. ⌜ tellGate r ≡ given (worthBy code scale offset) ⌝ }
 {
+    if 1 < code {
+        return GateAnswer::Value((code as f32 - offset) / scale);
+    }
     if code == 0 {
         return GateAnswer::BelowThreshold;
     }
-    if code == 1 {
-        return GateAnswer::RangeFolded;
-    }
-    GateAnswer::Value((code as f32 - offset) / scale)
+    GateAnswer::RangeFolded
 }
 
-// What a code is worth, with the 32 bits of a moment's scale and offset: for a renderer that walks the lent gates itself.
+// The meaning of a code, by the 32 bits of a moment's scale and offset: for a renderer that reads the lent gates itself.
 pub fn value(code: u16, scale: u32, offset: u32) -> GateAnswer
     ensures { λ r. ⌜ tellGate r ≡ valueOf code scale offset ⌝ }
 {
@@ -70,7 +63,7 @@ pub fn value(code: u16, scale: u32, offset: u32) -> GateAnswer
     worth(code, finite_of(scale), finite_of(offset))
 }
 
-// The value of a gate, counted from 0, of the moment with a name: by the two floats that its head carries.
+// The value of a gate (counted from 0) of the moment with a name, by the scale and the offset in the moment's head.
 pub fn gate_value(body: &[u8], name: Name, gate: usize) -> GateAnswer
     ensures { λ r. ⌜ tellGate r ≡ gateOf (now (body .entry)) (num 4 name 0) gate ⌝ }
 {

@@ -11,24 +11,24 @@ use borrow.Author.Tests.{le-leb, lt-leb, leb-false}
 use Rattle.wire.specs.Numbers.{num, fetched, Octets}
 use Rattle.wire.specs.Checks.{pick}
 use Rattle.wire.specs.Answers.{Answer, refused, given, onward}
-use Rattle.wire.proofs.CheckLaws.{never}
 use Rattle.wire.proofs.NumberLaws.{cut-is, num-drop}
-use Rattle.radial_spec.specs.Description.{Moment, gates}
+use Rattle.radial_spec.specs.Description.{Moment, gates, momentHead}
 use Rattle.radial_spec.specs.Lookups.{momentOf, codedIn, codedOf}
+use Rattle.wire.proofs.OnwardLaws.{shows-given, shows-refused}
 use Rattle.radial_spec.proofs.Naming.{code-at, found-lies}
-use Rattle.radial.specs.declared.MomentHead.{MomentHead}
+use Rattle.radial_check.specs.declared.MomentHead.{MomentHead}
 use Rattle.radial.specs.Told.{headOf, headShown, codeShown}
 use Rattle.radial.specs.Steps.{WordThere, codeIn, GatesThere, codedBy}
 
 -- ---- the code of a gate, one fact over the word width
 -- a fetch of k bytes at the gate's word
-pub fetched-code : (k : ℕ) (b : List ℕ) (p w i n r : ℕ) → w / 8 ≡ k → n ≡ p + (28 + i * k) → p + (28 + i * k + k) ≤ length b
+pub fetched-code : (k : ℕ) (b : List ℕ) (p w i n r : ℕ) → w / 8 ≡ k → n ≡ p + (momentHead + i * k) → p + (momentHead + i * k + k) ≤ length b
     → r ≡ fetched k (take (n + k - n) (drop n b)) 0 → r ≡ codeIn b p w i
 fetched-code k b p w i n r e f h g =
     cut-is k (n + k - n) b n 0 r (omega arith) (omega (arith, f)) g
     ∙ ap (num k b) (add-zero n ∙ f)
-    ∙ sym (num-drop k b p (28 + i * k))
-    ∙ ap (λ (x : ℕ). num x (drop p b) (28 + i * x)) (sym e)
+    ∙ sym (num-drop k b p (momentHead + i * k))
+    ∙ ap (λ (x : ℕ). num x (drop p b) (momentHead + i * x)) (sym e)
 
 -- ---- a gate of the moment with this head
 module _ (b : List ℕ) (h : MomentHead) (i : ℕ) where
@@ -46,35 +46,26 @@ module _ (b : List ℕ) (h : MomentHead) (i : ℕ) where
 
 -- ---- what a moment's head says
 pub gates-there : (b : List ℕ) (name : ℕ) (h : MomentHead) → Octets b → given h ≡ headShown (momentOf b name) → GatesThere b h
-gates-there b name h o e = go (momentOf b name) refl e
-  where
-    go : (a : Answer Moment) → momentOf b name ≡ a → given h ≡ headShown a → GatesThere b h
-    go (refused n) q f = never (cc f)
-    go (given m) q f =
-        let x : h ≡ headOf m = cc f in
-        let l = found-lies b name m o q in
-        subst (GatesThere b) (sym x) (record { sized = l .1; few = l .0; within = l .2 })
+gates-there b name h o e =
+    let s = shows-given (momentOf b name) headOf h e in
+    let l = found-lies b name (s .value) o (s .was) in
+    subst (GatesThere b) (sym (s .is)) (record { sized = l .1; few = l .0; within = l .2 })
 
 pub code-refused : (b : List ℕ) (name n i : ℕ) → refused n ≡ headShown (momentOf b name) → refused n ≡ codeShown (codedOf b name i)
 unfolding codedOf
-code-refused b name n i e = go (momentOf b name) e
-  where
-    go : (a : Answer Moment) → refused n ≡ headShown a → refused n ≡ codeShown (onward a (λ m. codedIn m i))
-    go (refused k) f = let q : n ≡ k = cc f in ap refused q
-    go (given m) f = never (cc f)
+code-refused b name n i e = rw (shows-refused (momentOf b name) headOf n e) refl
 
-pub code-given : (b : List ℕ) (name i : ℕ) (h : MomentHead) → given h ≡ headShown (momentOf b name) → codedBy b h i ≡ codeShown (codedOf b name i)
+pub code-given : (b : List ℕ) (name i : ℕ) (h : MomentHead) → given h ≡ headShown (momentOf b name)
+    → codedBy b h i ≡ codeShown (codedOf b name i)
 unfolding codedOf
-code-given b name i h e = go (momentOf b name) refl e
+code-given b name i h e =
+    let s = shows-given (momentOf b name) headOf h e in
+    ap (λ (y : MomentHead). codedBy b y i) (s .is)
+    ∙ by (s .value) (s .was) (leb (gates (s .value)) i) refl
+    ∙ ap (λ (a : Answer Moment). codeShown (onward a (λ m. codedIn m i))) (sym (s .was))
   where
     by : (m : Moment) → momentOf b name ≡ given m → (t : Bool) → leb (gates m) i ≡ t
         → pick t (refused 21) (given (record { code = codeIn b (m .place) (m .word) i; head = headOf m }))
         ≡ codeShown (pick t (refused 21) (given (record { code = getD (m .codes) i 0; moment = m })))
     by m q true k = refl
     by m q false k = ap (λ (x : ℕ). given (record { code = x; head = headOf m })) (sym (code-at b name m i q (leb-false (gates m) i k)))
-
-    go : (a : Answer Moment) → momentOf b name ≡ a → given h ≡ headShown a → codedBy b h i ≡ codeShown (onward a (λ m. codedIn m i))
-    go (refused n) q f = never (cc f)
-    go (given m) q f =
-        let x : h ≡ headOf m = cc f in
-        ap (λ (y : MomentHead). codedBy b y i) x ∙ by m q (leb (gates m) i) refl

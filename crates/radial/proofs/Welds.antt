@@ -1,5 +1,5 @@
--- What the contract of each public function says of a call, as Rattle reads it from src/ (`Learnt`): its promise, and that no two results of one call
--- meet it. Assumes nothing.
+-- What the contract of each public function says of a call, as Rattle reads it from src/ (`Learnt`): its promise, and that no two results
+-- of one call meet it. Assumes nothing.
 use denote.Ref.{now}
 use mathlib.Core.Option.{Option, none, some}
 use mathlib.Core.Path.{_≡_, sym, _∙_, refl, ap}
@@ -16,7 +16,7 @@ use Rattle.radial.specs.declared.CodeAnswer.the-variants.{Code, Refused 
 use Rattle.radial.specs.declared.Lying.{Lying}
 use Rattle.radial.specs.declared.MomentAnswer.{MomentAnswer}
 use Rattle.radial.specs.declared.MomentAnswer.the-variants.{Moment as Found, Refused as NotFound}
-use Rattle.radial.specs.declared.MomentHead.{MomentHead}
+use Rattle.radial_check.specs.declared.MomentHead.{MomentHead}
 use Rattle.radial.proofs.read_radial.Reads as read-radial
 use Rattle.radial.proofs.moment.Reads as moment
 use Rattle.radial.proofs.code.Reads as code
@@ -71,16 +71,19 @@ block-apart (NoBlock n) (NoBlock m) e = cc e
 pub read-radial-says : (κs body r last : _) → read-radial.Learnt κs (body, tt) r last → r ≡ shown (radialOf (now body))
 read-radial-says κs body r last l = l
 
-pub read-radial-one : (κs body r r₂ last last₂ : _) → read-radial.Learnt κs (body, tt) r last → read-radial.Learnt κs (body, tt) r₂ last₂ → r ≡ r₂
+pub read-radial-one : (κs body r r₂ last last₂ : _) → read-radial.Learnt κs (body, tt) r last
+    → read-radial.Learnt κs (body, tt) r₂ last₂ → r ≡ r₂
 read-radial-one κs body r r₂ last last₂ l l₂ = l ∙ sym l₂
 
 pub moment-says : (κs body name r last : _) → moment.Learnt κs (body, (name, tt)) r last
     → tellMoment r ≡ headShown (momentOf (now body) (num 4 name 0))
 moment-says κs body name r last l = l
 
-pub moment-one : (κs body name r r₂ last last₂ : _) → moment.Learnt κs (body, (name, tt)) r last → moment.Learnt κs (body, (name, tt)) r₂ last₂
+pub moment-one : (κs body name r r₂ last last₂ : _) → moment.Learnt κs (body, (name, tt)) r last
+    → moment.Learnt κs (body, (name, tt)) r₂ last₂
     → r ≡ r₂
-moment-one κs body name r r₂ last last₂ l l₂ = only-answer tellMoment moment-apart (headShown (momentOf (now body) (num 4 name 0))) r r₂ l l₂
+moment-one κs body name r r₂ last last₂ l l₂ = only-answer tellMoment moment-apart
+    (headShown (momentOf (now body) (num 4 name 0))) r r₂ l l₂
 
 pub code-says : (κs body name gate r last : _) → code.Learnt κs (body, (name, (gate, tt))) r last
     → tellCoded r ≡ codeShown (codedOf (now body) (num 4 name 0) gate)
@@ -88,7 +91,8 @@ code-says κs body name gate r last l = l
 
 pub code-one : (κs body name gate r r₂ last last₂ : _) → code.Learnt κs (body, (name, (gate, tt))) r last
     → code.Learnt κs (body, (name, (gate, tt))) r₂ last₂ → r ≡ r₂
-code-one κs body name gate r r₂ last last₂ l l₂ = only-answer tellCoded code-apart (codeShown (codedOf (now body) (num 4 name 0) gate)) r r₂ l l₂
+code-one κs body name gate r r₂ last last₂ l l₂ = only-answer tellCoded code-apart
+    (codeShown (codedOf (now body) (num 4 name 0) gate)) r r₂ l l₂
 
 pub block-says : (κs body k r last : _) → block.Learnt κs (body, (k, tt)) r last → tellBlock r ≡ blockShown (blockOf (now body) k)
 block-says κs body k r last l = l

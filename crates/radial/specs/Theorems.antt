@@ -1,5 +1,5 @@
 -- Demand 3's last part, "it is what we are handed": the reader's struct with the lent body is the description.
-use Prim.Native.Nat.{ℕ, _-_, _/_}
+use Prim.Native.Nat.{ℕ, _-_}
 use mathlib.Core.Path.{_≡_}
 use mathlib.Core.Logic.{_↔_}
 use mathlib.Core.List.{List, map}
@@ -8,10 +8,11 @@ use lib.ListN.{length, take, drop}
 use Rattle.wire.specs.Numbers.{nums, Octets}
 use Rattle.wire.specs.Checks.{pick}
 use Rattle.wire.specs.Answers.{Answer, refused, given}
-use Rattle.radial_spec.specs.Description.{constants, constantHead, momentHead, Block, Moment, Description, Agrees, Layout}
-use Rattle.radial_spec.specs.Refusal.{radialOf}
+use Rattle.radial_spec.specs.Description.{constants, constantHead, Block, Moment, Description, Agrees, Layout}
+use Rattle.radial_spec.specs.Refusal.{momentBy, radialOf}
 use Rattle.radial.specs.declared.Span.{Span}
-use Rattle.radial.specs.declared.MomentHead.{MomentHead}
+use Rattle.radial_check.specs.declared.MomentHead.{MomentHead}
+use Rattle.radial_check.specs.Told.{headBack}
 use Rattle.radial.specs.declared.Radial.{Radial}
 use Rattle.radial.specs.Told.{shown}
 
@@ -21,22 +22,9 @@ blockFrom b s = record { place = s .place; rest = nums 1 (drop (s .place) b) con
 
 -- a moment: its codes are the body's words after its head
 abbrev pub momentFrom : List ℕ → MomentHead → Moment
-momentFrom b h = record {
-  place = h .place;
-  name = h .name;
-  reserved = h .reserved;
-  first = h .first;
-  interval = h .interval;
-  overlay = h .overlay;
-  noise = h .noise;
-  flags = h .flags;
-  word = h .word;
-  scale = h .«scale_bits»;
-  offset = h .«offset_bits»;
-  codes = nums (h .word / 8) (drop (h .place) b) momentHead (h .gates);
-}
+momentFrom b h = momentBy (h .place) (headBack h) (drop (h .place) b)
 
--- what a caller has with the reader's struct and the body that it lent
+-- what a caller has: the reader's struct, and the body that it lent
 abbrev pub handed : Radial → List ℕ → Answer Description
 handed r b =
     pick (eqb (r .refusal) 0)
@@ -62,11 +50,11 @@ handed r b =
     }))
     (refused (r .refusal))
 
--- of every body, what is handed over is the rule's answer
+-- for every body, what is handed over is the rule's answer
 abbrev pub Handed : Type 0
 Handed = (b : List ℕ) (r : Radial) → r ≡ shown (radialOf b) → handed r b ≡ radialOf b
 
--- so a description is handed over exactly if it has the layout of a radial in the body and agrees with it
+-- so a description is handed over exactly if it has the layout of a radial in the body and agrees with the body
 abbrev pub HandedExactly : Type 0
 HandedExactly = (b : List ℕ) (r : Radial) (d : Description) → Octets b → r ≡ shown (radialOf b)
     → (handed r b ≡ given d) ↔ (Layout (length b) d × Agrees b d)

@@ -1,25 +1,34 @@
-// What an accepted body of message 31 says, handed back by value: its blocks, a moment by its name, and a gate of it.
+// What an accepted body of message 31 says, by value: its blocks, a moment by its name, and a gate's code.
 ghost use mathlib.Core.Path.{_≡_};
-ghost use Prim.Native.Nat.{_+_, _-_, _^_, _<_, _≤_};
+ghost use Prim.Native.Nat.{_+_, _-_, _≤_};
 ghost use mathlib.Core.Option.{some};
 ghost use lib.ListN.{length};
 ghost use Rattle.wire.specs.Numbers.{num, fetched};
 ghost use Rattle.wire.specs.Answers.{refused, given};
-ghost use Rattle.radial_spec.specs.Description.{constants, mostMoments, momentHead};
+ghost use Rattle.radial_spec.specs.Description.{constants, mostMoments, constantHead, momentHead, momentPointer};
 ghost use Rattle.radial_spec.specs.Refusal.{countIn, pointer, momentsAt, description, radialOf};
 ghost use Rattle.radial_spec.specs.Lookups.{momentOf, codedOf, blockOf};
 ghost use Rattle.radial.specs.Told.{noHead, headsOf, shown, tellMoment, headShown, tellCoded, codeShown, tellBlock, blockShown};
-ghost use Rattle.radial.specs.Steps.{spanAt, headIn, headAt, placeIn, tellPlace, placeShown, WordThere, codeIn, GatesThere, codedBy, constantTold, momentTold};
+ghost use Rattle.radial.specs.Steps.{spanAt, headAt, placeIn, tellPlace, placeShown, WordThere, codeIn, GatesThere, codedBy};
+ghost use Rattle.radial.specs.Steps.{constantTold, momentTold};
+use radial_check::CONSTANT_HEAD;
 use radial_check::CONSTANTS;
+use radial_check::COUNT_PLACE;
+use radial_check::ELEVATION_POINTER;
+use radial_check::FIRST_POINTER;
+use radial_check::LENGTH_PLACE;
 use radial_check::MOMENT_HEAD;
+use radial_check::MOMENT_POINTER;
+use radial_check::MOST_BLOCKS;
+use radial_check::MomentHead;
+use radial_check::RADIAL_POINTER;
+use radial_check::VOLUME_POINTER;
+use radial_check::WIDE_WORD;
 use radial_heading::Header;
 use wire::refusal;
 
-// Room for as many moments as the count allows.
-pub const ROOM: usize = 6;
-
-// The bits of a gate's word that takes two bytes.
-pub const WIDE_WORD: u8 = 16;
+// Room for the most moments that the block count allows.
+pub const ROOM: usize = (MOST_BLOCKS - CONSTANTS) as usize;
 
 // Where a constant block lies in the body.
 pub struct Span {
@@ -27,25 +36,7 @@ pub struct Span {
     pub length: u16,
 }
 
-// A moment's first 28 bytes and its place. Scale and offset travel with it, as floats and by their 32 bits.
-pub struct MomentHead {
-    pub name: u32,
-    pub place: u32,
-    pub reserved: u32,
-    pub gates: u16,
-    pub first: u16,
-    pub interval: u16,
-    pub overlay: u16,
-    pub noise: u16,
-    pub flags: u8,
-    pub word: u8,
-    pub scale: f32,
-    pub offset: f32,
-    pub scale_bits: u32,
-    pub offset_bits: u32,
-}
-
-// What a body says: `refusal` is 0, or the number of document 01 and all else 0.
+// What a body says: `refusal` is 0, or the number of the refusal and all else 0.
 pub struct Radial {
     pub refusal: u8,
     pub count: u16,
@@ -56,7 +47,7 @@ pub struct Radial {
     pub moments: [MomentHead; ROOM],
 }
 
-// The four bytes that a moment is asked for by.
+// A moment's name, as four bytes.
 pub type Name = [u8; 4];
 
 // Where the moment asked for begins.
@@ -70,7 +61,7 @@ pub enum MomentAnswer {
     Refused(u8),
 }
 
-// A gate's code, and the head of its moment: scale and offset travel with it.
+// A gate's code, with the head of its moment, which holds scale and offset.
 pub struct Coded {
     pub code: u16,
     pub head: MomentHead,
@@ -88,7 +79,7 @@ pub struct Lying {
     pub size: u32,
 }
 
-// That there is no such block is no refusal: no number covers it.
+// A block that does not exist is not a refusal, since no number covers it.
 pub enum BlockAnswer {
     Constant(Lying),
     Moment(Lying, MomentHead),
@@ -139,52 +130,21 @@ fn refuse(number: u8) -> Radial
     }
 }
 
-// A moment's first 28 bytes.
-fn head_of(part: &[u8], place: u32) -> MomentHead
-    requires { ⌜ 28 ≤ length (now part) ⌝ }
-    ensures { λ r. ⌜ r ≡ headIn place (now (part .entry)) ⌝ }
-{
-    let scale = wire::fetch32(part, 20);
-    let offset = wire::fetch32(part, 24);
-    MomentHead {
-        name: wire::fetch32(part, 0),
-        place: place,
-        reserved: wire::fetch32(part, 4),
-        gates: wire::fetch16(part, 8),
-        first: wire::fetch16(part, 10),
-        interval: wire::fetch16(part, 12),
-        overlay: wire::fetch16(part, 14),
-        noise: wire::fetch16(part, 16),
-        flags: wire::fetch8(part, 18),
-        word: wire::fetch8(part, 19),
-        scale: wire::float_of(scale),
-        offset: wire::float_of(offset),
-        scale_bits: scale,
-        offset_bits: offset,
-    }
-}
-
-// The place that the pointer at a byte of the header says.
-fn place_at(body: &[u8], at: usize) -> usize
-    requires { ⌜ at + 4 ≤ length (now body) ⌝ }
-    ensures { λ r. ⌜ (r ≡ pointer (now (body .entry)) at) × (r < 2 ^ 32) ⌝ }
-{
-    let end = at + 4;
-    wire::fetch32(&body[at..end], 0) as usize
-}
-
 // Where the first moment with a name begins, by the pointers of an accepted radial; 0 where none has it.
 fn moment_place(body: &[u8], name: u32) -> u32
     requires { ⌜ radialOf (now body) ≡ given (description (now body)) ⌝ }
     ensures { λ r. ⌜ r ≡ placeIn (now (body .entry)) name ⌝ }
 {
-    let end = wire::fetch16(&body[30..32], 0) as usize;
-    let mut k = CONSTANTS as usize;
-    while k < end {
-        let place = place_at(body, 32 + 4 * k);
-        let after = place + 4;
-        if wire::fetch32(&body[place..after], 0) == name {
-            return place as u32;
+    let count = wire::fetch16(body, COUNT_PLACE) as u32;
+    let mut k = CONSTANTS as u32;
+    while k < count {
+        let at = (FIRST_POINTER + 4 * k) as usize;
+        let next = at + 4;
+        let place = wire::fetch32(&body[at..next], 0);
+        let begin = place as usize;
+        let after = begin + 4;
+        if wire::fetch32(&body[begin..after], 0) == name {
+            return place;
         }
         k += 1;
     }
@@ -198,37 +158,36 @@ fn head_at(body: &[u8], place: u32) -> MomentHead
 {
     let begin = place as usize;
     let end = begin + MOMENT_HEAD;
-    head_of(&body[begin..end], place)
+    radial_check::head_of(&body[begin..end], place)
 }
 
 // The moments' heads of an accepted radial.
-fn all_heads(body: &[u8], count: usize) -> [MomentHead; ROOM]
+fn all_heads(body: &[u8], count: u32) -> [MomentHead; ROOM]
     requires { ⌜ (radialOf (now body) ≡ given (description (now body))) × (count ≡ countIn (now body) - constants) × (count ≤ mostMoments) ⌝ }
-    ensures { λ r. ⌜ r ≡ headsOf (momentsAt (now (body .entry)) 44 count) ⌝ }
+    ensures { λ r. ⌜ r ≡ headsOf (momentsAt (now (body .entry)) momentPointer count) ⌝ }
 {
     let none = no_head();
     let mut heads = [none; ROOM];
     let mut i = 0;
     while i < count {
-        let place = place_at(body, 44 + 4 * i) as u32;
-        let head = head_at(body, place);
-        heads[i] = head;
+        let head = head_at(body, wire::fetch32(body, MOMENT_POINTER + 4 * i));
+        heads[i as usize] = head;
         i += 1;
     }
     heads
 }
 
 // Where the constant block of an accepted radial lies, by its pointer.
-fn span_of(body: &[u8], at: usize) -> Span
-    requires { ⌜ (at + 4 ≤ length (now body)) × (pointer (now body) at + 6 ≤ length (now body)) ⌝ }
+fn span_of(body: &[u8], at: u32) -> Span
+    requires { ⌜ (at + 4 ≤ length (now body)) × (pointer (now body) at + constantHead ≤ length (now body)) ⌝ }
     ensures { λ r. ⌜ r ≡ spanAt (now (body .entry)) at ⌝ }
 {
-    let place = place_at(body, at);
-    let begin = place + 4;
-    let end = place + 6;
+    let place = wire::fetch32(body, at);
+    let begin = place as usize;
+    let end = begin + CONSTANT_HEAD;
     Span {
-        place: place as u32,
-        length: wire::fetch16(&body[begin..end], 0),
+        place: place,
+        length: wire::fetch16(&body[begin..end], LENGTH_PLACE),
     }
 }
 
@@ -241,10 +200,10 @@ pub fn read_radial(body: &[u8]) -> Radial
         return refuse(read.refusal);
     }
     let header = read.header;
-    let volume = span_of(body, 32);
-    let elevation = span_of(body, 36);
-    let radial = span_of(body, 40);
-    let heads = all_heads(body, (read.count - CONSTANTS) as usize);
+    let volume = span_of(body, VOLUME_POINTER);
+    let elevation = span_of(body, ELEVATION_POINTER);
+    let radial = span_of(body, RADIAL_POINTER);
+    let heads = all_heads(body, (read.count - CONSTANTS) as u32);
     Radial {
         refusal: 0,
         count: read.count,
@@ -257,14 +216,14 @@ pub fn read_radial(body: &[u8]) -> Radial
 }
 
 // Where the moment with a name begins; "21 moment asked for doesn't exist".
-fn place(body: &[u8], name: u32) -> PlaceAnswer
-    ensures { λ r. ⌜ tellPlace r ≡ placeShown (momentOf (now (body .entry)) name) ⌝ }
+fn place(body: &[u8], name: Name) -> PlaceAnswer
+    ensures { λ r. ⌜ tellPlace r ≡ placeShown (momentOf (now (body .entry)) (num 4 name 0)) ⌝ }
 {
     let number = radial_check::check_radial(body);
     if number != 0 {
         return PlaceAnswer::Refused(number);
     }
-    let begin = moment_place(body, name);
+    let begin = moment_place(body, wire::fetch32(&name, 0));
     if begin == 0 {
         return PlaceAnswer::Refused(refusal::ASKED_FOR);
     }
@@ -275,24 +234,23 @@ fn place(body: &[u8], name: u32) -> PlaceAnswer
 pub fn moment(body: &[u8], name: Name) -> MomentAnswer
     ensures { λ r. ⌜ tellMoment r ≡ headShown (momentOf (now (body .entry)) (num 4 name 0)) ⌝ }
 {
-    let wanted = wire::fetch32(&name, 0);
-    match place(body, wanted) {
+    match place(body, name) {
         PlaceAnswer::Refused(number) => MomentAnswer::Refused(number),
         PlaceAnswer::At(begin) => MomentAnswer::Moment(head_at(body, begin)),
     }
 }
 
-// The code of a gate: the word of the block at `place` that the gate's number counts to.
+// The code of a gate: word `gate` after the head of the moment at `place`.
 fn code_in(body: &[u8], place: usize, word: u8, gate: usize) -> u16
     requires { ⌜ WordThere (now body) place word gate ⌝ }
     ensures { λ r. ⌜ r ≡ codeIn (now (body .entry)) place word gate ⌝ }
 {
     if word == WIDE_WORD {
-        let at = place + (28 + gate * 2);
+        let at = place + (MOMENT_HEAD + gate * 2);
         let end = at + 2;
         return wire::fetch16(&body[at..end], 0);
     }
-    let at = place + (28 + gate);
+    let at = place + (MOMENT_HEAD + gate);
     let end = at + 1;
     wire::fetch8(&body[at..end], 0) as u16
 }
@@ -311,12 +269,11 @@ fn coded_by(body: &[u8], head: MomentHead, gate: usize) -> CodeAnswer
     })
 }
 
-// A gate, counted from 0, of the moment with a name: its code, and the head that it is to be read by.
+// The code of a gate (counted from 0) of the moment with a name, and the moment's head.
 pub fn code(body: &[u8], name: Name, gate: usize) -> CodeAnswer
     ensures { λ r. ⌜ tellCoded r ≡ codeShown (codedOf (now (body .entry)) (num 4 name 0) gate) ⌝ }
 {
-    let wanted = wire::fetch32(&name, 0);
-    match place(body, wanted) {
+    match place(body, name) {
         PlaceAnswer::Refused(number) => CodeAnswer::Refused(number),
         PlaceAnswer::At(begin) => coded_by(body, head_at(body, begin), gate),
     }
@@ -324,16 +281,14 @@ pub fn code(body: &[u8], name: Name, gate: usize) -> CodeAnswer
 
 // One of the three constant blocks of an accepted radial, by its pointer.
 fn constant(body: &[u8], name: &[u8], at: u32) -> BlockAnswer
-    requires { ⌜ (at + 4 ≤ length (now body)) × (pointer (now body) at + 6 ≤ length (now body)) ⌝ }
+    requires { ⌜ (at + 4 ≤ length (now body)) × (pointer (now body) at + constantHead ≤ length (now body)) ⌝ }
     ensures { λ r. ⌜ tellBlock r ≡ given (some (constantTold (fetched 4 (now (name .entry)) 0) (spanAt (now (body .entry)) at))) ⌝ }
 {
-    let place = wire::fetch32(body, at);
-    let begin = place as usize + 4;
-    let end = place as usize + 6;
+    let span = span_of(body, at);
     BlockAnswer::Constant(Lying {
         name: wire::fetch32(name, 0),
-        place: place,
-        size: wire::fetch16(&body[begin..end], 0) as u32,
+        place: span.place,
+        size: span.length as u32,
     })
 }
 
@@ -345,7 +300,15 @@ pub fn block(body: &[u8], k: u32) -> BlockAnswer
     if number != 0 {
         return BlockAnswer::Refused(number);
     }
-    let count = wire::fetch16(body, 30) as u32;
+    block_in(body, k)
+}
+
+// The same for a radial that was accepted.
+fn block_in(body: &[u8], k: u32) -> BlockAnswer
+    requires { ⌜ radialOf (now body) ≡ given (description (now body)) ⌝ }
+    ensures { λ r. ⌜ tellBlock r ≡ blockShown (blockOf (now (body .entry)) k) ⌝ }
+{
+    let count = wire::fetch16(body, COUNT_PLACE) as u32;
     if count < k {
         return BlockAnswer::NoSuch;
     }
@@ -353,15 +316,15 @@ pub fn block(body: &[u8], k: u32) -> BlockAnswer
         return BlockAnswer::NoSuch;
     }
     if k == 1 {
-        return constant(body, b"RVOL", 32);
+        return constant(body, b"RVOL", VOLUME_POINTER);
     }
     if k == 2 {
-        return constant(body, b"RELV", 36);
+        return constant(body, b"RELV", ELEVATION_POINTER);
     }
     if k == 3 {
-        return constant(body, b"RRAD", 40);
+        return constant(body, b"RRAD", RADIAL_POINTER);
     }
-    let place = wire::fetch32(body, 28 + 4 * k);
+    let place = wire::fetch32(body, FIRST_POINTER + 4 * (k - 1));
     moment_block(head_at(body, place))
 }
 

@@ -1,19 +1,23 @@
 -- Names by their bits: which name is permitted, and which came before. Assumes nothing.
-use Prim.Native.Nat.{ℕ, zero, suc, _+_, _*_, _/_, _%_, _^_, _<_, min, max}
+use Prim.Native.Nat.{ℕ, zero, suc, _+_, _*_, _/_, _%_, _^_, _≤_, _<_, min, max}
 use native.Mathlib.Nat.{add-zero, zero-mul, one-mul, mul-assoc, pow-suc, div-one, min-zero}
+use native.Mathlib.Numerals.{add-one}
 use native.Mathlib.Omega.{arith}
 use mathlib.Core.Path.{_≡_, refl, sym, ap, _∙_}
 use mathlib.Core.Bool.{Bool, true, false, not}
 use mathlib.Core.List.{List, [], _∷_, _++_}
 use lib.Bits.{bitAnd, bitOr, and-step, or-step, or-shr, and-zero-l, and-zero-r, shifted-half, shifted-even}
-use lib.Dec.{eqb}
+use lib.Dec.{eqb, ltb}
+use lib.ListN.{length, getD, drop, drop-of-length-le}
+use lib.Seq.{drop-cons}
 use lib.Pow.{pow-pos, shr-shr}
-use borrow.Author.Tests.{eqb-true, eq-eqb, ne-eqb}
+use borrow.Author.Tests.{eqb-true, eq-eqb, ne-eqb, ltb-true}
+use Rattle.wire.specs.Numbers.{fetched}
 use Rattle.wire.specs.Checks.{pick, either, both, among}
 use Rattle.wire.proofs.CheckLaws.{either-false, both-true, never}
-use Rattle.wire.proofs.FiniteLaws.{same, same-is}
+use Rattle.wire.proofs.FiniteLaws.{allBelow, below, same, same-is}
 use Rattle.radial_spec.specs.Description.{permitted}
-use Rattle.radial_check.specs.Steps.{bitOf, marked}
+use Rattle.radial_check.specs.Steps.{bitFrom, bitOf, marked}
 
 -- ---- a rule for every number of a list, by one test that is computed
 abbrev allOf : (ℕ → Bool) → List ℕ → Bool
@@ -29,18 +33,60 @@ among-all f (y ∷ ys) e x h = go (eqb x y) refl h (λ q. among-all f ys (both-t
     go false p q later = later q
 
 -- ---- a name is permitted where it has a bit
-chain : (a b c d e f : Bool)
-    → not (eqb (pick a 1 (pick b 2 (pick c 4 (pick d 8 (pick e 16 (pick f 32 0)))))) 0) ≡ either a (either b (either c (either d (either e (either f false)))))
-chain true b c d e f = refl
-chain false true c d e f = refl
-chain false false true d e f = refl
-chain false false false true e f = refl
-chain false false false false true f = refl
-chain false false false false false true = refl
-chain false false false false false false = refl
+above-0 : (k : ℕ) → eqb (2 ^ k) 0 ≡ false
+above-0 k = ne-eqb (2 ^ k) 0 (λ e. let z = pow-pos k in omega (arith, z, e))
+
+listed-bit : (k : ℕ) (ns : List ℕ) (n : ℕ) → not (eqb (bitFrom k ns n) 0) ≡ among n ns
+listed-bit k [] n = refl
+listed-bit k (x ∷ ns) n = go (eqb n x) (listed-bit (suc k) ns n)
+  where
+    go : (t : Bool) → not (eqb (bitFrom (suc k) ns n) 0) ≡ among n ns
+        → not (eqb (pick t (2 ^ k) (bitFrom (suc k) ns n)) 0) ≡ either t (among n ns)
+    go true h = ap not (above-0 k)
+    go false h = h
 
 pub permitted-bit : (n : ℕ) → not (eqb (bitOf n) 0) ≡ among n permitted
-permitted-bit n = chain (eqb n 0x44524546) (eqb n 0x4456454C) (eqb n 0x44535720) (eqb n 0x445A4452) (eqb n 0x44504849) (eqb n 0x4452484F)
+unfolding bitOf
+permitted-bit n = listed-bit 0 permitted n
+
+-- ---- the names in turn: those that are left give the bit that all give
+module _ (ns : List ℕ) (i n : ℕ) (more : i < length ns) where
+  this-name : bitFrom i (drop i ns) n ≡ pick (eqb n (getD ns i 0)) (2 ^ i) (bitFrom (i + 1) (drop (i + 1) ns) n)
+  this-name =
+      ap (λ (l : List ℕ). bitFrom i l n) (drop-cons ns i 0 more)
+      ∙ ap (λ (k : ℕ). pick (eqb n (getD ns i 0)) (2 ^ i) (bitFrom k (drop k ns) n)) (sym (add-one i))
+
+-- the walk stands at name i of the code's table, which is the rule's list: by one test that is computed
+pub record Seeking (table : List (List ℕ)) (n bit i : ℕ) : Type 0 where
+  pub rows : allBelow (λ (k : ℕ). eqb (fetched 4 (getD table k []) 0) (getD permitted k 0)) (length permitted) ≡ true
+  pub below : i ≤ length permitted
+  pub power : bit ≡ 2 ^ i
+  pub same : bitFrom i (drop i permitted) n ≡ bitOf n
+
+module _ (table : List (List ℕ)) (n bit i : ℕ) (s : Seeking table n bit i) where
+  module _ (r : ℕ) (more : i < length permitted) (e : r ≡ fetched 4 (getD table i []) 0) where
+    row-name : r ≡ getD permitted i 0
+    row-name =
+        let right : ℕ → Bool = λ k. eqb (fetched 4 (getD table k []) 0) (getD permitted k 0) in
+        e ∙ eqb-true (fetched 4 (getD table i []) 0) (getD permitted i 0) (below right (length permitted) (s .rows) i more)
+
+    pub seek-found : r ≡ n → bit ≡ bitOf n
+    seek-found q = s .power ∙ sym (this-name permitted i n more ∙ simp (eq-eqb n (getD permitted i 0) (sym q ∙ row-name))) ∙ s .same
+
+    pub seek-on : (r ≡ n → ⊥) → Seeking table n (bit * 2) (i + 1)
+    seek-on ne = record {
+      rows = s .rows;
+      below = omega arith;
+      power = ap (λ (k : ℕ). k * 2) (s .power) ∙ sym (ap (λ (k : ℕ). 2 ^ k) (add-one i) ∙ pow-suc 2 i);
+      same = sym (this-name permitted i n more ∙ simp (ne-eqb n (getD permitted i 0) (λ q. ne (row-name ∙ sym q)))) ∙ s .same;
+    }
+
+  pub seek-fits : i < length permitted → bit * 2 < 2 ^ 32
+  seek-fits more =
+      rw (s .power) (ltb-true (2 ^ i * 2) (2 ^ 32) (below (λ (k : ℕ). ltb (2 ^ k * 2) (2 ^ 32)) (length permitted) refl i more))
+
+  pub seek-ends : length permitted ≤ i → 0 ≡ bitOf n
+  seek-ends h = sym (ap (λ (l : List ℕ). bitFrom i l n) (drop-of-length-le permitted h)) ∙ s .same
 
 -- ---- digits
 small : (i j n : ℕ) → i < 2 → j < 2 → eqb ((n * 2 + max i j) % 2) 1 ≡ either (eqb i 1) (eqb j 1)
@@ -59,20 +105,25 @@ digit-at : (u v k : ℕ) → eqb (bitOr u v / 2 ^ k % 2) 1 ≡ either (eqb (u / 
 digit-at u v k = ap (λ (n : ℕ). eqb (n % 2) 1) (or-shr u v k) ∙ digit (u / 2 ^ k) (v / 2 ^ k)
 
 -- ---- the bit of a permitted name is a power of two
-abbrev power : ℕ → ℕ
-power n =
-    pick (eqb n 0x44524546) 0
-    (pick (eqb n 0x4456454C) 1
-    (pick (eqb n 0x44535720) 2
-    (pick (eqb n 0x445A4452) 3
-    (pick (eqb n 0x44504849) 4
-    5))))
+abbrev powerFrom : ℕ → List ℕ → ℕ → ℕ
+powerFrom k [] n = k
+powerFrom k (x ∷ ns) n = pick (eqb n x) k (powerFrom (suc k) ns n)
 
-abbrev powered : ℕ → Bool
-powered n = eqb (bitOf n) (2 ^ power n)
+abbrev power : ℕ → ℕ
+power n = powerFrom 0 permitted n
+
+listed-power : (k : ℕ) (ns : List ℕ) (n : ℕ) → among n ns ≡ true → bitFrom k ns n ≡ 2 ^ powerFrom k ns n
+listed-power k [] n h = never (cc h)
+listed-power k (x ∷ ns) n h = go (eqb n x) h (λ q. listed-power (suc k) ns n q)
+  where
+    go : (t : Bool) → either t (among n ns) ≡ true → (among n ns ≡ true → bitFrom (suc k) ns n ≡ 2 ^ powerFrom (suc k) ns n)
+        → pick t (2 ^ k) (bitFrom (suc k) ns n) ≡ 2 ^ pick t k (powerFrom (suc k) ns n)
+    go true p later = refl
+    go false p later = later p
 
 bit-power : (n : ℕ) → among n permitted ≡ true → bitOf n ≡ 2 ^ power n
-bit-power n p = eqb-true (bitOf n) (2 ^ power n) (among-all powered permitted refl n p)
+unfolding bitOf
+bit-power n p = listed-power 0 permitted n p
 
 -- the digit that it picks out
 and-power : (u k : ℕ) → bitAnd u (2 ^ k) ≡ (u / 2 ^ k % 2) * 2 ^ k
@@ -107,7 +158,7 @@ and-power u (suc k) =
 
 set : (d k : ℕ) → d < 2 → not (eqb (d * 2 ^ k) 0) ≡ eqb d 1
 set zero k h = ap (λ (n : ℕ). not (eqb n 0)) (zero-mul (2 ^ k))
-set (suc zero) k h = ap (λ (n : ℕ). not (eqb n 0)) (one-mul (2 ^ k)) ∙ ap not (ne-eqb (2 ^ k) 0 (λ e. let z = pow-pos k in omega (arith, z, e)))
+set (suc zero) k h = ap (λ (n : ℕ). not (eqb n 0)) (one-mul (2 ^ k)) ∙ ap not (above-0 k)
 set (suc (suc d)) k h = absurd (omega arith)
 
 marked-digit : (seen y : ℕ) → among y permitted ≡ true → marked seen y ≡ eqb (seen / 2 ^ power y % 2) 1
@@ -121,6 +172,7 @@ abbrev apart : ℕ → ℕ → Bool
 apart x y = same (eqb (bitOf x / 2 ^ power y % 2) 1) (eqb y x)
 
 own-bit : (x y : ℕ) → among x permitted ≡ true → among y permitted ≡ true → eqb (bitOf x / 2 ^ power y % 2) 1 ≡ eqb y x
+unfolding bitOf
 own-bit x y p q =
     same-is (eqb (bitOf x / 2 ^ power y % 2) 1) (eqb y x)
     (among-all (apart x) permitted (among-all (λ (x : ℕ). allOf (apart x) permitted) permitted refl x p) y q)
@@ -130,7 +182,8 @@ among-snoc : (y : ℕ) (ns : List ℕ) (x : ℕ) → among y (ns ++ (x ∷ [])) 
 among-snoc y [] x = either-false (eqb y x)
 among-snoc y (n ∷ ns) x = go (eqb y n) (among-snoc y ns x)
   where
-    go : (t : Bool) → among y (ns ++ (x ∷ [])) ≡ either (among y ns) (eqb y x) → either t (among y (ns ++ (x ∷ []))) ≡ either (either t (among y ns)) (eqb y x)
+    go : (t : Bool) → among y (ns ++ (x ∷ [])) ≡ either (among y ns) (eqb y x)
+        → either t (among y (ns ++ (x ∷ []))) ≡ either (either t (among y ns)) (eqb y x)
     go true h = refl
     go false h = h
 
@@ -140,7 +193,8 @@ Marks seen names = (y : ℕ) → among y permitted ≡ true → marked seen y �
 pub marks-none : Marks 0 []
 marks-none y p = ap (λ (n : ℕ). not (eqb n 0)) (and-zero-l (bitOf y))
 
-pub marks-more : (seen : ℕ) (names : List ℕ) (x : ℕ) → Marks seen names → among x permitted ≡ true → Marks (bitOr seen (bitOf x)) (names ++ (x ∷ []))
+pub marks-more : (seen : ℕ) (names : List ℕ) (x : ℕ) → Marks seen names → among x permitted ≡ true
+    → Marks (bitOr seen (bitOf x)) (names ++ (x ∷ []))
 marks-more seen names x m p y q =
     marked-digit (bitOr seen (bitOf x)) y q
     ∙ digit-at seen (bitOf x) (power y)

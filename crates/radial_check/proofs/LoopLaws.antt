@@ -11,18 +11,19 @@ use Rattle.wire.specs.Checks.{Check, among, decide}
 use Rattle.wire.specs.Answers.{refused, given, rule}
 use Rattle.wire.proofs.CheckLaws.{all-hold}
 use Rattle.wire.proofs.AnswerLaws.{rule-given}
-use Rattle.radial_spec.specs.Description.{permitted, mostMoments}
-use Rattle.radial_spec.specs.Refusal.{pointer, part, nameIn, momentSays, momentChecks, momentsChecks}
-use Rattle.radial_check.specs.Steps.{bitOf, marked, momentStep, momentNext, momentsOf}
+use Rattle.radial_spec.specs.Description.{permitted, mostMoments, momentPointer}
+use Rattle.radial_spec.specs.Refusal.{pointer, part, nameIn, headIn, momentSays, momentChecks, momentsChecks}
+use Rattle.radial_check.specs.Steps.{keyOf, bitOf, marked, momentStep, momentNext, momentsOf}
 use Rattle.radial_check.proofs.ChainLaws.{stops, goes, given-is}
 use Rattle.radial_check.proofs.BitLaws.{Marks, marks-none, marks-more}
 
 -- a moment's checks by the marks are the rule's by the names
 by-marks : (q z from p : ℕ) (l : List ℕ) (seen : ℕ) (names : List ℕ) → Marks seen names
-    → momentStep z from p l seen ≡ rule (momentChecks q z from p l names []) (bitOf (nameIn l), p + momentSays l)
+    → momentStep z from p (keyOf (headIn l)) seen ≡ rule (momentChecks q z from p l names []) (bitOf (nameIn l), p + momentSays l)
 by-marks q z from p l seen names m = go (among (nameIn l) permitted) refl
   where
-    go : (t : Bool) → among (nameIn l) permitted ≡ t → momentStep z from p l seen ≡ rule (momentChecks q z from p l names []) (bitOf (nameIn l), p + momentSays l)
+    go : (t : Bool) → among (nameIn l) permitted ≡ t
+        → momentStep z from p (keyOf (headIn l)) seen ≡ rule (momentChecks q z from p l names []) (bitOf (nameIn l), p + momentSays l)
     go true e = simp (m (nameIn l) e)
     go false e = simp e
 
@@ -32,7 +33,7 @@ pub record Going (b : List ℕ) (z first n seen from i : ℕ) : Type 0 where
   pub small : n ≤ mostMoments
   pub names : List ℕ
   pub marks : Marks seen names
-  pub same : decide (momentsChecks z b from (44 + 4 * i) names (n - i)) (λ k. k) 0 ≡ momentsOf b z first n
+  pub same : decide (momentsChecks z b from (momentPointer + 4 * i) names (n - i)) (λ k. k) 0 ≡ momentsOf b z first n
 
 pub begins : (b : List ℕ) (z first n : ℕ) → n ≤ mostMoments → Going b z first n 0 first 0
 begins b z first n h = record {
@@ -40,12 +41,12 @@ begins b z first n h = record {
   small = h;
   names = [];
   marks = marks-none;
-  same = ap (λ (k : ℕ). decide (momentsChecks z b first 44 [] k) (λ j. j) 0) (sub-zero n);
+  same = ap (λ (k : ℕ). decide (momentsChecks z b first momentPointer [] k) (λ j. j) 0) (sub-zero n);
 }
 
 module _ (b : List ℕ) (z first n seen from i : ℕ) (g : Going b z first n seen from i) where
   abbrev q : ℕ
-  q = 44 + 4 * i
+  q = momentPointer + 4 * i
 
   abbrev p : ℕ
   p = pointer b q
@@ -95,7 +96,7 @@ module _ (b : List ℕ) (z first n seen from i : ℕ) (g : Going b z first n see
         known : among (nameIn l) permitted ≡ true
         known = not-false (among (nameIn l) permitted) (all-hold these (rule-given these met (bit, end) (sym ok) .0) .1 .1 .0)
 
-        next : 44 + 4 * (i + 1) ≡ q + 4
+        next : momentPointer + 4 * (i + 1) ≡ q + 4
         next = omega arith
 
   pub ends : n ≤ i → 0 ≡ momentsOf b z first n

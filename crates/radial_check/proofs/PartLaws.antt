@@ -1,42 +1,69 @@
 -- A block's checker is passed the block's first bytes, cut from the body. What it finds there is what the rule asks of the body.
 -- Assumes nothing.
-use Prim.Native.Nat.{ℕ, _+_, _-_, _≤_, _<_}
-use mathlib.Core.Path.{_≡_}
+use Prim.Native.Nat.{ℕ, _+_, _-_, _≤_}
+use mathlib.Core.Path.{_≡_, refl, sym, ap, _∙_}
+use mathlib.Core.Bool.{true}
 use mathlib.Core.List.{List}
+use native.Mathlib.Nat.{add-zero}
 use native.Mathlib.Omega.{arith}
-use lib.ListN.{take, drop}
-use borrow.Author.Tests.{lt-ltb, le-ltb}
-use Rattle.wire.specs.Numbers.{num}
-use Rattle.wire.specs.Answers.{refused}
-use Rattle.wire.proofs.NumberLaws.{num-take}
-use Rattle.radial_check.specs.Steps.{constantIn, constantStep, momentIn, momentStep}
+use lib.Dec.{leb}
+use lib.ListN.{length, take, drop}
+use borrow.Author.Tests.{le-ltb, leb-true}
+use Rattle.wire.specs.Numbers.{num, fetched}
+use Rattle.wire.proofs.NumberLaws.{cut-is, num-drop}
+use Rattle.radial_spec.specs.Description.{momentHead, constantHead, lengthPlace}
+use Rattle.radial_spec.specs.Refusal.{headBy, headIn, Head, pointer}
+use Rattle.radial_check.specs.Told.{fetchedHead}
+use Rattle.radial_check.specs.Steps.{keyOf, constantBy, constantStep, momentIn, momentStep}
 
--- a pointer too early, or too near the end of the radial
-pub constant-early : (q z from p : ℕ) (l : List ℕ) (name least : ℕ) → p < from → refused 18 ≡ constantStep q z from p l name least
-constant-early q z from p l name least h = simp (lt-ltb p from h)
+-- ---- the first n bytes of the block at p
+abbrev pub there : List ℕ → ℕ → ℕ → List ℕ
+there b p n = take (p + n - p) (drop p b)
 
-pub constant-late : (q z from p : ℕ) (l : List ℕ) (name least : ℕ) → from ≤ p → z < p + 6 → refused 18 ≡ constantStep q z from p l name least
-constant-late q z from p l name least h k = simp (le-ltb p from h, lt-ltb z (p + 6) k)
+-- a fetch from them gives the number there
+pub there-number : (b : List ℕ) (p n w k : ℕ) → p + n ≤ length b → k + w ≤ n → fetched w (there b p n) k ≡ num w (drop p b) k
+there-number b p n w k h l = cut-is w (p + n - p) b p k (fetched w (there b p n) k) (omega arith) (omega arith) refl ∙ sym
+    (num-drop w b p k)
 
-pub moment-early : (z from p : ℕ) (l : List ℕ) (seen : ℕ) → p < from → refused 18 ≡ momentStep z from p l seen
-moment-early z from p l seen h = simp (lt-ltb p from h)
+-- a pointer from four bytes of its own
+pub pointer-there : (b : List ℕ) (q r : ℕ) → q + 4 ≤ length b → r ≡ fetched 4 (there b q 4) 0 → pointer b q ≡ r
+pointer-there b q r h e = sym (cut-is 4 (q + 4 - q) b q 0 r (omega arith) (omega arith) e ∙ ap (pointer b) (add-zero q))
 
-pub moment-late : (z from p : ℕ) (l : List ℕ) (seen : ℕ) → from ≤ p → z < p + 28 → refused 18 ≡ momentStep z from p l seen
-moment-late z from p l seen h k = simp (le-ltb p from h, lt-ltb z (p + 28) k)
+-- two ways to read that agree within the first 28 bytes read the same head
+head-same : (f g : ℕ → ℕ → ℕ) → ((w k : ℕ) → leb (k + w) momentHead ≡ true → f w k ≡ g w k) → headBy f ≡ headBy g
+head-same f g e = λ i. record {
+  name = e 4 0 refl i;
+  reserved = e 4 4 refl i;
+  gates = e 2 8 refl i;
+  first = e 2 10 refl i;
+  interval = e 2 12 refl i;
+  overlay = e 2 14 refl i;
+  noise = e 2 16 refl i;
+  flags = e 1 18 refl i;
+  word = e 1 19 refl i;
+  scale = e 4 20 refl i;
+  offset = e 4 24 refl i;
+}
 
--- the first n bytes of the block at p
-module _ (b : List ℕ) (p n : ℕ) where
-  abbrev pub there : List ℕ
-  there = take (p + n - p) (drop p b)
+pub head-there : (b : List ℕ) (p : ℕ) → p + momentHead ≤ length b → fetchedHead (there b p momentHead) ≡ headIn (drop p b)
+head-there b p h =
+    head-same (λ w k. fetched w (there b p momentHead) k) (λ w k. num w (drop p b) k)
+    (λ w k l. there-number b p momentHead w k h (leb-true (k + w) momentHead l))
 
-  pub there-num : (w k : ℕ) → k + w ≤ n → num w there k ≡ num w (drop p b) k
-  there-num w k h = num-take w (p + n - p) (drop p b) k (omega arith)
-
+-- ---- a checker that is passed these bytes answers as the rule does
 module _ (b : List ℕ) (z from p : ℕ) (after : from ≤ p) where
-  pub constant-there : (q name least : ℕ) → p + 6 ≤ z → constantIn z p (there b p 6) name least ≡ constantStep q z from p (drop p b) name least
-  constant-there q name least h =
-      simp (le-ltb p from after, le-ltb z (p + 6) h, there-num b p 6 4 0 (omega arith), there-num b p 6 2 4 (omega arith))
+  pub constant-there : (q name least : ℕ) → p + constantHead ≤ length b → p + constantHead ≤ z
+      → constantBy z p (there b p constantHead) name least
+      ≡ constantStep q z from p (drop p b) name least
+  constant-there q name least h room =
+      simp (
+        le-ltb p from after,
+        le-ltb z (p + constantHead) room,
+        there-number b p constantHead 4 0 h (omega arith),
+        there-number b p constantHead 2 lengthPlace h (omega arith),
+      )
 
-  pub moment-there : (seen : ℕ) → p + 28 ≤ z → momentIn z p (there b p 28) seen ≡ momentStep z from p (drop p b) seen
-  moment-there seen h =
-      simp (le-ltb p from after, le-ltb z (p + 28) h, there-num b p 28 4 0 (omega arith), there-num b p 28 2 8 (omega arith), there-num b p 28 1 19 (omega arith))
+  pub moment-there : (seen : ℕ) → p + momentHead ≤ length b → p + momentHead ≤ z
+      → momentIn z p (keyOf (fetchedHead (there b p momentHead))) seen ≡ momentStep z from p (keyOf (headIn (drop p b))) seen
+  moment-there seen h room =
+      ap (λ (x : Head). momentIn z p (keyOf x) seen) (head-there b p h) ∙ simp (le-ltb p from after, le-ltb z (p + momentHead) room)

@@ -6,7 +6,7 @@ use Rattle.wire.specs.Checks.{decide}
 use Rattle.wire.specs.Answers.{Answer, refused, given, numberOf, rule}
 use Rattle.wire.proofs.CheckLaws.{all-hold, decide-map}
 use Rattle.wire.proofs.AnswerLaws.{rule-given}
-use Rattle.radial_spec.specs.Description.{Description, constants}
+use Rattle.radial_spec.specs.Description.{Description, constants, radialPointer, momentPointer, firstPlace}
 use Rattle.radial_spec.specs.Refusal.{sizeIn, countIn, description, headerChecks, constantsChecks, momentsChecks, endAt, radialOf}
 use Rattle.radial_spec.proofs.Held.{Started, start-holds}
 use Rattle.radial_check.specs.Steps.{startOf, constantsOf, momentsOf}
@@ -22,10 +22,10 @@ started b z n e =
 
 module _ (b : List ℕ) where
   abbrev moments : Answer Description
-  moments = rule (momentsChecks (sizeIn b) b (endAt b 40) 44 [] (countIn b - constants)) (description b)
+  moments = rule (momentsChecks (sizeIn b) b (endAt b radialPointer) momentPointer [] (countIn b - constants)) (description b)
 
   abbrev blocks : Answer Description
-  blocks = decide (constantsChecks b 68 []) refused moments
+  blocks = decide (constantsChecks b (firstPlace (countIn b)) []) refused moments
 
   pub no-start : (k : ℕ) → refused k ≡ startOf b → k ≡ numberOf (radialOf b)
   unfolding radialOf
@@ -36,15 +36,17 @@ module _ (b : List ℕ) where
     unfolding radialOf
     begun = goes (headerChecks b []) (sizeIn b, countIn b) (z, n) refused blocks start
 
-    pub no-constants : (k : ℕ) → refused k ≡ constantsOf b 68 → k ≡ numberOf (radialOf b)
-    no-constants k e = ap numberOf (stops (constantsChecks b 68 []) (endAt b 40) k refused moments e ∙ begun)
+    pub no-constants : (k : ℕ) → refused k ≡ constantsOf b (firstPlace (countIn b)) → k ≡ numberOf (radialOf b)
+    no-constants k e = ap numberOf (stops (constantsChecks b (firstPlace (countIn b)) [])
+        (endAt b radialPointer) k refused moments e ∙ begun)
 
-    pub the-moments : (end r : ℕ) → given end ≡ constantsOf b 68 → r ≡ momentsOf b z end (n - constants) → r ≡ numberOf (radialOf b)
+    pub the-moments : (end r : ℕ) → given end ≡ constantsOf b (firstPlace (countIn b)) → r ≡ momentsOf b z end (n - constants)
+        → r ≡ numberOf (radialOf b)
     the-moments end r three e =
         let s = started b z n start in
-        let from = given-is (constantsChecks b 68 []) (endAt b 40) end three in
-        let ks = momentsChecks (sizeIn b) b (endAt b 40) 44 [] (countIn b - constants) in
+        let from = given-is (constantsChecks b (firstPlace (countIn b)) []) (endAt b radialPointer) end three in
+        let ks = momentsChecks (sizeIn b) b (endAt b radialPointer) momentPointer [] (countIn b - constants) in
         e
         ∙ (λ i. momentsOf b (s .size i) (from i) (s .count i - constants))
         ∙ sym (decide-map numberOf ks refused (given (description b)))
-        ∙ ap numberOf (goes (constantsChecks b 68 []) (endAt b 40) end refused moments three ∙ begun)
+        ∙ ap numberOf (goes (constantsChecks b (firstPlace (countIn b)) []) (endAt b radialPointer) end refused moments three ∙ begun)

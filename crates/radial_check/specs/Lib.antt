@@ -1,2 +1,3 @@
--- What the private functions of the check promise each other.
+-- What is read of a moment's head, and what the private functions of the check promise each other.
+pub mod Told
 pub mod Steps

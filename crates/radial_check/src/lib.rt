@@ -1,38 +1,104 @@
-// The check of a radial: a body of message 31 is accepted, or refused by one number, block by block.
+// The check of a radial: a body of message 31 is accepted or refused by one number, block by block. Also reads a moment's head.
 ghost use mathlib.Core.Path.{_≡_};
-ghost use Prim.Native.Nat.{_+_, _^_, _<_, _≤_};
+ghost use Prim.Native.Nat.{_+_, _≤_};
 ghost use lib.Dec.{eqb};
 ghost use lib.ListN.{length};
 ghost use Rattle.wire.specs.Numbers.{fetched};
 ghost use Rattle.wire.specs.Checks.{among};
 ghost use Rattle.wire.specs.Answers.{numberOf};
-ghost use Rattle.radial_spec.specs.Description.{mostMoments, wordSizes, momentBytes};
-ghost use Rattle.radial_spec.specs.Refusal.{nameIn, sizeIn, pointer, radialOf};
-ghost use Rattle.radial_check.specs.Steps.{tellStart, tellFound, tellGot, bitOf, startOf, constantIn, constantAt, constantsOf, momentIn, momentNext, momentsOf};
+ghost use Rattle.radial_spec.specs.Description.{headerSize, mostMoments, wordSizes, momentBytes};
+ghost use Rattle.radial_spec.specs.Refusal.{sizeIn, radialOf};
+ghost use Rattle.radial_check.specs.Told.{fetchedHead, headTold};
+ghost use Rattle.radial_check.specs.Steps.{tellStart, tellFound, tellGot, keyOf, bitOf, startOf, constantBy, constantAt};
+ghost use Rattle.radial_check.specs.Steps.{constantsOf, momentIn, momentNext, momentsOf};
 use wire::refusal;
 
-// "The header takes bytes 0 to 67", and the first block begins there or later.
+// "The header takes bytes 0 to 67"
 pub const HEADER_SIZE: usize = 68;
 
+// "The first block begins at 68 or later"
 const FIRST_PLACE: usize = 68;
+
+// Where compression, radial length, block count and the first pointer stand in the header.
+const COMPRESSION_PLACE: u32 = 16;
+
+pub const SIZE_PLACE: u32 = 18;
+
+pub const COUNT_PLACE: u32 = 30;
+
+pub const FIRST_POINTER: u32 = 32;
+
+// The pointers of the three constant blocks, and the first of a moment.
+pub const VOLUME_POINTER: u32 = FIRST_POINTER;
+
+pub const ELEVATION_POINTER: u32 = VOLUME_POINTER + 4;
+
+pub const RADIAL_POINTER: u32 = ELEVATION_POINTER + 4;
+
+pub const MOMENT_POINTER: u32 = RADIAL_POINTER + 4;
 
 // "The count is 4 to 9": the constant blocks, and at least one moment.
 const FEWEST_BLOCKS: u16 = 4;
 
-const MOST_BLOCKS: u16 = 9;
+pub const MOST_BLOCKS: u16 = 9;
 
 pub const CONSTANTS: u16 = 3;
 
+// The bytes of a constant block's name and length, and where the length stands.
+pub const CONSTANT_HEAD: usize = 6;
+
+pub const LENGTH_PLACE: u32 = 4;
+
+// "at least 44, 12 and 20"
+const VOLUME_LEAST: u16 = 44;
+
+const ELEVATION_LEAST: u16 = 12;
+
+const RADIAL_LEAST: u16 = 20;
+
+// Bytes before a moment's gates.
+pub const MOMENT_HEAD: usize = 28;
+
 const MOST_GATES: u16 = 1840;
 
-// Bytes before the rest of a constant block, and before a moment's gates.
-const CONSTANT_HEAD: usize = 6;
+// "word size 19 (8 or 16 bits)"
+const NARROW_WORD: u8 = 8;
 
-pub const MOMENT_HEAD: usize = 28;
+pub const WIDE_WORD: u8 = 16;
+
+// The names that a moment may have.
+const NAMES: usize = 6;
+
+const PERMITTED: [[u8; 4]; NAMES] = [*b"DREF", *b"DVEL", *b"DSW ", *b"DZDR", *b"DPHI", *b"DRHO"];
+
+// A moment's first 28 bytes and its place. Scale and offset are given both as floats and as their 32 bits.
+pub struct MomentHead {
+    pub name: u32,
+    pub place: u32,
+    pub reserved: u32,
+    pub gates: u16,
+    pub first: u16,
+    pub interval: u16,
+    pub overlay: u16,
+    pub noise: u16,
+    pub flags: u8,
+    pub word: u8,
+    pub scale: f32,
+    pub offset: f32,
+    pub scale_bits: u32,
+    pub offset_bits: u32,
+}
+
+// The fields of a moment's head that are checked.
+struct Key {
+    name: u32,
+    gates: u16,
+    word: u8,
+}
 
 // The radial length and the block count.
 enum Start {
-    Checked(usize, usize),
+    Checked(usize, u16),
     Refused(u8),
 }
 
@@ -55,93 +121,51 @@ fn begin(body: &[u8]) -> Start
     if body.len() < HEADER_SIZE {
         return Start::Refused(refusal::RADIAL_SHORT);
     }
-    if wire::fetch8(body, 16) != 0 {
+    if wire::fetch8(body, COMPRESSION_PLACE) != 0 {
         return Start::Refused(refusal::COMPRESSION);
     }
-    let length = wire::fetch16(body, 18);
+    let length = wire::fetch16(body, SIZE_PLACE);
     if (length as usize) < HEADER_SIZE {
         return Start::Refused(refusal::RADIAL_LENGTH);
     }
     if body.len() < length as usize {
         return Start::Refused(refusal::RADIAL_LENGTH);
     }
-    let count = wire::fetch16(body, 30);
+    let count = wire::fetch16(body, COUNT_PLACE);
     if count < FEWEST_BLOCKS {
         return Start::Refused(refusal::BLOCK_COUNT);
     }
     if MOST_BLOCKS < count {
         return Start::Refused(refusal::BLOCK_COUNT);
     }
-    Start::Checked(length as usize, count as usize)
+    Start::Checked(length as usize, count)
 }
 
-// The first four bytes of a block against a fixed four-byte string.
-fn named(part: &[u8], name: &[u8]) -> bool
-    ensures { λ r. ⌜ r ≡ eqb (fetched 4 (now (part .entry)) 0) (fetched 4 (now (name .entry)) 0) ⌝ }
+// Checks a constant block at `place` in a radial of `size` bytes, by the block's first six bytes.
+fn constant(head: &[u8], size: usize, place: u32, name: &[u8], least: u16) -> Found
+    ensures { λ r. ⌜ tellFound r ≡ constantBy size place (now (head .entry)) (fetched 4 (now (name .entry)) 0) least ⌝ }
 {
-    wire::fetch32(part, 0) == wire::fetch32(name, 0)
-}
-
-// A bit for each name that a moment may have, 0 for any other.
-fn bit_of(part: &[u8]) -> u32
-    requires { ⌜ 4 ≤ length (now part) ⌝ }
-    ensures { λ r. ⌜ r ≡ bitOf (nameIn (now (part .entry))) ⌝ }
-{
-    if named(part, b"DREF") {
-        return 1;
-    }
-    if named(part, b"DVEL") {
-        return 2;
-    }
-    if named(part, b"DSW ") {
-        return 4;
-    }
-    if named(part, b"DZDR") {
-        return 8;
-    }
-    if named(part, b"DPHI") {
-        return 16;
-    }
-    if named(part, b"DRHO") {
-        return 32;
-    }
-    0
-}
-
-// The place that the pointer at a byte of the header says.
-fn place_at(body: &[u8], at: usize) -> usize
-    requires { ⌜ at + 4 ≤ length (now body) ⌝ }
-    ensures { λ r. ⌜ (r ≡ pointer (now (body .entry)) at) × (r < 2 ^ 32) ⌝ }
-{
-    let end = at + 4;
-    wire::fetch32(&body[at..end], 0) as usize
-}
-
-// A constant block at a place of a radial of `size` bytes, by the block's first six.
-fn constant(head: &[u8], size: usize, place: usize, name: &[u8], least: u16) -> Found
-    requires { ⌜ (6 ≤ length (now head)) × (place < 2 ^ 32) ⌝ }
-    ensures { λ r. ⌜ tellFound r ≡ constantIn size place (now (head .entry)) (fetched 4 (now (name .entry)) 0) least ⌝ }
-{
-    if !named(head, name) {
+    if wire::fetch32(head, 0) != wire::fetch32(name, 0) {
         return Found::Refused(refusal::NAME);
     }
-    let length = wire::fetch16(head, 4);
+    let length = wire::fetch16(head, LENGTH_PLACE);
     if length < least {
         return Found::Refused(refusal::BLOCK);
     }
-    let end = place + length as usize;
+    let end = place as usize + length as usize;
     if size < end {
         return Found::Refused(refusal::BLOCK);
     }
     Found::Ends(end)
 }
 
-// A pointer too early, or too near the end of the radial, is 18. After any other the block's first bytes can be cut.
-fn constant_at(body: &[u8], size: usize, from: usize, at: usize, name: &[u8], least: u16) -> Found
+// 18 for a pointer that is too early or too near the end of the radial. For any other pointer the block's first bytes are in the radial.
+fn constant_at(body: &[u8], size: usize, from: usize, at: u32, name: &[u8], least: u16) -> Found
     requires { ⌜ (size ≤ length (now body)) × (at + 4 ≤ length (now body)) ⌝ }
     ensures { λ r. ⌜ tellFound r ≡ constantAt (now (body .entry)) size from at (fetched 4 (now (name .entry)) 0) least ⌝ }
 {
-    let place = place_at(body, at);
+    let pointer = wire::fetch32(body, at);
+    let place = pointer as usize;
     if place < from {
         return Found::Refused(refusal::POINTER);
     }
@@ -149,71 +173,138 @@ fn constant_at(body: &[u8], size: usize, from: usize, at: usize, name: &[u8], le
     if size < end {
         return Found::Refused(refusal::POINTER);
     }
-    constant(&body[place..end], size, place, name, least)
+    constant(&body[place..end], size, pointer, name, least)
 }
 
 fn all_constants(body: &[u8], size: usize, first: usize) -> Found
-    requires { ⌜ (68 ≤ length (now body)) × (size ≤ length (now body)) × (size ≡ sizeIn (now body)) ⌝ }
+    requires { ⌜ (headerSize ≤ length (now body)) × (size ≤ length (now body)) × (size ≡ sizeIn (now body)) ⌝ }
     ensures { λ r. ⌜ tellFound r ≡ constantsOf (now (body .entry)) first ⌝ }
 {
-    match constant_at(body, size, first, 32, b"RVOL", 44) {
+    match constant_at(body, size, first, VOLUME_POINTER, b"RVOL", VOLUME_LEAST) {
         Found::Refused(number) => Found::Refused(number),
-        Found::Ends(from) => match constant_at(body, size, from, 36, b"RELV", 12) {
+        Found::Ends(from) => match constant_at(
+            body,
+            size,
+            from,
+            ELEVATION_POINTER,
+            b"RELV",
+            ELEVATION_LEAST,
+        ) {
             Found::Refused(number) => Found::Refused(number),
-            Found::Ends(next) => constant_at(body, size, next, 40, b"RRAD", 20),
+            Found::Ends(next) => constant_at(
+                body,
+                size,
+                next,
+                RADIAL_POINTER,
+                b"RRAD",
+                RADIAL_LEAST,
+            ),
         },
     }
 }
 
-// "word size 19 (8 or 16 bits)"
+// The bit of a name: 2 to the power of its index in PERMITTED, or 0 for a name that is not permitted.
+fn bit_of(name: u32) -> u32
+    ensures { λ r. ⌜ r ≡ bitOf name ⌝ }
+{
+    let mut bit: u32 = 1;
+    let mut i = 0;
+    while i < NAMES {
+        if wire::fetch32(&PERMITTED[i], 0) == name {
+            return bit;
+        }
+        bit = bit * 2;
+        i += 1;
+    }
+    0
+}
+
 fn sized(word: u8) -> bool
     ensures { λ r. ⌜ r ≡ among word wordSizes ⌝ }
 {
-    if word == 8 {
+    if word == NARROW_WORD {
         return true;
     }
-    word == 16
+    word == WIDE_WORD
 }
 
-// How many bytes a moment has: "Then the gates, one word each."
+// The size of a moment in bytes: "Then the gates, one word each."
 pub fn moment_size(gates: u16, word: u8) -> u32
     ensures { λ r. ⌜ r ≡ momentBytes gates word ⌝ }
 {
-    28 + gates as u32 * (word as u32 / 8)
+    MOMENT_HEAD as u32 + gates as u32 * (word as u32 / 8)
 }
 
-// A moment at a place of a radial of `size` bytes, by the moment's first 28, after moments with the bits `seen`.
-fn moment_in(head: &[u8], size: usize, place: usize, seen: u32) -> Got
-    requires { ⌜ (28 ≤ length (now head)) × (place < 2 ^ 32) ⌝ }
-    ensures { λ r. ⌜ tellGot r ≡ momentIn size place (now (head .entry)) seen ⌝ }
+// Fetches only these three fields. A whole head has other callers: the compiler would not inline it and drop the fields not used.
+fn key_of(part: &[u8]) -> Key
+    ensures { λ r. ⌜ r ≡ keyOf (fetchedHead (now (part .entry))) ⌝ }
 {
-    let bit = bit_of(head);
+    Key {
+        name: wire::fetch32(part, 0),
+        gates: wire::fetch16(part, 8),
+        word: wire::fetch8(part, 19),
+    }
+}
+
+// The head of the moment at `place`. `part` is the body from there on; fields beyond its end are 0.
+pub fn head_of(part: &[u8], place: u32) -> MomentHead
+    ensures { λ r. ⌜ r ≡ headTold place (fetchedHead (now (part .entry))) ⌝ }
+{
+    let key = key_of(part);
+    let scale = wire::fetch32(part, 20);
+    let offset = wire::fetch32(part, 24);
+    MomentHead {
+        name: key.name,
+        place: place,
+        reserved: wire::fetch32(part, 4),
+        gates: key.gates,
+        first: wire::fetch16(part, 10),
+        interval: wire::fetch16(part, 12),
+        overlay: wire::fetch16(part, 14),
+        noise: wire::fetch16(part, 16),
+        flags: wire::fetch8(part, 18),
+        word: key.word,
+        scale: wire::float_of(scale),
+        offset: wire::float_of(offset),
+        scale_bits: scale,
+        offset_bits: offset,
+    }
+}
+
+// Checks a moment at `place` in a radial of `size` bytes, by its first 28 bytes. `seen` holds the bits of the names before it.
+fn moment_in(part: &[u8], size: usize, place: u32, seen: u32) -> Got
+    ensures { λ r. ⌜ tellGot r ≡ momentIn size place (keyOf (fetchedHead (now (part .entry)))) seen ⌝ }
+{
+    let key = key_of(part);
+    let bit = bit_of(key.name);
     if bit == 0 {
         return Got::Refused(refusal::NAME);
     }
     if seen & bit != 0 {
         return Got::Refused(refusal::NAME);
     }
-    let gates = wire::fetch16(head, 8);
-    if MOST_GATES < gates {
+    if MOST_GATES < key.gates {
         return Got::Refused(refusal::BLOCK);
     }
-    let word = wire::fetch8(head, 19);
-    if !sized(word) {
+    if !sized(key.word) {
         return Got::Refused(refusal::BLOCK);
     }
-    let end = place + moment_size(gates, word) as usize;
+    let end = place as usize + moment_size(key.gates, key.word) as usize;
     if size < end {
         return Got::Refused(refusal::BLOCK);
     }
     Got::Moment(bit, end)
 }
 
-fn moment_at(body: &[u8], size: usize, from: usize, at: usize, seen: u32) -> Got
+// The fetch is from a slice of four bytes, so the compiler drops its test although it knows no bound of `at`.
+fn moment_at(body: &[u8], size: usize, from: usize, at: u32, seen: u32) -> Got
     requires { ⌜ (size ≤ length (now body)) × (at + 4 ≤ length (now body)) ⌝ }
     ensures { λ r. ⌜ tellGot r ≡ momentNext (now (body .entry)) size from at seen ⌝ }
 {
-    let place = place_at(body, at);
+    let begin = at as usize;
+    let after = begin + 4;
+    let pointer = wire::fetch32(&body[begin..after], 0);
+    let place = pointer as usize;
     if place < from {
         return Got::Refused(refusal::POINTER);
     }
@@ -221,19 +312,19 @@ fn moment_at(body: &[u8], size: usize, from: usize, at: usize, seen: u32) -> Got
     if size < end {
         return Got::Refused(refusal::POINTER);
     }
-    moment_in(&body[place..end], size, place, seen)
+    moment_in(&body[place..end], size, pointer, seen)
 }
 
-// The moments in pointer order, each at or after the end of the block before: the number that refuses one, or 0.
-fn all_moments(body: &[u8], size: usize, first: usize, count: usize) -> u8
-    requires { ⌜ (68 ≤ length (now body)) × (size ≤ length (now body)) × (count ≤ mostMoments) ⌝ }
+// Checks the moments in pointer order, each at or after the end of the block before: the number of the first refusal, or 0.
+fn all_moments(body: &[u8], size: usize, first: usize, count: u32) -> u8
+    requires { ⌜ (headerSize ≤ length (now body)) × (size ≤ length (now body)) × (count ≤ mostMoments) ⌝ }
     ensures { λ r. ⌜ r ≡ momentsOf (now (body .entry)) size first count ⌝ }
 {
     let mut seen: u32 = 0;
     let mut from = first;
     let mut i = 0;
     while i < count {
-        match moment_at(body, size, from, 44 + 4 * i, seen) {
+        match moment_at(body, size, from, MOMENT_POINTER + 4 * i, seen) {
             Got::Refused(number) => {
                 return number;
             }
@@ -255,7 +346,7 @@ pub fn check_radial(body: &[u8]) -> u8
         Start::Refused(number) => number,
         Start::Checked(size, count) => match all_constants(body, size, FIRST_PLACE) {
             Found::Refused(number) => number,
-            Found::Ends(end) => all_moments(body, size, end, count - CONSTANTS as usize),
+            Found::Ends(end) => all_moments(body, size, end, (count - CONSTANTS) as u32),
         },
     }
 }

@@ -1,5 +1,5 @@
--- What the contract of each public function says of a call, as Rattle reads it from src/ (`Learnt`): its promise, and that no two results of one call
--- meet it. A part is its memory, its place there and its bytes. Assumes nothing.
+-- What the contract of each public function says of a call, as Rattle reads it from src/ (`Learnt`): its promise, and that no two results
+-- of one call meet it. A part is its memory, its place there and its bytes. Assumes nothing.
 use Prim.Native.Nat.{ℕ}
 use mathlib.Core.Path.{_≡_, refl, sym, _∙_}
 use mathlib.Core.List.{List}
@@ -17,10 +17,15 @@ same-part body r r₂ p a b = (a .memory ∙ sym (b .memory), a .place ∙ sym (
 
 pub same-lent : (body : RefT (List ℕ)) (name : ℕ) (r r₂ : LentGates) → Lent body name r → Lent body name r₂
     → (r .number ≡ r₂ .number) × (r .gates ≡ r₂ .gates) × SamePart (r .part) (r₂ .part)
-same-lent body name r r₂ a b =
-    (a .number ∙ sym (b .number), a .gates ∙ sym (b .gates), same-part body (r .part) (r₂ .part) (partOf (gatesOf (now body) name)) (a .part) (b .part))
+same-lent body name r r₂ a b = (
+  a .number ∙ sym (b .number),
+  a .gates ∙ sym (b .gates),
+  same-part body (r .part) (r₂ .part)
+      (partOf (gatesOf (now body) name)) (a .part) (b .part),
+)
 
-pub gates-says : (κs body name r last : _) → gates.Learnt κs (body, (name, tt)) r last → LiesAt body r (partOf (gatesOf (now body) (num 4 name 0)))
+pub gates-says : (κs body name r last : _) → gates.Learnt κs (body, (name, tt)) r last
+    → LiesAt body r (partOf (gatesOf (now body) (num 4 name 0)))
 gates-says κs body name r last l = l
 
 pub gates-one : (κs body name r r₂ last last₂ : _) → gates.Learnt κs (body, (name, tt)) r last → gates.Learnt κs (body, (name, tt)) r₂ last₂

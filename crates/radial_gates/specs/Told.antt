@@ -24,7 +24,7 @@ pub record LiesAt (body r : RefT (List ℕ)) (p : Part) : Type 0 where
   pub size : length (now r) ≡ p .size
   pub bytes : now r ≡ bytesIn (now body) p
 
--- two parts that no program can tell apart: the same memory, the same place, the same bytes
+-- two parts that no program can tell apart: same memory, same place, same bytes
 abbrev pub SamePart : RefT (List ℕ) → RefT (List ℕ) → Type 0
 SamePart r₁ r₂ = (r₁ .ptr .0 ≡ r₂ .ptr .0) × (r₁ .ptr .1 ≡ r₂ .ptr .1) × (now r₁ ≡ now r₂)
 

@@ -1,5 +1,5 @@
--- What the contract of each public function says of a call, as Rattle reads it from src/ (`Learnt`): its promise, and that no two results of one call
--- meet it. Assumes nothing.
+-- What the contract of each public function says of a call, as Rattle reads it from src/ (`Learnt`): its promise, and that no two results
+-- of one call meet it. Assumes nothing.
 use denote.Ref.{now}
 use mathlib.Core.Path.{_≡_, sym, _∙_}
 use Rattle.radial_spec.specs.Refusal.{radialOf}
@@ -16,5 +16,6 @@ no-header-one κs r r₂ last last₂ l l₂ = l ∙ sym l₂
 pub read-heading-says : (κs body r last : _) → read-heading.Learnt κs (body, tt) r last → r ≡ headingShown (radialOf (now body))
 read-heading-says κs body r last l = l
 
-pub read-heading-one : (κs body r r₂ last last₂ : _) → read-heading.Learnt κs (body, tt) r last → read-heading.Learnt κs (body, tt) r₂ last₂ → r ≡ r₂
+pub read-heading-one : (κs body r r₂ last last₂ : _) → read-heading.Learnt κs (body, tt) r last
+    → read-heading.Learnt κs (body, tt) r₂ last₂ → r ≡ r₂
 read-heading-one κs body r r₂ last last₂ l l₂ = l ∙ sym l₂

@@ -5,9 +5,11 @@ ghost use lib.ListN.{length};
 ghost use Rattle.radial_spec.specs.Description.{headerSize};
 ghost use Rattle.radial_spec.specs.Refusal.{countIn, description, radialOf};
 ghost use Rattle.radial_heading.specs.Told.{headerOf, noHeader, headingShown};
+use radial_check::COUNT_PLACE;
 use radial_check::HEADER_SIZE;
+use radial_check::SIZE_PLACE;
 
-// The header's values, as stored. Angles by their 32 bits.
+// The header's values, as stored. Angles are given as their 32 bits.
 pub struct Header {
     pub station: u32,
     pub time: u32,
@@ -24,7 +26,7 @@ pub struct Header {
     pub indexing: u8,
 }
 
-// What a body's header says, where its radial is accepted: `refusal` is 0, or the number of document 01 and all else 0.
+// The header of an accepted radial and its block count. `refusal` is 0, or the number of the refusal and all else is 0.
 pub struct Heading {
     pub refusal: u8,
     pub count: u16,
@@ -69,7 +71,7 @@ fn header_in(head: &[u8]) -> Header
         date: wire::fetch16(head, 8),
         azimuth_number: wire::fetch16(head, 10),
         azimuth: wire::fetch32(head, 12),
-        size: wire::fetch16(head, 18),
+        size: wire::fetch16(head, SIZE_PLACE),
         spacing: wire::fetch8(head, 20),
         status: wire::fetch8(head, 21),
         elevation_number: wire::fetch8(head, 22),
@@ -84,7 +86,9 @@ fn count_of(body: &[u8]) -> u16
     requires { ⌜ headerSize ≤ length (now body) ⌝ }
     ensures { λ r. ⌜ r ≡ countIn (now (body .entry)) ⌝ }
 {
-    wire::fetch16(&body[30..32], 0)
+    let begin = COUNT_PLACE as usize;
+    let end = begin + 2;
+    wire::fetch16(&body[begin..end], 0)
 }
 
 // The header of an accepted radial, and its count of blocks.

@@ -16,9 +16,12 @@ use Rattle.wire.proofs.AnswerLaws.{rule-given}
 use Rattle.wire.proofs.TableLaws.{total-run}
 use Rattle.radial_spec.specs.Description.{headerSize, constants, fewestBlocks, mostBlocks, firstPlace, RVOL, RELV, RRAD, volumeLeast}
 use Rattle.radial_spec.specs.Description.{elevationLeast, radialLeast, Block, Moment, Description, blockCount}
-use Rattle.radial_spec.specs.Description.{wordBytes, blockSize, momentSize, blockFields, momentFields, momentPlaces, headerBefore, headerAfter, pointers, momentPieces, pieces}
-use Rattle.radial_spec.specs.Description.{Agrees, BlockLies, MomentsLie, Layout, blockEnd, momentEnd}
-use Rattle.radial_spec.specs.Refusal.{sizeIn, countIn, pointer, part, nameIn, blockAt, momentAt, momentsAt, description, blockSays, momentSays}
+use Rattle.radial_spec.specs.Description.{wordBytes, blockSize, momentSize, blockFields, momentFields, momentPlaces, headerBefore}
+use Rattle.radial_spec.specs.Description.{headerAfter, pointers, momentPieces, pieces}
+use Rattle.radial_spec.specs.Description.{Agrees, BlockLies, MomentsLie, Layout, blockEnd, momentEnd, sizePlace, firstPointer}
+use Rattle.radial_spec.specs.Description.{volumePointer, elevationPointer, radialPointer, momentPointer, compressionPlace}
+use Rattle.radial_spec.specs.Refusal.{sizeIn, countIn, pointer, part, nameIn, blockAt, momentAt, momentsAt, description, blockSays}
+use Rattle.radial_spec.specs.Refusal.{momentSays}
 use Rattle.radial_spec.specs.Refusal.{momentsChecks, constantChecks, endAt}
 use Rattle.radial_spec.specs.Refusal.{radialChecks, radialOf}
 use Rattle.radial_spec.specs.Theorems.{Exactly, Unique}
@@ -38,8 +41,11 @@ moments-lie b z from q seen zero h = tt
 moments-lie b z from q seen (suc n) h =
     let p = pointer b q in
     let l = part b q in
-    let r = moment-reads q z from p l seen h in
-    (moment-lies z from p l seen (r .0), rw (moment-size p l) (moments-lie b z (p + momentSays l) (q + 4) (seen ++ (nameIn l ∷ [])) n (r .1)))
+    let r = moment-reads q z from p l seen h in (
+      moment-lies z from p l seen (r .0),
+      rw (moment-size p l) (moments-lie b z (p + momentSays l) (q + 4)
+          (seen ++ (nameIn l ∷ [])) n (r .1)),
+    )
 
 moments-spelt : (b : List ℕ) (q n : ℕ) → AllSpell b (momentPieces (momentsAt b q n))
 moments-spelt b q zero = tt
@@ -66,7 +72,7 @@ moments-within n z from seen (m ∷ ms) h lie =
     (omega (arith, moment-total m, lie .0 .within), moments-within n z (momentEnd m) (seen ++ (m .name ∷ [])) ms h (lie .1))
 
 -- the used pointers end before the first place
-slots : (count : ℕ) → count ≤ mostBlocks → 32 + 4 * count ≤ firstPlace count
+slots : (count : ℕ) → count ≤ mostBlocks → firstPointer + 4 * count ≤ firstPlace count
 slots count h = omega arith
 
 pieces-within : (n : ℕ) (d : Description) → Layout n d → AllWithin n (pieces d)
@@ -74,9 +80,9 @@ pieces-within n d lay =
     let block : (name from least : ℕ) (k : Block) → BlockLies from least (d .size) k → k .place + total (blockFields name k) ≤ n =
     λ name from least k lies. omega (arith, block-total name k, lies .within, lay .most)
     in
-    let header : 32 ≤ n = omega (arith, lay .least, lay .most) in
+    let header : firstPointer ≤ n = omega (arith, lay .least, lay .most) in
     let first : firstPlace (blockCount d) ≤ n = omega (arith, lay .volume .after, lay .volume .within, lay .most) in
-    let used : 32 + total (pointers d) ≤ n = omega (arith, slots (blockCount d) (lay .few), places-total (d .moments)) in
+    let used : firstPointer + total (pointers d) ≤ n = omega (arith, slots (blockCount d) (lay .few), places-total (d .moments)) in
     let v = block RVOL _ _ (d .volumeBlock) (lay .volume) in
     let e = block RELV _ _ (d .elevationBlock) (lay .elevation) in
     let r = block RRAD _ _ (d .radialBlock) (lay .radial) in
@@ -91,21 +97,28 @@ sound b o h =
     let size-least : headerSize ≤ z = ltb-false z headerSize (h .1 .1 .0) in
     let count-least : fewestBlocks ≤ countIn b = ltb-false (countIn b) fewestBlocks (h .1 .1 .1 .1 .0) in
     let count-most : countIn b ≤ mostBlocks = ltb-false mostBlocks (countIn b) (h .1 .1 .1 .1 .1 .0) in
-    let counted : countIn b ≡ blockCount d = omega (arith, moments-length b 44 (countIn b - constants)) in
-    let v = block-reads 32 z (firstPlace (countIn b)) (pointer b 32) (part b 32) RVOL volumeLeast (h .1 .1 .1 .1 .1 .1) in
-    let e = block-reads 36 z (endAt b 32) (pointer b 36) (part b 36) RELV elevationLeast (v .1) in
-    let r = block-reads 40 z (endAt b 36) (pointer b 40) (part b 40) RRAD radialLeast (e .1) in
-    let v-size : blockSize (d .volumeBlock) ≡ blockSays (part b 32) = block-size (pointer b 32) (part b 32) (omega (arith, v .0 .enough)) in
-    let e-size : blockSize (d .elevationBlock) ≡ blockSays (part b 36) = block-size (pointer b 36) (part b 36) (omega (arith, e .0 .enough)) in
-    let r-size : blockSize (d .radialBlock) ≡ blockSays (part b 40) = block-size (pointer b 40) (part b 40) (omega (arith, r .0 .enough)) in
-    let uncompressed : num 1 b 16 ≡ 0 = eqb-true (num 1 b 16) 0 (not-false _ (h .1 .0)) in
+    let counted : countIn b ≡ blockCount d = omega (arith, moments-length b momentPointer (countIn b - constants)) in
+    let v = block-reads volumePointer z (firstPlace (countIn b)) (pointer b volumePointer)
+    (part b volumePointer) RVOL volumeLeast (h .1 .1 .1 .1 .1 .1) in
+    let e = block-reads elevationPointer z (endAt b volumePointer) (pointer b elevationPointer)
+    (part b elevationPointer) RELV elevationLeast (v .1) in
+    let r = block-reads radialPointer z (endAt b elevationPointer) (pointer b radialPointer)
+    (part b radialPointer) RRAD radialLeast (e .1) in
+    let v-size : blockSize (d .volumeBlock) ≡ blockSays (part b volumePointer) = block-size (pointer b volumePointer)
+    (part b volumePointer) (omega (arith, v .0 .enough)) in
+    let e-size : blockSize (d .elevationBlock) ≡ blockSays (part b elevationPointer) = block-size (pointer b elevationPointer)
+    (part b elevationPointer)
+    (omega (arith, e .0 .enough)) in
+    let r-size : blockSize (d .radialBlock) ≡ blockSays (part b radialPointer) = block-size (pointer b radialPointer)
+    (part b radialPointer) (omega (arith, r .0 .enough)) in
+    let uncompressed : num 1 b compressionPlace ≡ 0 = eqb-true (num 1 b compressionPlace) 0 (not-false _ (h .1 .0)) in
     let before : Spells b 0 (headerBefore d) = (refl, (refl, (refl, (refl, (refl, (uncompressed, tt)))))) in
-    let after : Spells b 18 (headerAfter d) = (refl, (refl, (refl, (refl, (refl, (refl, (refl, (refl, (counted, tt))))))))) in
-    let used : Spells b 32 (pointers d) = (refl, (refl, (refl, places-spelt b 44 (countIn b - constants)))) in
-    let v-spelt = block-spelt b z (firstPlace (countIn b)) (pointer b 32) RVOL volumeLeast (omega arith) (v .0) in
-    let e-spelt = block-spelt b z (endAt b 32) (pointer b 36) RELV elevationLeast (omega arith) (e .0) in
-    let r-spelt = block-spelt b z (endAt b 36) (pointer b 40) RRAD radialLeast (omega arith) (r .0) in
-    let m-spelt = moments-spelt b 44 (countIn b - constants) in
+    let after : Spells b sizePlace (headerAfter d) = (refl, (refl, (refl, (refl, (refl, (refl, (refl, (refl, (counted, tt))))))))) in
+    let used : Spells b firstPointer (pointers d) = (refl, (refl, (refl, places-spelt b momentPointer (countIn b - constants)))) in
+    let v-spelt = block-spelt b z (firstPlace (countIn b)) (pointer b volumePointer) RVOL volumeLeast (omega arith) (v .0) in
+    let e-spelt = block-spelt b z (endAt b volumePointer) (pointer b elevationPointer) RELV elevationLeast (omega arith) (e .0) in
+    let r-spelt = block-spelt b z (endAt b elevationPointer) (pointer b radialPointer) RRAD radialLeast (omega arith) (r .0) in
+    let m-spelt = moments-spelt b momentPointer (countIn b - constants) in
     let spelt : AllSpell b (pieces d) = (before, (after, (used, (v-spelt, (e-spelt, (r-spelt, m-spelt)))))) in
     let lay : Layout (length b) d =
     record {
@@ -117,10 +130,12 @@ sound b o h =
       volume =
           subst
           (λ (n : ℕ). BlockLies (firstPlace n) volumeLeast z (d .volumeBlock)) counted
-          (block-lies z (firstPlace (countIn b)) (pointer b 32) (part b 32) RVOL volumeLeast (omega arith) (v .0));
-      elevation = rw v-size (block-lies z (endAt b 32) (pointer b 36) (part b 36) RELV elevationLeast (omega arith) (e .0));
-      radial = rw e-size (block-lies z (endAt b 36) (pointer b 40) (part b 40) RRAD radialLeast (omega arith) (r .0));
-      momentsLie = rw r-size (moments-lie b z (endAt b 40) 44 [] (countIn b - constants) (r .1));
+          (block-lies z (firstPlace (countIn b)) (pointer b volumePointer) (part b volumePointer) RVOL volumeLeast (omega arith) (v .0));
+      elevation = rw v-size (block-lies z (endAt b volumePointer) (pointer b elevationPointer)
+          (part b elevationPointer) RELV elevationLeast (omega arith) (e .0));
+      radial = rw e-size (block-lies z (endAt b elevationPointer) (pointer b radialPointer)
+          (part b radialPointer) RRAD radialLeast (omega arith) (r .0));
+      momentsLie = rw r-size (moments-lie b z (endAt b radialPointer) momentPointer [] (countIn b - constants) (r .1));
     }
     in
     (lay, all-stand b (pieces d) o (pieces-within (length b) d lay) spelt)
@@ -157,6 +172,28 @@ module _ (b : List ℕ) (q name : ℕ) (k : Block) (e : pointer b q ≡ k .place
   constant-holds from least rest lies h =
       block-holds q (sizeIn b) from (pointer b q) (part b q) name least rest (rw e (block-read b name k s (sizeIn b) from least lies)) h
 
+-- a description with other blocks
+abbrev pub withBlocks : Description → Block → Block → Block → List Moment → Description
+withBlocks d volume elevation radial moments = record {
+  station = d .station;
+  time = d .time;
+  date = d .date;
+  azimuthNumber = d .azimuthNumber;
+  azimuth = d .azimuth;
+  size = d .size;
+  spacing = d .spacing;
+  status = d .status;
+  elevationNumber = d .elevationNumber;
+  sector = d .sector;
+  elevation = d .elevation;
+  spot = d .spot;
+  indexing = d .indexing;
+  volumeBlock = volume;
+  elevationBlock = elevation;
+  radialBlock = radial;
+  moments = moments;
+}
+
 -- ---- described: every check holds, and what is read is the description
 described : (b : List ℕ) (d : Description) → AllSpell b (pieces d) → description b ≡ d
 described b d s =
@@ -164,7 +201,8 @@ described b d s =
     let g = s .1 .0 in
     let p = s .1 .1 .0 in
     let n : countIn b - constants ≡ length (d .moments) = omega (arith, g .1 .1 .1 .1 .1 .1 .1 .1 .0) in
-    let ms : momentsAt b 44 (countIn b - constants) ≡ d .moments = rw n (moments-are b 44 (d .moments) (p .1 .1 .1) (s .1 .1 .1 .1 .1 .1)) in
+    let ms : momentsAt b momentPointer (countIn b - constants)
+    ≡ d .moments = rw n (moments-are b momentPointer (d .moments) (p .1 .1 .1) (s .1 .1 .1 .1 .1 .1)) in
     λ i. record {
       station = f .0 i;
       time = f .1 .0 i;
@@ -179,9 +217,9 @@ described b d s =
       elevation = g .1 .1 .1 .1 .1 .0 i;
       spot = g .1 .1 .1 .1 .1 .1 .0 i;
       indexing = g .1 .1 .1 .1 .1 .1 .1 .0 i;
-      volumeBlock = constant-is b 32 RVOL (d .volumeBlock) (p .0) (s .1 .1 .1 .0) i;
-      elevationBlock = constant-is b 36 RELV (d .elevationBlock) (p .1 .0) (s .1 .1 .1 .1 .0) i;
-      radialBlock = constant-is b 40 RRAD (d .radialBlock) (p .1 .1 .0) (s .1 .1 .1 .1 .1 .0) i;
+      volumeBlock = constant-is b volumePointer RVOL (d .volumeBlock) (p .0) (s .1 .1 .1 .0) i;
+      elevationBlock = constant-is b elevationPointer RELV (d .elevationBlock) (p .1 .0) (s .1 .1 .1 .1 .0) i;
+      radialBlock = constant-is b radialPointer RRAD (d .radialBlock) (p .1 .1 .0) (s .1 .1 .1 .1 .1 .0) i;
       moments = ms i;
     }
 
@@ -194,27 +232,28 @@ complete b d lay s =
     let v = s .1 .1 .1 .0 in
     let e = s .1 .1 .1 .1 .0 in
     let r = s .1 .1 .1 .1 .1 .0 in
-    let afterRadial = momentsChecks (sizeIn b) b (endAt b 40) 44 [] (countIn b - constants) in
-    let afterElevation = constantChecks b (endAt b 36) 40 RRAD radialLeast afterRadial in
-    let afterVolume = constantChecks b (endAt b 32) 36 RELV elevationLeast afterElevation in
+    let afterRadial = momentsChecks (sizeIn b) b (endAt b radialPointer) momentPointer [] (countIn b - constants) in
+    let afterElevation = constantChecks b (endAt b elevationPointer) radialPointer RRAD radialLeast afterRadial in
+    let afterVolume = constantChecks b (endAt b volumePointer) elevationPointer RELV elevationLeast afterElevation in
     let moments : AllHold afterRadial =
-    rw (n, constant-end b 40 RRAD (d .radialBlock) (p .1 .1 .0) r, size)
-    (moments-hold b (d .size) (blockEnd (d .radialBlock)) 44 [] (d .moments) (lay .momentsLie) (p .1 .1 .1) (s .1 .1 .1 .1 .1 .1))
+    rw (n, constant-end b radialPointer RRAD (d .radialBlock) (p .1 .1 .0) r, size)
+    (moments-hold b (d .size) (blockEnd (d .radialBlock)) momentPointer [] (d .moments) (lay .momentsLie) (p .1 .1 .1)
+    (s .1 .1 .1 .1 .1 .1))
     in
     let radial : AllHold afterElevation =
-    constant-holds b 40 RRAD (d .radialBlock) (p .1 .1 .0) r (endAt b 36) radialLeast afterRadial
-    (rw (constant-end b 36 RELV (d .elevationBlock) (p .1 .0) e, size) (lay .radial)) moments
+    constant-holds b radialPointer RRAD (d .radialBlock) (p .1 .1 .0) r (endAt b elevationPointer) radialLeast afterRadial
+    (rw (constant-end b elevationPointer RELV (d .elevationBlock) (p .1 .0) e, size) (lay .radial)) moments
     in
     let elevation : AllHold afterVolume =
-    constant-holds b 36 RELV (d .elevationBlock) (p .1 .0) e (endAt b 32) elevationLeast afterElevation
-    (rw (constant-end b 32 RVOL (d .volumeBlock) (p .0) v, size) (lay .elevation)) radial
+    constant-holds b elevationPointer RELV (d .elevationBlock) (p .1 .0) e (endAt b volumePointer) elevationLeast afterElevation
+    (rw (constant-end b volumePointer RVOL (d .volumeBlock) (p .0) v, size) (lay .elevation)) radial
     in
-    let volume : AllHold (constantChecks b (firstPlace (countIn b)) 32 RVOL volumeLeast afterVolume) =
-    constant-holds b 32 RVOL (d .volumeBlock) (p .0) v (firstPlace (countIn b)) volumeLeast afterVolume
+    let volume : AllHold (constantChecks b (firstPlace (countIn b)) volumePointer RVOL volumeLeast afterVolume) =
+    constant-holds b volumePointer RVOL (d .volumeBlock) (p .0) v (firstPlace (countIn b)) volumeLeast afterVolume
     (subst (λ (n : ℕ). BlockLies (firstPlace n) volumeLeast (sizeIn b) (d .volumeBlock)) (sym counted) (rw size (lay .volume))) elevation
     in
     let c14 : ltb (length b) headerSize ≡ false = le-ltb (length b) headerSize (omega (arith, lay .least, lay .most)) in
-    let c15 : not (eqb (num 1 b 16) 0) ≡ false = ap not (eq-eqb (num 1 b 16) 0 (s .0 .1 .1 .1 .1 .1 .0)) in
+    let c15 : not (eqb (num 1 b compressionPlace) 0) ≡ false = ap not (eq-eqb (num 1 b compressionPlace) 0 (s .0 .1 .1 .1 .1 .1 .0)) in
     let c16 : ltb (sizeIn b) headerSize ≡ false = le-ltb (sizeIn b) headerSize (rw size (lay .least)) in
     let c16′ : ltb (length b) (sizeIn b) ≡ false = le-ltb (length b) (sizeIn b) (rw size (lay .most)) in
     let c17 : ltb (countIn b) fewestBlocks ≡ false = le-ltb (countIn b) fewestBlocks (rw counted (lay .some)) in
@@ -226,7 +265,8 @@ pub accepted : (b : List ℕ) (d : Description) → Layout (length b) d → Agre
 unfolding radialOf
 accepted b d lay agrees =
     let s : AllSpell b (pieces d) = all-spell b (pieces d) (lay .fit) agrees in
-    decide-none (radialChecks b) refused (given (description b)) (none-broken (radialChecks b) (complete b d lay s)) ∙ ap given (described b d s)
+    decide-none (radialChecks b) refused (given (description b)) (none-broken (radialChecks b) (complete b d lay s))
+    ∙ ap given (described b d s)
 
 -- what is read, where it is accepted, fits and agrees
 pub agreed : (b : List ℕ) (d : Description) → Octets b → radialOf b ≡ given d → Layout (length b) d × Agrees b d
@@ -242,11 +282,12 @@ pub unique : Unique
 unique b d d′ h h′ = let e : given d ≡ given d′ = sym (accepted b d (h .0) (h .1)) ∙ accepted b d′ (h′ .0) (h′ .1) in cc e
 
 -- the moments of an accepted radial lie one after the other, no name twice: of any body, bytes or not
-pub moments-accepted : (b : List ℕ) (d : Description) → radialOf b ≡ given d → MomentsLie (endAt b 40) (sizeIn b) [] (d .moments)
+pub moments-accepted : (b : List ℕ) (d : Description) → radialOf b ≡ given d → MomentsLie (endAt b radialPointer) (sizeIn b) [] (d .moments)
 unfolding radialOf
 moments-accepted b d e =
     let g = rule-given (radialChecks b) (description b) d e in
     let h = all-hold (radialChecks b) (g .0) .1 .1 .1 .1 .1 .1 in
     subst
-    (λ (x : Description). MomentsLie (endAt b 40) (sizeIn b) [] (x .moments)) (g .1)
-    (moments-lie b (sizeIn b) (endAt b 40) 44 [] (countIn b - constants) (h .1 .1 .1 .1 .1 .1 .1 .1 .1 .1 .1 .1 .1 .1 .1))
+    (λ (x : Description). MomentsLie (endAt b radialPointer) (sizeIn b) [] (x .moments)) (g .1)
+    (moments-lie b (sizeIn b) (endAt b radialPointer) momentPointer [] (countIn b - constants)
+    (h .1 .1 .1 .1 .1 .1 .1 .1 .1 .1 .1 .1 .1 .1 .1))

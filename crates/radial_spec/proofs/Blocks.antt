@@ -1,5 +1,5 @@
 -- One block: its checks hold exactly if its bytes and its description lie as the layout says. Assumes nothing.
-use Prim.Native.Nat.{ℕ, _+_, _-_, _*_, _/_, _≤_}
+use Prim.Native.Nat.{ℕ, _+_, _-_, _/_, _≤_}
 use native.Mathlib.Omega.{arith}
 use mathlib.Core.Path.{_≡_, refl, sym, ap}
 use mathlib.Core.Bool.{false, not}
@@ -7,18 +7,21 @@ use mathlib.Core.List.{List, [], _∷_}
 use lib.Dec.{ltb, eqb}
 use lib.ListN.{length, drop}
 use borrow.Author.Tests.{ltb-false, eqb-true, not-false, le-ltb, eq-eqb}
-use Rattle.wire.specs.Numbers.{num, nums}
+use Rattle.wire.specs.Numbers.{nums}
 use Rattle.wire.specs.Checks.{Check, among, AllHold}
 use Rattle.wire.specs.Tables.{Spells}
 use Rattle.wire.proofs.NumberLaws.{nums-length}
 use Rattle.wire.proofs.TableLaws.{nums-spell, spell-nums}
-use Rattle.radial_spec.specs.Description.{permitted, mostGates, wordSizes, constantHead, momentHead, Block, Moment, gates, wordBytes, blockSize}
-use Rattle.radial_spec.specs.Description.{momentSize, blockFields, momentFields, Member, Absent, BlockLies, MomentLies, blockEnd, momentEnd}
-use Rattle.radial_spec.specs.Refusal.{nameIn, blockAt, momentAt, blockSays, momentSays, blockChecks, momentChecks}
+use Rattle.radial_spec.specs.Description.{permitted, mostGates, wordSizes, constantHead, momentHead, Block, Moment, gates}
+use Rattle.radial_spec.specs.Description.{wordBytes, blockSize}
+use Rattle.radial_spec.specs.Description.{momentSize, blockFields, momentFields, Member, Absent, BlockLies, MomentLies, blockEnd}
+use Rattle.radial_spec.specs.Description.{momentEnd, momentBytes}
+use Rattle.radial_spec.specs.Refusal.{nameIn, blockAt, momentAt, blockSays, momentSays, blockChecks, momentChecks, headIn}
+use Rattle.radial_spec.specs.Refusal.{storedHead, Head}
 use Rattle.radial_spec.proofs.Runs.{part-spells, part-spelt, among-member, member-among}
 use Rattle.radial_spec.proofs.Runs.{among-absent, absent-among}
 
--- each check of the list holds, and R: what the checks after them say is left open
+-- each check of the list holds, and then R
 abbrev pub HeldThen : List Check → Type 0 → Type 0
 HeldThen [] R = R
 HeldThen (k ∷ ks) R = (k .broken ≡ false) × HeldThen ks R
@@ -58,7 +61,7 @@ block-holds q z from p l name least rest r h =
 
 -- what is read of it has the length that it says
 pub block-size : (p : ℕ) (l : List ℕ) → constantHead ≤ blockSays l → blockSize (blockAt p l) ≡ blockSays l
-block-size p l h = omega (arith, nums-length 1 l 6 (blockSays l - constantHead))
+block-size p l h = omega (arith, nums-length 1 l constantHead (blockSays l - constantHead))
 
 -- read: it lies as it should, and the body spells it
 pub block-lies : (z from p : ℕ) (l : List ℕ) (name least : ℕ) → constantHead ≤ least → BlockReads z from p l name least
@@ -70,8 +73,14 @@ block-lies z from p l name least six r =
 pub block-spelt : (b : List ℕ) (z from p name least : ℕ) → constantHead ≤ least → BlockReads z from p (drop p b) name least
     → Spells b p (blockFields name (blockAt p (drop p b)))
 block-spelt b z from p name least six r =
-    part-spelt (blockFields name (blockAt p (drop p b))) b p
-    (r .named, (sym (block-size p (drop p b) (omega (arith, r .enough))), nums-spell 1 (drop p b) 6 (blockSays (drop p b) - constantHead)))
+    part-spelt (blockFields name (blockAt p (drop p b))) b p (
+      r .named,
+      (
+        sym (block-size p (drop p b) (omega (arith, r .enough))),
+        nums-spell 1 (drop p b) constantHead (blockSays
+            (drop p b) - constantHead),
+      ),
+    )
 
 -- described: what is read there is the block, and its checks hold
 module _ (b : List ℕ) (name : ℕ) (k : Block) (s : Spells b (k .place) (blockFields name k)) where
@@ -84,8 +93,8 @@ module _ (b : List ℕ) (name : ℕ) (k : Block) (s : Spells b (k .place) (block
   pub block-is : blockAt (k .place) (drop (k .place) b) ≡ k
   block-is =
       let e : blockSays (drop (k .place) b) - constantHead ≡ length (k .rest) = omega (arith, block-says) in
-      let r : nums 1 (drop (k .place) b) 6 (blockSays (drop (k .place) b) - constantHead) ≡ k .rest =
-      rw e (spell-nums 1 (drop (k .place) b) 6 (k .rest) (part-spells (blockFields name k) b (k .place) s .1 .1))
+      let r : nums 1 (drop (k .place) b) constantHead (blockSays (drop (k .place) b) - constantHead) ≡ k .rest =
+      rw e (spell-nums 1 (drop (k .place) b) constantHead (k .rest) (part-spells (blockFields name k) b (k .place) s .1 .1))
       in
       λ i. record { place = k .place; rest = r i }
 
@@ -105,8 +114,8 @@ pub record MomentReads (z from p : ℕ) (l seen : List ℕ) : Type 0 where
   pub room : p + momentHead ≤ z
   pub known : Member (nameIn l) permitted
   pub once : Absent (nameIn l) seen
-  pub few : num 2 l 8 ≤ mostGates
-  pub words : Member (num 1 l 19) wordSizes
+  pub few : headIn l .gates ≤ mostGates
+  pub words : Member (headIn l .word) wordSizes
   pub within : p + momentSays l ≤ z
 
 pub moment-reads : {R : Type 0} (q z from p : ℕ) (l seen : List ℕ) → HeldThen (momentChecks q z from p l seen []) R
@@ -118,8 +127,8 @@ moment-reads q z from p l seen h =
       room = ltb-false z (p + momentHead) (h .1 .0);
       known = among-member (nameIn l) permitted (not-false _ (h .1 .1 .0));
       once = among-absent (nameIn l) seen (h .1 .1 .1 .0);
-      few = ltb-false mostGates (num 2 l 8) (h .1 .1 .1 .1 .0);
-      words = among-member (num 1 l 19) wordSizes (not-false _ (h .1 .1 .1 .1 .1 .0));
+      few = ltb-false mostGates (headIn l .gates) (h .1 .1 .1 .1 .0);
+      words = among-member (headIn l .word) wordSizes (not-false _ (h .1 .1 .1 .1 .1 .0));
       within = ltb-false z (p + momentSays l) (h .1 .1 .1 .1 .1 .1 .0);
     }
     in
@@ -132,17 +141,32 @@ moment-holds q z from p l seen rest r h =
     let left : ltb z (p + momentHead) ≡ false = le-ltb z (p + momentHead) (r .room) in
     let unknown : not (among (nameIn l) permitted) ≡ false = ap not (member-among (nameIn l) permitted (r .known)) in
     let repeated : among (nameIn l) seen ≡ false = absent-among (nameIn l) seen (r .once) in
-    let many : ltb mostGates (num 2 l 8) ≡ false = le-ltb mostGates (num 2 l 8) (r .few) in
-    let sized : not (among (num 1 l 19) wordSizes) ≡ false = ap not (member-among (num 1 l 19) wordSizes (r .words)) in
+    let many : ltb mostGates (headIn l .gates) ≡ false = le-ltb mostGates (headIn l .gates) (r .few) in
+    let sized : not (among (headIn l .word) wordSizes) ≡ false = ap not (member-among (headIn l .word) wordSizes (r .words)) in
     let past : ltb z (p + momentSays l) ≡ false = le-ltb z (p + momentSays l) (r .within) in
     (early, (left, (unknown, (repeated, (many, (sized, (past, h)))))))
 
 -- what is read of it has as many gates as it says
-moment-gates : (p : ℕ) (l : List ℕ) → gates (momentAt p l) ≡ num 2 l 8
-moment-gates p l = nums-length (num 1 l 19 / 8) l 28 (num 2 l 8)
+moment-gates : (p : ℕ) (l : List ℕ) → gates (momentAt p l) ≡ headIn l .gates
+moment-gates p l = nums-length (headIn l .word / 8) l momentHead (headIn l .gates)
+
+pub head-is : (p : ℕ) (l : List ℕ) → storedHead (momentAt p l) ≡ headIn l
+head-is p l = λ i. record {
+  name = headIn l .name;
+  reserved = headIn l .reserved;
+  gates = moment-gates p l i;
+  first = headIn l .first;
+  interval = headIn l .interval;
+  overlay = headIn l .overlay;
+  noise = headIn l .noise;
+  flags = headIn l .flags;
+  word = headIn l .word;
+  scale = headIn l .scale;
+  offset = headIn l .offset;
+}
 
 pub moment-size : (p : ℕ) (l : List ℕ) → momentSize (momentAt p l) ≡ momentSays l
-moment-size p l = ap (λ (n : ℕ). momentHead + n * (num 1 l 19 / 8)) (moment-gates p l)
+moment-size p l = ap (λ (h : Head). momentBytes (h .gates) (h .word)) (head-is p l)
 
 -- read: it lies as it should, and the body spells it
 pub moment-lies : (z from p : ℕ) (l seen : List ℕ) → MomentReads z from p l seen → MomentLies from z seen (momentAt p l)
@@ -159,8 +183,8 @@ moment-lies z from p l seen r =
 pub moment-spelt : (b : List ℕ) (p : ℕ) → Spells b p (momentFields (momentAt p (drop p b)))
 moment-spelt b p =
     let l = drop p b in
-    let g : num 2 l 8 ≡ gates (momentAt p l) = sym (moment-gates p l) in
-    let run = nums-spell (num 1 l 19 / 8) l 28 (num 2 l 8) in
+    let g : headIn l .gates ≡ gates (momentAt p l) = sym (moment-gates p l) in
+    let run = nums-spell (headIn l .word / 8) l momentHead (headIn l .gates) in
     part-spelt (momentFields (momentAt p l)) b p
     (refl, (refl, (g, (refl, (refl, (refl, (refl, (refl, (refl, (refl, (refl, run)))))))))))
 
@@ -172,7 +196,7 @@ module _ (b : List ℕ) (m : Moment) (s : Spells b (m .place) (momentFields m)) 
   pub moment-name : nameIn (drop (m .place) b) ≡ m .name
   moment-name = moment-part .0
 
-  moment-word : num 1 (drop (m .place) b) 19 ≡ m .word
+  moment-word : headIn (drop (m .place) b) .word ≡ m .word
   moment-word = moment-part .1 .1 .1 .1 .1 .1 .1 .1 .0
 
   moment-says : momentSays (drop (m .place) b) ≡ momentSize m
@@ -185,8 +209,8 @@ module _ (b : List ℕ) (m : Moment) (s : Spells b (m .place) (momentFields m)) 
   moment-is =
       let l = drop (m .place) b in
       let f = moment-part in
-      let c : nums (num 1 l 19 / 8) l 28 (num 2 l 8) ≡ m .codes =
-      rw (moment-word, f .1 .1 .0) (spell-nums (wordBytes m) l 28 (m .codes) (f .1 .1 .1 .1 .1 .1 .1 .1 .1 .1 .1))
+      let c : nums (headIn l .word / 8) l momentHead (headIn l .gates) ≡ m .codes =
+      rw (moment-word, f .1 .1 .0) (spell-nums (wordBytes m) l momentHead (m .codes) (f .1 .1 .1 .1 .1 .1 .1 .1 .1 .1 .1))
       in
       λ i. record {
         place = m .place;

@@ -9,7 +9,7 @@ use borrow.Author.Tests.{eqb-true, eqb-false, eq-eqb, ne-eqb}
 use Rattle.wire.specs.Checks.{pick}
 use Rattle.wire.specs.Answers.{Answer, refused, given, onward}
 use Rattle.wire.proofs.CheckLaws.{never}
-use Rattle.radial_spec.specs.Description.{Absent, Moment, Description, MomentsLie, momentEnd}
+use Rattle.radial_spec.specs.Description.{Absent, Moment, Description, MomentsLie, momentEnd, radialPointer}
 use Rattle.radial_spec.specs.Refusal.{sizeIn, radialOf, endAt}
 use Rattle.radial_spec.specs.Lookups.{momentNamed, momentOf}
 use Rattle.radial_spec.specs.Theorems.{FoundByName, NoneNamed}
@@ -32,7 +32,8 @@ absent-before : (x : ℕ) (ys : List ℕ) (y : ℕ) → Absent x (ys ++ (y ∷ [
 absent-before x [] y a = (tt, a .0)
 absent-before x (z ∷ ys) y a = let r = absent-before x ys y (a .1) in ((a .0, r .0), r .1)
 
-later-absent : (from z : ℕ) (seen : List ℕ) (ms : List Moment) (m : Moment) → MomentsLie from z seen ms → List·Memᴰ m ms → Absent (m .name) seen
+later-absent : (from z : ℕ) (seen : List ℕ) (ms : List Moment) (m : Moment) → MomentsLie from z seen ms → List·Memᴰ m ms
+    → Absent (m .name) seen
 later-absent from z seen [] m lie k = absurd (List·Memᴰ·not-nil k)
 later-absent from z seen (x ∷ ms) m lie k =
     go (List·Memᴰ·cases-cons k) (λ r. later-absent (momentEnd x) z (seen ++ (x .name ∷ [])) ms m (lie .1) r)
@@ -41,13 +42,15 @@ later-absent from z seen (x ∷ ms) m lie k =
     go (inl e) later = subst (λ (y : Moment). Absent (y .name) seen) (sym e) (lie .0 .once)
     go (inr r) later = absent-before (m .name) seen (x .name) (later r) .0
 
-listed-found : (name from z : ℕ) (seen : List ℕ) (ms : List Moment) (m : Moment) → MomentsLie from z seen ms → List·Memᴰ m ms → m .name ≡ name
+listed-found : (name from z : ℕ) (seen : List ℕ) (ms : List Moment) (m : Moment) → MomentsLie from z seen ms → List·Memᴰ m ms
+    → m .name ≡ name
     → momentNamed name ms ≡ given m
 listed-found name from z seen [] m lie k e = absurd (List·Memᴰ·not-nil k)
 listed-found name from z seen (x ∷ ms) m lie k e =
     go (List·Memᴰ·cases-cons k) (λ r. listed-found name (momentEnd x) z (seen ++ (x .name ∷ [])) ms m (lie .1) r e)
   where
-    go : (m ≡ x) ⊎ List·Memᴰ m ms → (List·Memᴰ m ms → momentNamed name ms ≡ given m) → pick (eqb (x .name) name) (given x) (momentNamed name ms) ≡ given m
+    go : (m ≡ x) ⊎ List·Memᴰ m ms → (List·Memᴰ m ms → momentNamed name ms ≡ given m)
+        → pick (eqb (x .name) name) (given x) (momentNamed name ms) ≡ given m
     go (inl q) later =
         let here : x .name ≡ name = ap (λ (y : Moment). y .name) (sym q) ∙ e in
         simp (eq-eqb (x .name) name here, q)
@@ -79,7 +82,8 @@ by-moments b d name e = ap (λ (a : Answer Description). onward a (λ x. momentN
 pub found-by-name : FoundByName
 found-by-name b d name m e = (
   λ h. found-listed name (d .moments) m (sym (by-moments b d name e) ∙ h),
-  λ k. by-moments b d name e ∙ listed-found name (endAt b 40) (sizeIn b) [] (d .moments) m (moments-accepted b d e) (k .0) (k .1),
+  λ k. by-moments b d name e ∙ listed-found name (endAt b radialPointer) (sizeIn b) [] (d .moments) m (moments-accepted b d e)
+      (k .0) (k .1),
 )
 
 pub none-named : NoneNamed

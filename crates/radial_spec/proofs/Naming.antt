@@ -10,18 +10,22 @@ use lib.ListN.{length, getD, drop}
 use Rattle.wire.specs.Numbers.{num, Octets}
 use Rattle.wire.specs.Checks.{pick}
 use Rattle.wire.specs.Tables.{field, render, Spells}
-use Rattle.wire.specs.Answers.{Answer, refused, given, onward}
+use Rattle.wire.specs.Answers.{given}
 use Rattle.wire.proofs.CheckLaws.{never}
 use Rattle.wire.proofs.ListLaws.{same-bytes}
 use Rattle.wire.proofs.TableLaws.{render-length, spelt, nums-spell, total-run}
 use Rattle.wire.proofs.AnswerLaws.{rule-given}
 use Rattle.wire.proofs.NumberLaws.{nums-length, nums-at}
-use Rattle.radial_spec.specs.Description.{headerSize, constants, RVOL, RELV, RRAD, momentHead, mostGates, wordSizes, Member, Piece, Moment, Description, blockCount, gates}
-use Rattle.radial_spec.specs.Description.{wordBytes, gateBytes, momentSize, momentPieces, pieces, InPieces, Named, AllStand, Layout, MomentsLie, blockEnd, momentEnd}
+use Rattle.radial_spec.specs.Description.{headerSize, constants, RVOL, RELV, RRAD, momentHead, mostGates, wordSizes, Member, Piece}
+use Rattle.radial_spec.specs.Description.{Moment, Description, blockCount, gates}
+use Rattle.radial_spec.specs.Description.{wordBytes, gateBytes, momentSize, momentPieces, pieces, InPieces, Named, AllStand}
+use Rattle.radial_spec.specs.Description.{Layout, MomentsLie, blockEnd, momentEnd, firstPointer, momentPointer}
 use Rattle.radial_spec.specs.Refusal.{sizeIn, pointer, part, momentAt, momentsAt, countIn, description, radialChecks, radialOf}
+use Rattle.radial_spec.specs.Refusal.{headIn}
 use Rattle.radial_spec.specs.Lookups.{momentNamed, momentOf, codedOf, Lying, momentLying, blocks, noSuch, lies, blockOf, gatesIn}
 use Rattle.radial_spec.specs.Lookups.{gatesOf}
 use Rattle.radial_spec.specs.Theorems.{InBlocks, Listed, NamedExactly, UnnamedPlaces, Unnamed, CodeAt, GateWords}
+use Rattle.wire.proofs.OnwardLaws.{onward-given}
 use Rattle.radial_spec.proofs.Runs.{part-spelt-from}
 use Rattle.radial_spec.proofs.Accepted.{block-total, moment-total, places-total, accepted, agreed}
 
@@ -65,7 +69,8 @@ named-exactly d i = (λ h. named-listed d i h, λ h. listed-named d i h)
 
 -- ---- the bytes that are not
 -- the moments lie after what ends at `from`, within the radial length
-in-lying : (from z : ℕ) (seen : List ℕ) (ms : List Moment) (i : ℕ) → MomentsLie from z seen ms → InBlocks (map momentLying ms) i → (from ≤ i) × (i < z)
+in-lying : (from z : ℕ) (seen : List ℕ) (ms : List Moment) (i : ℕ) → MomentsLie from z seen ms → InBlocks (map momentLying ms) i
+    → (from ≤ i) × (i < z)
 in-lying from z seen [] i lie h = absurd h
 in-lying from z seen (m ∷ ms) i lie (inl h) = (omega (arith, lie .0 .after, h .0), omega (arith, lie .0 .within, h .1))
 in-lying from z seen (m ∷ ms) i lie (inr h) =
@@ -99,7 +104,7 @@ unnamed-places b d o e = record {
     spare (inr (inl h)) = omega (arith, h .0)
     spare (inr (inr h)) = let r = in-layout (length b) d 17 lay h in omega (arith, r .0)
 
-    slots : (i : ℕ) → 32 + 4 * blockCount d ≤ i → i < headerSize → Listed d i → ⊥
+    slots : (i : ℕ) → firstPointer + 4 * blockCount d ≤ i → i < headerSize → Listed d i → ⊥
     slots i lo hi (inl h) = omega (arith, lo, h .0)
     slots i lo hi (inr (inl h)) = omega (arith, lo, h .1)
     slots i lo hi (inr (inr h)) = let r = in-layout (length b) d i lay h in omega (arith, hi, r .0)
@@ -119,22 +124,15 @@ stand-same : (b b′ : List ℕ) (xs : List Piece) → length b′ ≡ length b 
     → AllStand b′ xs
 stand-same b b′ [] e f s = tt
 stand-same b b′ (x ∷ xs) e f s = (
-  same-bytes b b′ (x .place) (length (render (x .fields))) e (λ i lo hi. f i (inl (lo, omega (arith, hi, render-length (x .fields))))) ∙ s .0,
+  same-bytes b b′ (x .place) (length (render (x .fields))) e
+      (λ i lo hi. f i (inl (lo, omega (arith, hi, render-length (x .fields))))) ∙ s .0,
   stand-same b b′ xs e (λ i h. f i (inr h)) (s .1),
 )
 
 -- ---- what a lookup found
-record Went {A B : Type 0} (a : Answer A) (f : A → Answer B) (w : B) : Type 0 where
-  value : A
-  was : a ≡ given value
-  gave : f value ≡ given w
-
-onward-given : {A B : Type 0} (a : Answer A) (f : A → Answer B) (w : B) → onward a f ≡ given w → Went a f w
-onward-given (refused n) f w e = never (cc e)
-onward-given (given v) f w e = record { value = v; was = refl; gave = e }
-
 -- a moment that is found is one of the moments
-found-named : (name : ℕ) (ms : List Moment) (m : Moment) → momentNamed name ms ≡ given m → (i : ℕ) → m .place ≤ i → i < m .place + momentSize m
+found-named : (name : ℕ) (ms : List Moment) (m : Moment) → momentNamed name ms ≡ given m → (i : ℕ) → m .place ≤ i
+    → i < m .place + momentSize m
     → InPieces (momentPieces ms) i
 found-named name [] m e i lo hi = never (cc e)
 found-named name (x ∷ ms) m e i lo hi = go (eqb (x .name) name) e (λ k. found-named name ms m k i lo hi)
@@ -145,12 +143,14 @@ found-named name (x ∷ ms) m e i lo hi = go (eqb (x .name) name) e (λ k. found
     go false k later = inr (later k)
 
 -- a block that is found is one of the blocks
-found-block : (ks : List Lying) (k : ℕ) (l : Lying) → getD (map lies ks) k noSuch ≡ lies l → (i : ℕ) → l .place ≤ i → i < l .place + l .size → InBlocks ks i
+found-block : (ks : List Lying) (k : ℕ) (l : Lying) → getD (map lies ks) k noSuch ≡ lies l → (i : ℕ) → l .place ≤ i
+    → i < l .place + l .size → InBlocks ks i
 found-block [] k l e i lo hi = never (cc e)
 found-block (x ∷ ks) zero l e i lo hi = let q : x ≡ l = cc e in inl (rw q (lo, hi))
 found-block (x ∷ ks) (suc k) l e i lo hi = inr (found-block ks k l e i lo hi)
 
-block-listed : (d : Description) (k : ℕ) (l : Lying) → getD (noSuch ∷ map lies (blocks d)) k noSuch ≡ lies l → (i : ℕ) → l .place ≤ i → i < l .place + l .size
+block-listed : (d : Description) (k : ℕ) (l : Lying) → getD (noSuch ∷ map lies (blocks d)) k noSuch ≡ lies l → (i : ℕ)
+    → l .place ≤ i → i < l .place + l .size
     → Named d i
 block-listed d zero l e i lo hi = never (cc e)
 block-listed d (suc k) l e i lo hi = listed-named d i (inr (inr (found-block (blocks d) k l e i lo hi)))
@@ -175,7 +175,9 @@ unnamed b b′ d o e given-d same =
           let q : gatesIn (g .value) ≡ p = cc (g .gave) in
           rw (← q)
           (same-bytes b b′ (g .value .place + momentHead) (gateBytes (g .value)) e
-          (λ i lo hi. same i (inr (inr (inr (inr (inr (inr (found-named name (d .moments) (g .value) (rw x at (r .gave)) i (omega arith) (omega arith))))))))));
+          (λ i lo hi. same i
+          (inr (inr
+          (inr (inr (inr (inr (found-named name (d .moments) (g .value) (rw x at (r .gave)) i (omega arith) (omega arith))))))))));
       code = λ name gate. rw again refl;
       whole = λ k l h.
           let r = onward-given (radialOf b) (λ x. given (getD (noSuch ∷ map lies (blocks x)) k noSuch)) (lies l) h in
@@ -200,12 +202,18 @@ found-read b name q (suc n) m e = go (eqb (momentAt (pointer b q) (part b q) .na
 
 -- code i of what is read at p
 read-code : (p : ℕ) (l : List ℕ) (i : ℕ) → i < gates (momentAt p l)
-    → getD (momentAt p l .codes) i 0 ≡ num (wordBytes (momentAt p l)) l (28 + i * wordBytes (momentAt p l))
+    → getD (momentAt p l .codes) i 0 ≡ num (wordBytes (momentAt p l)) l (momentHead + i * wordBytes (momentAt p l))
 read-code p l i h =
-    nums-at (num 1 l 19 / 8) l 28 (num 2 l 8) i (omega (arith, h, nums-length (num 1 l 19 / 8) l 28 (num 2 l 8)))
+    nums-at (headIn l .word / 8) l momentHead (headIn l .gates) i (omega (
+      arith,
+      h,
+      nums-length
+          (headIn l .word / 8) l momentHead (headIn l .gates),
+    ))
 
 -- a moment that a radial answers with, by the moments that are read
-moment-of : (b : List ℕ) (name : ℕ) (m : Moment) → momentOf b name ≡ given m → (radialOf b ≡ given (description b)) × (momentNamed name (description b .moments) ≡ given m)
+moment-of : (b : List ℕ) (name : ℕ) (m : Moment) → momentOf b name ≡ given m
+    → (radialOf b ≡ given (description b)) × (momentNamed name (description b .moments) ≡ given m)
 unfolding momentOf radialOf
 moment-of b name m e =
     let r = onward-given (radialOf b) (λ x. momentNamed name (x .moments)) m e in
@@ -215,14 +223,14 @@ moment-of b name m e =
 -- it is what is read at its place
 pub found-at : (b : List ℕ) (name : ℕ) (m : Moment) → momentOf b name ≡ given m → momentAt (m .place) (drop (m .place) b) ≡ m
 found-at b name m e =
-    let w = found-read b name 44 (countIn b - constants) m (moment-of b name m e .1) in
+    let w = found-read b name momentPointer (countIn b - constants) m (moment-of b name m e .1) in
     subst (λ (x : Moment). momentAt (x .place) (drop (x .place) b) ≡ x) (w .reads) refl
 
 pub code-at : CodeAt
 code-at b name m i e h =
-    let w = found-read b name 44 (countIn b - constants) m (moment-of b name m e .1) in
+    let w = found-read b name momentPointer (countIn b - constants) m (moment-of b name m e .1) in
     subst
-    (λ (x : Moment). i < gates x → getD (x .codes) i 0 ≡ num (wordBytes x) (drop (x .place) b) (28 + i * wordBytes x)) (w .reads)
+    (λ (x : Moment). i < gates x → getD (x .codes) i 0 ≡ num (wordBytes x) (drop (x .place) b) (momentHead + i * wordBytes x)) (w .reads)
     (λ k. read-code (w .at) (drop (w .at) b) i k) h
 
 -- a moment that is found lies as the layout says: its gates, its word size, and its end within the radial length
@@ -251,13 +259,14 @@ gate-words b name m o e =
     let f = moment-of b name m e in
     let end = found-lies b name m o e .2 in
     let within : gatesIn m .place + gatesIn m .size ≤ length b = omega (arith, end) in
-    let w = found-read b name 44 (countIn b - constants) m (f .1) in
+    let w = found-read b name momentPointer (countIn b - constants) m (f .1) in
     let run = map (field (wordBytes m)) (m .codes) in
     let s : Spells b (m .place + momentHead) run =
     subst
     (λ (x : Moment). Spells b (x .place + momentHead) (map (field (wordBytes x)) (x .codes))) (w .reads)
-    (part-spelt-from (map (field (wordBytes (momentAt (w .at) (drop (w .at) b)))) (momentAt (w .at) (drop (w .at) b) .codes)) b (w .at) 28
-    (nums-spell (num 1 (drop (w .at) b) 19 / 8) (drop (w .at) b) 28 (num 2 (drop (w .at) b) 8)))
+    (part-spelt-from (map (field (wordBytes (momentAt (w .at) (drop (w .at) b)))) (momentAt (w .at) (drop
+    (w .at) b) .codes)) b (w .at) momentHead
+    (nums-spell (num 1 (drop (w .at) b) 19 / 8) (drop (w .at) b) momentHead (num 2 (drop (w .at) b) 8)))
     in
     let long : length (render run) ≡ gateBytes m = render-length run ∙ total-run (wordBytes m) (m .codes) in
     (within, rw (← long) (spelt run b (m .place + momentHead) o (omega (arith, total-run (wordBytes m) (m .codes))) s))

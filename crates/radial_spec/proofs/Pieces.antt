@@ -8,7 +8,7 @@ use Rattle.wire.specs.Tables.{total, Spells}
 use Rattle.wire.proofs.TableLaws.{spells, spelt, spells-fit}
 use Rattle.radial_spec.specs.Description.{Piece, AllStand, AllFit}
 
--- every piece is spelt by the body; every piece ends within n bytes
+-- the body holds the fields of every piece; every piece ends within n bytes
 abbrev pub AllSpell : List ℕ → List Piece → Type 0
 AllSpell b xs = Each (λ (x : Piece). Spells b (x .place) (x .fields)) xs
 

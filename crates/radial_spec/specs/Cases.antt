@@ -3,11 +3,11 @@ use Prim.Native.Nat.{ℕ, _-_, _*_, _/_}
 use mathlib.Core.Path.{_≡_}
 use mathlib.Core.Option.{Option, none, some}
 use mathlib.Core.List.{List, [], _∷_, _++_}
-use lib.ListN.{length, replicate}
+use lib.ListN.{length, getD, drop, replicate}
 use Rattle.wire.specs.Properties.{Each}
 use Rattle.wire.specs.Numbers.{be}
 use Rattle.wire.specs.Answers.{Answer, refused, given}
-use Rattle.radial_spec.specs.Description.{Description, RVOL, RELV, RRAD}
+use Rattle.radial_spec.specs.Description.{Description, RVOL, RELV, RRAD, constantHead, permitted}
 use Rattle.radial_spec.specs.Refusal.{radialOf}
 
 -- ---- bodies: every byte that a case leaves open is 0
@@ -27,7 +27,7 @@ abbrev pub header : ℕ → List ℕ → List ℕ
 header size ps = headed 0 size (length ps) ps
 
 abbrev pub constant : ℕ → ℕ → List ℕ
-constant name size = be 4 name ++ (be 2 size ++ zeros (size - 6))
+constant name size = be 4 name ++ (be 2 size ++ zeros (size - constantHead))
 
 -- the three constant blocks, with these lengths
 abbrev pub constantBlocks : ℕ → ℕ → ℕ → List ℕ
@@ -36,9 +36,9 @@ constantBlocks volume elevation radial = constant RVOL volume ++ (constant RELV 
 abbrev pub moment : ℕ → ℕ → ℕ → List ℕ
 moment name gates word = be 4 name ++ (zeros 4 ++ (be 2 gates ++ (zeros 9 ++ (word ∷ (zeros 8 ++ zeros (gates * (word / 8)))))))
 
--- "DREF"
+-- the first of the permitted names, "DREF"
 abbrev pub REF : ℕ
-REF = 0x44524546
+REF = getD permitted 0 0
 
 -- ---- a case: a body, and the number that refuses it, or none
 pub record Case : Type 0 where
@@ -71,9 +71,9 @@ abbrev pub momentsOf : List ℕ → List ℕ
 momentsOf [] = []
 momentsOf (n ∷ ns) = moment n 0 8 ++ momentsOf ns
 
--- "DRHO", "DPHI", "DZDR", "DSW ", "DVEL", "DREF"
-abbrev pub six : List ℕ
-six = 0x4452484F ∷ 0x44504849 ∷ 0x445A4452 ∷ 0x44535720 ∷ 0x4456454C ∷ 0x44524546 ∷ []
+-- the permitted names in another order: the first last
+abbrev pub turned : List ℕ
+turned = drop 1 permitted ++ (REF ∷ [])
 
 -- a body of 67 bytes, and of 68; compression 1; radial length 67, and above the body
 abbrev pub headerCases : List Case
@@ -91,7 +91,7 @@ abbrev pub countCases : List Case
 countCases =
     case (header 144 (68 ∷ 112 ∷ 124 ∷ []) ++ three) (some 17)
     ∷ case (headed 0 172 10 places ++ blocks) (some 17)
-    ∷ case (header 312 (places ++ (172 ∷ 200 ∷ 228 ∷ 256 ∷ 284 ∷ [])) ++ (three ++ momentsOf six)) none
+    ∷ case (header 312 (places ++ (172 ∷ 200 ∷ 228 ∷ 256 ∷ 284 ∷ [])) ++ (three ++ momentsOf turned)) none
     ∷ []
 
 -- the first block at 67, the second and the third before the end of the one before; 5 bytes left, and 6; RVOL for RELV, and a moment "DCFP"
@@ -106,7 +106,8 @@ placeCases =
     ∷ case (header 172 places ++ (three ++ moment 0x44434650 0 8)) (some 19)
     ∷ []
 
--- block lengths 43, 11 and 19, and a longer one; 1,840 gates, and 1,841; words of 12 bits; a word of 16 bits that ends past the radial length, and within
+-- block lengths 43, 11 and 19, and a longer one; 1,840 gates, and 1,841; words of 12 bits; a word of 16 bits that ends past the radial
+-- length, and within
 abbrev pub sizeCases : List Case
 sizeCases =
     case (header 171 (68 ∷ 111 ∷ 123 ∷ 143 ∷ []) ++ (constantBlocks 43 12 20 ++ moment REF 0 8)) (some 20)

@@ -22,9 +22,35 @@ fewestBlocks = 4
 abbrev pub mostBlocks : ℕ
 mostBlocks = 9
 
--- so there are at most so many moments
+-- the most moments
 abbrev pub mostMoments : ℕ
 mostMoments = mostBlocks - constants
+
+-- "compression 16", "radial length 18-19", "block count 30-31, then nine 4-byte pointers": where these stand
+abbrev pub compressionPlace : ℕ
+compressionPlace = 16
+
+abbrev pub sizePlace : ℕ
+sizePlace = 18
+
+abbrev pub countPlace : ℕ
+countPlace = 30
+
+abbrev pub firstPointer : ℕ
+firstPointer = 32
+
+-- the pointers of the three constant blocks, and the first of a moment
+abbrev pub volumePointer : ℕ
+volumePointer = firstPointer
+
+abbrev pub elevationPointer : ℕ
+elevationPointer = volumePointer + 4
+
+abbrev pub radialPointer : ℕ
+radialPointer = elevationPointer + 4
+
+abbrev pub momentPointer : ℕ
+momentPointer = firstPointer + 4 * constants
 
 -- "The first block begins at 68 or later": the first place of a radial with this count of blocks
 abbrev pub firstPlace : ℕ → ℕ
@@ -41,6 +67,9 @@ abbrev pub RRAD : ℕ
 RRAD = 0x52524144
 
 -- "Bytes 4-5 of these hold the block's length: at least 44, 12 and 20."
+abbrev pub lengthPlace : ℕ
+lengthPlace = 4
+
 abbrev pub volumeLeast : ℕ
 volumeLeast = 44
 
@@ -110,14 +139,14 @@ pub record Description : Type 0 where
   pub radialBlock : Block
   pub moments : List Moment
 
--- the block count and the gate count are those of what is described
+-- the block count and the gate count follow from what is described
 abbrev pub blockCount : Description → ℕ
 blockCount d = constants + length (d .moments)
 
 abbrev pub gates : Moment → ℕ
 gates m = length (m .codes)
 
--- how many bytes a word, the gates, a block take: "the gates, one word each"
+-- the bytes of a word, of the gates, of a block: "the gates, one word each"
 abbrev pub wordBytes : Moment → ℕ
 wordBytes m = m .word / 8
 
@@ -127,12 +156,12 @@ gateBytes m = gates m * wordBytes m
 abbrev pub blockSize : Block → ℕ
 blockSize k = constantHead + length (k .rest)
 
-abbrev pub momentSize : Moment → ℕ
-momentSize m = momentHead + gateBytes m
-
--- the same by a gate count and a word size
+-- a moment with so many gates of so many bits
 abbrev pub momentBytes : ℕ → ℕ → ℕ
 momentBytes gates word = momentHead + gates * (word / 8)
+
+abbrev pub momentSize : Moment → ℕ
+momentSize m = momentBytes (gates m) (m .word)
 
 -- ---- "The description names: header bytes 0-31 but not 17, the used pointers, and every byte of every block."
 -- a piece of the body: at a place, a table of fields
@@ -169,7 +198,7 @@ headerAfter d =
     ∷ field 2 (blockCount d)
     ∷ []
 
--- "then nine 4-byte pointers", of which those are used that the count counts
+-- "then nine 4-byte pointers": only the first `count` of them are used
 abbrev pub momentPlaces : List Moment → List Field
 momentPlaces [] = []
 momentPlaces (m ∷ ms) = field 4 (m .place) ∷ momentPlaces ms
@@ -185,8 +214,9 @@ pointers d =
 abbrev pub blockFields : ℕ → Block → List Field
 blockFields name k = field 4 name ∷ field 2 (blockSize k) ∷ map (field 1) (k .rest)
 
--- "A moment's first 28 bytes are name 0-3, reserved 4-7, gates 8-9 (0 to 1,840), first range 10-11, interval 12-13, overlay threshold 14-15,
--- noise threshold 16-17, flags 18, word size 19 (8 or 16 bits), scale 20-23, offset 24-27 (32-bit floats). Then the gates, one word each."
+-- "A moment's first 28 bytes are name 0-3, reserved 4-7, gates 8-9 (0 to 1,840), first range 10-11, interval 12-13, overlay threshold
+-- 14-15, noise threshold 16-17, flags 18, word size 19 (8 or 16 bits), scale 20-23, offset 24-27 (32-bit floats). Then the gates, one word
+-- each."
 abbrev pub momentFields : Moment → List Field
 momentFields m =
     field 4 (m .name)
@@ -210,8 +240,8 @@ momentPieces (m ∷ ms) = piece (m .place) (momentFields m) ∷ momentPieces ms
 abbrev pub pieces : Description → List Piece
 pieces d =
     piece 0 (headerBefore d)
-    ∷ piece 18 (headerAfter d)
-    ∷ piece 32 (pointers d)
+    ∷ piece sizePlace (headerAfter d)
+    ∷ piece firstPointer (pointers d)
     ∷ piece (d .volumeBlock .place) (blockFields RVOL (d .volumeBlock))
     ∷ piece (d .elevationBlock .place) (blockFields RELV (d .elevationBlock))
     ∷ piece (d .radialBlock .place) (blockFields RRAD (d .radialBlock))
@@ -238,7 +268,7 @@ Agrees b d = AllStand b (pieces d)
 abbrev pub AllFit : List Piece → Type 0
 AllFit xs = Each (λ (x : Piece). Fit (x .fields)) xs
 
--- x is one of the numbers listed; x is none of them
+-- x is one of the numbers listed; x is not one of them
 abbrev pub Member : ℕ → List ℕ → Type 0
 Member x [] = ⊥
 Member x (y ∷ ys) = (x ≡ y) ⊎ Member x ys
@@ -259,7 +289,8 @@ pub record BlockLies (from least size : ℕ) (k : Block) : Type 0 where
   pub enough : least ≤ blockSize k
   pub within : blockEnd k ≤ size
 
--- a moment that begins at `from` or later: a permitted name, none of those `seen`, its gates and word size in range, its end within the radial length
+-- a moment that begins at `from` or later: a permitted name, none of those `seen`, its gates and word size in range, its end within the
+-- radial length
 pub record MomentLies (from size : ℕ) (seen : List ℕ) (m : Moment) : Type 0 where
   pub after : from ≤ m .place
   pub known : Member (m .name) permitted
@@ -273,7 +304,8 @@ abbrev pub MomentsLie : ℕ → ℕ → List ℕ → List Moment → Type 0
 MomentsLie from size seen [] = Unit {0}
 MomentsLie from size seen (m ∷ ms) = MomentLies from size seen m × MomentsLie (momentEnd m) size (seen ++ (m .name ∷ [])) ms
 
--- a radial that may lie in a body of n bytes: "all end within the radial length, which is itself at most the body's length. Gaps may occur."
+-- a radial that may lie in a body of n bytes: "all end within the radial length, which is itself at most the body's length. Gaps may
+-- occur."
 pub record Layout (n : ℕ) (d : Description) : Type 0 where
   pub fit : AllFit (pieces d)
   pub least : headerSize ≤ d .size

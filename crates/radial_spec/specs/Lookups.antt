@@ -1,4 +1,5 @@
--- What is asked of a radial: a moment by its name, a block by its number, a moment's gates. First the radial's own number, where it is refused.
+-- The questions about a radial: a moment by its name, a block by its number, a moment's gates. A refused radial answers with its own
+-- number first.
 use Prim.Native.Nat.{ℕ, _+_}
 use mathlib.Core.Option.{Option, none, some}
 use mathlib.Core.List.{List, [], _∷_, map}
@@ -6,7 +7,8 @@ use lib.Dec.{leb, eqb}
 use lib.ListN.{getD, take, drop}
 use Rattle.wire.specs.Checks.{pick}
 use Rattle.wire.specs.Answers.{Answer, refused, given, onward}
-use Rattle.radial_spec.specs.Description.{RVOL, RELV, RRAD, momentHead, Block, Moment, Description, gates, gateBytes, blockSize, momentSize}
+use Rattle.radial_spec.specs.Description.{RVOL, RELV, RRAD, momentHead, Block, Moment, Description, gates, gateBytes, blockSize}
+use Rattle.radial_spec.specs.Description.{momentSize}
 use Rattle.radial_spec.specs.Refusal.{radialOf}
 
 -- ---- a moment by its name
@@ -52,7 +54,7 @@ blocks d =
     ∷ constantLying RRAD (d .radialBlock)
     ∷ map momentLying (d .moments)
 
--- that there is no such block is no refusal: no number covers it
+-- a block that does not exist is not a refusal, since no number covers it
 pub data Asked : Type 0 where
   noSuch : Asked
   lies : Lying → Asked

@@ -1,5 +1,5 @@
 -- The rule of refusal. "Radial: 14 to 17, then each block in pointer order 18, 19, 20." The first broken check decides.
-use Prim.Native.Nat.{ℕ, zero, suc, _+_, _-_, _*_, _/_}
+use Prim.Native.Nat.{ℕ, zero, suc, _+_, _-_, _/_}
 use mathlib.Core.Bool.{not}
 use mathlib.Core.List.{List, [], _∷_, _++_}
 use lib.Dec.{ltb, eqb}
@@ -7,16 +7,19 @@ use lib.ListN.{length, drop}
 use Rattle.wire.specs.Numbers.{num, nums}
 use Rattle.wire.specs.Checks.{Check, check, among}
 use Rattle.wire.specs.Answers.{Answer, rule}
-use Rattle.radial_spec.specs.Description.{headerSize, constants, fewestBlocks, mostBlocks, firstPlace, RVOL, RELV, RRAD, volumeLeast}
-use Rattle.radial_spec.specs.Description.{elevationLeast, radialLeast, permitted, mostGates, wordSizes, constantHead, momentHead, Block, Moment}
-use Rattle.radial_spec.specs.Description.{Description}
+use Rattle.radial_spec.specs.Description.{headerSize, constants, fewestBlocks, mostBlocks, sizePlace, countPlace, volumePointer}
+use Rattle.radial_spec.specs.Description.{elevationPointer}
+use Rattle.radial_spec.specs.Description.{radialPointer, momentPointer, firstPlace, RVOL, RELV, RRAD, volumeLeast, elevationLeast}
+use Rattle.radial_spec.specs.Description.{radialLeast}
+use Rattle.radial_spec.specs.Description.{permitted, mostGates, wordSizes, constantHead, momentHead, Block, Moment, gates}
+use Rattle.radial_spec.specs.Description.{momentBytes, Description, lengthPlace, compressionPlace}
 
 -- ---- what is read, of the body b, and of the part l of it that begins at a block's place p
 abbrev pub sizeIn : List ℕ → ℕ
-sizeIn b = num 2 b 18
+sizeIn b = num 2 b sizePlace
 
 abbrev pub countIn : List ℕ → ℕ
-countIn b = num 2 b 30
+countIn b = num 2 b countPlace
 
 -- the pointer at byte q, and the part of the body that begins where it points
 abbrev pub pointer : List ℕ → ℕ → ℕ
@@ -28,24 +31,85 @@ part b q = drop (pointer b q) b
 abbrev pub nameIn : List ℕ → ℕ
 nameIn l = num 4 l 0
 
+-- the length that a constant block states
+abbrev pub blockSays : List ℕ → ℕ
+blockSays l = num 2 l lengthPlace
+
 abbrev pub blockAt : ℕ → List ℕ → Block
-blockAt p l = record { place = p; rest = nums 1 l 6 (num 2 l 4 - constantHead) }
+blockAt p l = record { place = p; rest = nums 1 l constantHead (blockSays l - constantHead) }
+
+-- a moment's first 28 bytes
+pub record Head : Type 0 where
+  pub name : ℕ
+  pub reserved : ℕ
+  pub gates : ℕ
+  pub first : ℕ
+  pub interval : ℕ
+  pub overlay : ℕ
+  pub noise : ℕ
+  pub flags : ℕ
+  pub word : ℕ
+  pub scale : ℕ
+  pub offset : ℕ
+
+-- the fields of a head, by a function that reads so many bytes at a place
+abbrev pub headBy : (ℕ → ℕ → ℕ) → Head
+headBy read = record {
+  name = read 4 0;
+  reserved = read 4 4;
+  gates = read 2 8;
+  first = read 2 10;
+  interval = read 2 12;
+  overlay = read 2 14;
+  noise = read 2 16;
+  flags = read 1 18;
+  word = read 1 19;
+  scale = read 4 20;
+  offset = read 4 24;
+}
+
+abbrev pub headIn : List ℕ → Head
+headIn l = headBy (λ w k. num w l k)
+
+-- the size of the moment, by its gates and its word size
+abbrev pub momentSays : List ℕ → ℕ
+momentSays l = momentBytes (headIn l .gates) (headIn l .word)
+
+-- the moment at p with a head, whose gates stand in the part l
+abbrev pub momentBy : ℕ → Head → List ℕ → Moment
+momentBy p h l = record {
+  place = p;
+  name = h .name;
+  reserved = h .reserved;
+  first = h .first;
+  interval = h .interval;
+  overlay = h .overlay;
+  noise = h .noise;
+  flags = h .flags;
+  word = h .word;
+  scale = h .scale;
+  offset = h .offset;
+  codes = nums (h .word / 8) l momentHead (h .gates);
+}
+
+-- what the first 28 bytes of a moment hold
+abbrev pub storedHead : Moment → Head
+storedHead m = record {
+  name = m .name;
+  reserved = m .reserved;
+  gates = gates m;
+  first = m .first;
+  interval = m .interval;
+  overlay = m .overlay;
+  noise = m .noise;
+  flags = m .flags;
+  word = m .word;
+  scale = m .scale;
+  offset = m .offset;
+}
 
 abbrev pub momentAt : ℕ → List ℕ → Moment
-momentAt p l = record {
-  place = p;
-  name = nameIn l;
-  reserved = num 4 l 4;
-  first = num 2 l 10;
-  interval = num 2 l 12;
-  overlay = num 2 l 14;
-  noise = num 2 l 16;
-  flags = num 1 l 18;
-  word = num 1 l 19;
-  scale = num 4 l 20;
-  offset = num 4 l 24;
-  codes = nums (num 1 l 19 / 8) l 28 (num 2 l 8);
-}
+momentAt p l = momentBy p (headIn l) l
 
 -- the moments whose n pointers stand from byte q on
 abbrev pub momentsAt : List ℕ → ℕ → ℕ → List Moment
@@ -67,34 +131,27 @@ description b = record {
   elevation = num 4 b 24;
   spot = num 1 b 28;
   indexing = num 1 b 29;
-  volumeBlock = blockAt (pointer b 32) (part b 32);
-  elevationBlock = blockAt (pointer b 36) (part b 36);
-  radialBlock = blockAt (pointer b 40) (part b 40);
-  moments = momentsAt b 44 (countIn b - constants);
+  volumeBlock = blockAt (pointer b volumePointer) (part b volumePointer);
+  elevationBlock = blockAt (pointer b elevationPointer) (part b elevationPointer);
+  radialBlock = blockAt (pointer b radialPointer) (part b radialPointer);
+  moments = momentsAt b momentPointer (countIn b - constants);
 }
-
--- how many bytes a block says that it has
-abbrev pub blockSays : List ℕ → ℕ
-blockSays l = num 2 l 4
-
-abbrev pub momentSays : List ℕ → ℕ
-momentSays l = momentHead + num 2 l 8 * (num 1 l 19 / 8)
 
 -- ---- the checks, one comparison each, and after them the `rest` of the checks
 -- 14 "radial body under 68 bytes", 15 "compression byte not 0", 16 "radial length under 68 or above the body", 17 "block count not 4 to 9"
 abbrev pub headerChecks : List ℕ → List Check → List Check
 headerChecks b rest =
     check 14 (ltb (length b) headerSize)
-    ∷ check 15 (not (eqb (num 1 b 16) 0))
+    ∷ check 15 (not (eqb (num 1 b compressionPlace) 0))
     ∷ check 16 (ltb (sizeIn b) headerSize)
     ∷ check 16 (ltb (length b) (sizeIn b))
     ∷ check 17 (ltb (countIn b) fewestBlocks)
     ∷ check 17 (ltb mostBlocks (countIn b))
     ∷ rest
 
--- 18 "pointer too early, or fewer than 6 bytes (constant) or 28 (moment) left within the radial length", 19 "wrong, unknown or repeated name",
--- 20 "block length under its minimum, gates, word size, or block past the radial length".
--- A constant block at p, with the part l, in a radial of z bytes, after what ends at `from`. q, where its pointer stands, says which block it is
+-- 18 "pointer too early, or fewer than 6 bytes (constant) or 28 (moment) left within the radial length", 19 "wrong, unknown or repeated
+-- name", 20 "block length under its minimum, gates, word size, or block past the radial length". A constant block at p, with the part l, in
+-- a radial of z bytes, after what ends at `from`. q, where its pointer stands, says which block it is
 abbrev pub blockChecks : ℕ → ℕ → ℕ → ℕ → List ℕ → ℕ → ℕ → List Check → List Check
 blockChecks q z from p l name least rest =
     check 18 (ltb p from)
@@ -111,8 +168,8 @@ momentChecks q z from p l seen rest =
     ∷ check 18 (ltb z (p + momentHead))
     ∷ check 19 (not (among (nameIn l) permitted))
     ∷ check 19 (among (nameIn l) seen)
-    ∷ check 20 (ltb mostGates (num 2 l 8))
-    ∷ check 20 (not (among (num 1 l 19) wordSizes))
+    ∷ check 20 (ltb mostGates (headIn l .gates))
+    ∷ check 20 (not (among (headIn l .word) wordSizes))
     ∷ check 20 (ltb z (p + momentSays l))
     ∷ rest
 
@@ -132,14 +189,15 @@ endAt b q = pointer b q + blockSays (part b q)
 
 abbrev pub constantsChecks : List ℕ → ℕ → List Check → List Check
 constantsChecks b from rest =
-    constantChecks b from 32 RVOL volumeLeast
-    (constantChecks b (endAt b 32) 36 RELV elevationLeast
-    (constantChecks b (endAt b 36) 40 RRAD radialLeast rest))
+    constantChecks b from volumePointer RVOL volumeLeast
+    (constantChecks b (endAt b volumePointer) elevationPointer RELV elevationLeast
+    (constantChecks b (endAt b elevationPointer) radialPointer RRAD radialLeast rest))
 
 abbrev pub radialChecks : List ℕ → List Check
 radialChecks b =
     headerChecks b
-    (constantsChecks b (firstPlace (countIn b)) (momentsChecks (sizeIn b) b (endAt b 40) 44 [] (countIn b - constants)))
+    (constantsChecks b (firstPlace (countIn b))
+    (momentsChecks (sizeIn b) b (endAt b radialPointer) momentPointer [] (countIn b - constants)))
 
 -- the answer of the reader: the first broken check's number, or the description
 unfoldable pub radialOf : List ℕ → Answer Description

@@ -6,59 +6,28 @@ use borrow.Author.Needs.{needs}
 use Rattle.c_radial.proofs.radial.Statement.{statement}
 use Rattle.c_radial.proofs.radial.Tie as tie
 
-read-heading-requires : tie.Need-read-heading-requires
-read-heading-requires c κs = search needs
-
-cast-t4 : tie.Need-cast-t4
-cast-t4 c = search needs
-
-cast-t5 : tie.Need-cast-t5
-cast-t5 c = search needs
-
-cast-t6 : tie.Need-cast-t6
-cast-t6 c = search needs
-
-cast-t7 : tie.Need-cast-t7
-cast-t7 c = search needs
-
-cast-t8 : tie.Need-cast-t8
-cast-t8 c = search needs
-
-cast-t9 : tie.Need-cast-t9
-cast-t9 c = search needs
-
-cast-t10 : tie.Need-cast-t10
-cast-t10 c = search needs
-
 cast-t11 : tie.Need-cast-t11
-cast-t11 c = omega (arith, c .before .before .before .before .before .before .before .before .before .read-heading .ok)
+cast-t11 c =
+    let read-heading = c .before .before .before .before .before .before .before .before .before .read-heading in
+    omega (arith, read-heading .ok)
 
 cast-t12 : tie.Need-cast-t12
-cast-t12 c = omega (arith, c .before .before .before .before .before .before .before .before .before .before .read-heading .ok)
+cast-t12 c =
+    let read-heading = c .before .before .before .before .before .before .before .before .before .before .read-heading in
+    omega (arith, read-heading .ok)
 
 cast-t13 : tie.Need-cast-t13
-cast-t13 c = omega (arith, c .before .before .before .before .before .before .before .before .before .before .before .read-heading .ok)
-
-cast-t14 : tie.Need-cast-t14
-cast-t14 c = search needs
+cast-t13 c =
+    let read-heading = c .before .before .before .before .before .before .before .before .before .before .before .read-heading in
+    omega (arith, read-heading .ok)
 
 returns : tie.Need-returns
-returns c = simp (c .before .before .before .before .before .before .before .before .before .before .before .before .read-heading .ensures) (radial-shown (radialOf (now (c .before .before .before .before .before .before .before .before .before .before .before .before .before .before .args .body))))
+returns c =
+    let args = c .before .before .before .before .before .before .before .before .before .before .before .before .before .before .args in
+    let read-heading = c .before .before .before .before .before .before .before .before .before .before .before .before .read-heading in
+    simp (read-heading .ensures) (radial-shown (radialOf (now (args .body))))
 
 pub radial-spec : {M : Type 1} → statement M
 radial-spec =
-    tie.close
-    (tie.spec
-    read-heading-requires
-    cast-t4
-    cast-t5
-    cast-t6
-    cast-t7
-    cast-t8
-    cast-t9
-    cast-t10
-    cast-t11
-    cast-t12
-    cast-t13
-    cast-t14
-    returns)
+    tie.close (tie.spec (λ c κs. search needs) (λ c. search needs) (λ c. search needs) (λ c. search needs) (λ c. search needs)
+    (λ c. search needs) (λ c. search needs) (λ c. search needs) cast-t11 cast-t12 cast-t13 (λ c. search needs) returns)

@@ -4,16 +4,10 @@ use borrow.Author.Needs.{needs}
 use Rattle.radial.proofs.coded_by.Statement.{statement}
 use Rattle.radial.proofs.coded_by.Tie as tie
 
-cast-if1 : tie.Need-cast-if1
-cast-if1 c = search needs
-
 returns : tie.Need-returns
 returns c =
     let a = c .before .before .before .args in
     no-gate (now (a .body)) (a .head) (a .gate) (c .if1 .taken)
-
-cast-code-in : tie.Need-cast-code-in
-cast-code-in c = search needs
 
 code-in-requires : tie.Need-code-in-requires
 code-in-requires c κs =
@@ -26,4 +20,4 @@ returns-2 c =
     gate-coded (now (a .body)) (a .head) (a .gate) _ (c .before .before .if1 .left) (c .code-in .ensures)
 
 pub coded-by-spec : {M : Type 1} → statement M
-coded-by-spec = tie.close (tie.spec cast-if1 returns cast-code-in code-in-requires returns-2)
+coded-by-spec = tie.close (tie.spec (λ c. search needs) returns (λ c. search needs) code-in-requires returns-2)

@@ -1,27 +1,13 @@
-use Rattle.radial.proofs.PartLaws.{head-there}
 use denote.Ref.{now}
-use mathlib.Core.Path.{_∙_}
+use Rattle.radial.proofs.PartLaws.{head-cut}
 use borrow.Author.Needs.{needs}
 use Rattle.radial.proofs.head_at.Statement.{statement}
 use Rattle.radial.proofs.head_at.Tie as tie
 
-add-end : tie.Need-add-end
-add-end c = search needs
-
-sub-head-of : tie.Need-sub-head-of
-sub-head-of c = search needs
-
-part-head-of-start : tie.Need-part-head-of-start
-part-head-of-start c = search needs
-
-part-head-of-end : tie.Need-part-head-of-end
-part-head-of-end c = search needs
-
-head-of-requires : tie.Need-head-of-requires
-head-of-requires c κs = search needs
-
 returns : tie.Need-returns
-returns c = let a = c .before .before .before .args in c .head-of .ensures ∙ head-there (now (a .body)) (a .place)
+returns c = let s = c .before .before .before in head-cut (now (s .args .body)) (s .args .place) _ (s .pre) (c .head-of .ensures)
 
 pub head-at-spec : {M : Type 1} → statement M
-head-at-spec = tie.close (tie.spec add-end sub-head-of part-head-of-start part-head-of-end head-of-requires returns)
+head-at-spec =
+    tie.close (tie.spec (λ c. search needs) (λ c. search needs) (λ c. search needs) (λ c. search needs) (λ c κs. search needs)
+    returns)

@@ -1,65 +1,37 @@
-use Prim.Native.Nat.{ℕ}
-use native.Mathlib.Omega.{arith}
 use mathlib.Core.Path.{_≡_, sym, ap, _∙_}
-use lib.ListN.{length}
 use denote.Ref.{now}
-use Rattle.wire.specs.Numbers.{num}
+use Rattle.wire.specs.Numbers.{num, Octets}
 use Rattle.wire.specs.Answers.{given}
-use Rattle.wire.proofs.NumberLaws.{fetched-whole}
 use Rattle.radial_spec.specs.Lookups.{momentOf}
 use Rattle.radial.specs.Steps.{tellPlace, placeShown}
-use Rattle.radial.proofs.FindLaws.{lies-at}
+use Rattle.radial.proofs.FindLaws.{head-inside}
 use Rattle.radial.proofs.BlockLaws.{head-found, head-refused}
 use borrow.Author.Needs.{needs}
 use Rattle.radial.proofs.moment.Statement.{statement}
 use Rattle.radial.proofs.moment.Tie as tie
 
--- what was asked for, and where it begins
-four : (c : tie.After-name) → length (c .before .before .args .t2) ≡ 4
-four c = search needs
+-- the body's bytes, and where the moment begins
+octets : (c : tie.After-shared-slice-known) → Octets (now (c .before .args .body))
+octets c = λ i. (c .shared-slice-known .given i) .fits
 
-wanted : (c : tie.After-fetch32) → c .fetch32 .result ≡ num 4 (c .before .before .before .args .t2) 0
-wanted c = let wide = four (c .before) in c .fetch32 .ensures ∙ fetched-whole 4 (c .before .before .before .args .t2) 0 (omega arith)
-
-found : (c : tie.After-place) → tellPlace (c .place .result) ≡ placeShown (momentOf (now (c .before .before .before .before .args .body)) (num 4 (c .before .before .before .before .args .t2) 0))
-found c = c .place .ensures ∙ ap (λ (n : ℕ). placeShown (momentOf (now (c .before .before .before .before .args .body)) n)) (wanted (c .before))
-
-slice-aggregate-fetch32 : tie.Need-slice-aggregate-fetch32
-slice-aggregate-fetch32 c = search needs
-
-fetch32-requires : tie.Need-fetch32-requires
-fetch32-requires c κs = search needs
-
-place-requires : tie.Need-place-requires
-place-requires c κs = search needs
-
-enum-known-number : tie.Need-enum-known-number
-enum-known-number c = search needs
-
-enum-known-begin : tie.Need-enum-known-begin
-enum-known-begin c = search needs
+begins : (c : tie.After-known-told2)
+    → given (c .before .begin .given .0 .0) ≡ placeShown (momentOf (now (c .before .before .before .before .before .args .body))
+    (num 4 (c .before .before .before .before .before .args .name) 0))
+begins c = ap tellPlace (sym (c .before .begin .given .1)) ∙ c .before .before .before .place .ensures
 
 head-at-requires : tie.Need-head-at-requires
-head-at-requires c κs =
-    let a = c .before .before .before .before .before .before .before .args in
-    let l = lies-at (now (a .body)) (num 4 (a .t2) 0) _ (λ i. (c .before .before .before .before .before .before .shared-slice-known .given i) .fits) (ap tellPlace (sym (c .before .begin .given .1)) ∙ found (c .before .before .before)) in
-    omega (arith, l .within, l .place)
+head-at-requires c κs = head-inside _ _ _ (octets (c .before .before .before .before)) (begins c)
 
 returns : tie.Need-returns
-returns c = head-refused (now (c .before .before .before .before .before .before .before .args .body)) (num 4 (c .before .before .before .before .before .before .before .args .t2) 0) _ (ap tellPlace (sym (c .before .number .given .1)) ∙ found (c .before .before .before))
+returns c =
+    let p = c .before .before .before in
+    head-refused _ _ _ (ap tellPlace (sym (c .before .number .given .1)) ∙ p .place .ensures)
 
 returns-2 : tie.Need-returns-2
-returns-2 c = ap given (c .head-at .ensures) ∙ head-found (now (c .before .before .before .before .before .before .before .before .args .body)) (num 4 (c .before .before .before .before .before .before .before .before .args .t2) 0) _ (λ i. (c .before .before .before .before .before .before .before .shared-slice-known .given i) .fits) (ap tellPlace (sym (c .before .before .begin .given .1)) ∙ found (c .before .before .before .before))
+returns-2 c =
+    let k = c .before in
+    ap given (c .head-at .ensures) ∙ head-found _ _ _ (octets (k .before .before .before .before)) (begins k)
 
 pub moment-spec : {M : Type 1} → statement M
 moment-spec =
-    tie.close
-    (tie.spec
-    slice-aggregate-fetch32
-    fetch32-requires
-    place-requires
-    enum-known-number
-    enum-known-begin
-    head-at-requires
-    returns
-    returns-2)
+    tie.close (tie.spec (λ c κs. search needs) (λ c. search needs) (λ c. search needs) head-at-requires returns returns-2)

@@ -1,148 +1,60 @@
-use Prim.Native.Nat.{ℕ, _+_, _-_, _*_, _≤_}
+use Prim.Native.Nat.{_+_, _-_, _*_, _≤_}
 use native.Mathlib.Omega.{arith}
-use mathlib.Core.Path.{_≡_, sym, ap, subst, _∙_}
-use lib.ListN.{length, drop}
+use mathlib.Core.Path.{_≡_}
+use lib.ListN.{length}
 use denote.Ref.{now}
-use Rattle.wire.proofs.NumberLaws.{cut-is}
-use Rattle.radial_spec.specs.Refusal.{countIn, pointer, part, nameIn}
+use Rattle.radial_spec.specs.Description.{firstPointer}
+use Rattle.radial_spec.specs.Refusal.{pointer}
 use Rattle.radial_spec.proofs.Held.{held}
-use Rattle.radial.specs.Steps.{placeFrom, placeIn}
-use Rattle.radial.proofs.PartLaws.{name-cut}
-use Rattle.radial.proofs.StepLaws.{place-here, place-next, place-end}
+use Rattle.radial_check.proofs.PartLaws.{pointer-there}
+use Rattle.radial.proofs.StepLaws.{Searching, search-begins, pointer-inside, block-held, search-found, search-on, search-ends}
 use borrow.Author.Needs.{needs}
 use Rattle.radial.proofs.moment_place.Statement.{statement}
 use Rattle.radial.proofs.moment_place.Tie as tie
 
 abbrev Inv-loop : tie.InvT-loop
-Inv-loop body name end k₀ k = (3 ≤ k) × (end ≡ countIn body) × (placeFrom body name (32 + 4 * k) (end - k) ≡ placeIn body name)
+Inv-loop body name count k₀ k = Searching body name count k
 
 abbrev μ-loop : tie.MeasureT-loop
-μ-loop body name end k₀ k = end - k
-
--- the header is in the body, and its block count was fetched
-long : (c : tie.Start Inv-loop μ-loop) → 68 ≤ length (now (c .args .body))
-long c = held _ _ (c .pre) .start .long
-
-counted : (c : tie.After-fetch16 Inv-loop μ-loop) → c .fetch16 .result ≡ countIn (now (c .before .before .before .args .body))
-counted c = cut-is 2 2 (now (c .before .before .before .args .body)) 30 0 _ (omega arith) (omega (arith, long (c .before .before .before))) (c .fetch16 .ensures)
-
--- the pointer's block is in the body, and its name was fetched
-inside : (c : tie.After-place-at Inv-loop μ-loop) → c .place-at .result + 28 ≤ length (now (c .before .before .before .before .before .before .args .body))
-inside c =
-    let b = now (c .before .before .before .before .before .before .args .body) in
-    let l = c .before .before .loop in
-    let q : 44 + 4 * (l .k - 3) ≡ 32 + 4 * l .k = omega (arith, l .inv .0) in
-    let m = held b _ (c .before .before .before .before .before .before .pre) .moment (l .k - 3) (omega (arith, c .before .loop-test .taken, l .inv .0, l .inv .1)) .1 in
-    let there : pointer b (32 + 4 * l .k) + 28 ≤ length b = subst (λ (n : ℕ). pointer b n + 28 ≤ length b) q m in
-    omega (arith, there, c .place-at .ensures .0)
-
-named : (c : tie.After-fetch32 Inv-loop μ-loop) → c .fetch32 .result ≡ nameIn (part (now (c .before .before .before .before .before .before .before .before .args .body)) (32 + 4 * c .before .before .before .before .loop .k))
-named c =
-    let b = now (c .before .before .before .before .before .before .before .before .args .body) in
-    name-cut b (c .before .before .place-at .result) _ (omega (arith, inside (c .before .before))) (c .fetch32 .ensures)
-    ∙ ap (λ (p : ℕ). nameIn (drop p b)) (c .before .before .place-at .ensures .0)
-
-sub-fetch16 : tie.Need-sub-fetch16 Inv-loop μ-loop
-sub-fetch16 c = search needs
-
-part-fetch16-start : tie.Need-part-fetch16-start Inv-loop μ-loop
-part-fetch16-start c = omega (arith, long (c .before))
-
-part-fetch16-end : tie.Need-part-fetch16-end Inv-loop μ-loop
-part-fetch16-end c = omega (arith, long (c .before))
-
-fetch16-requires : tie.Need-fetch16-requires Inv-loop μ-loop
-fetch16-requires c κs = search needs
-
-cast-end : tie.Need-cast-end Inv-loop μ-loop
-cast-end c = search needs
-
-cast-k : tie.Need-cast-k Inv-loop μ-loop
-cast-k c = search needs
+μ-loop body name count k₀ k = count - k
 
 loop-holds : tie.Need-loop-holds Inv-loop μ-loop
-loop-holds c =
-    let a = c .before .before .before .args in
-    (search needs, counted c, ap (λ (n : ℕ). placeFrom (now (a .body)) (a .name) 44 (n - 3)) (counted c))
+loop-holds c = let s = c .before .before in search-begins (now (s .args .body)) (s .args .name) _ (held _ _ (s .pre)) (c .fetch16 .ensures)
 
-mul-place-at : tie.Need-mul-place-at Inv-loop μ-loop
-mul-place-at c = search needs
+-- the pointer is in the header, and what it points at is in the body
+pointed : (c : tie.In-loop Inv-loop μ-loop)
+    → firstPointer + 4 * c .before .loop .k + 4 ≤ length (now (c .before .before .before .before .args .body))
+pointed c = pointer-inside _ _ _ _ (c .before .loop .inv) (c .loop-test .taken)
 
-add-place-at : tie.Need-add-place-at Inv-loop μ-loop
-add-place-at c = search needs
+points : (c : tie.After-fetch32 Inv-loop μ-loop)
+    → pointer (now (c .before .before .before .before .before .before .args .body)) (firstPointer + 4 * c .before .before .before .loop .k)
+    ≡ c .fetch32 .result
+points c = pointer-there _ _ _ (pointed (c .before .before)) (c .fetch32 .ensures)
 
-place-at-requires : tie.Need-place-at-requires Inv-loop μ-loop
-place-at-requires c κs =
-    let s = held _ _ (c .before .before .before .before .before .pre) .start in
-    omega (arith, s .long, s .few, c .loop-test .taken, c .before .loop .inv .1)
-
-add-after : tie.Need-add-after Inv-loop μ-loop
-add-after c = search needs
-
-sub-fetch32 : tie.Need-sub-fetch32 Inv-loop μ-loop
-sub-fetch32 c = search needs
-
-part-fetch32-start : tie.Need-part-fetch32-start Inv-loop μ-loop
-part-fetch32-start c = omega (arith, inside c)
-
-part-fetch32-end : tie.Need-part-fetch32-end Inv-loop μ-loop
-part-fetch32-end c = omega (arith, inside c)
-
-fetch32-requires : tie.Need-fetch32-requires Inv-loop μ-loop
-fetch32-requires c κs = search needs
-
-cast-result : tie.Need-cast-result Inv-loop μ-loop
-cast-result c = search needs
+inside : (c : tie.After-fetch32 Inv-loop μ-loop)
+    → c .fetch32 .result + 4 ≤ length (now (c .before .before .before .before .before .before .args .body))
+inside c =
+    let l = c .before .before in
+    omega (arith, points c, block-held _ _ _ _ (l .before .loop .inv) (l .loop-test .taken) .inside)
 
 returns : tie.Need-returns Inv-loop μ-loop
 returns c =
-    let a = c .before .before .before .before .before .before .before .before .before .args in
-    let l = c .before .before .before .before .before .loop in
-    c .before .before .before .place-at .ensures .0
-    ∙ place-here (now (a .body)) (a .name) (l .k) _ (c .before .before .before .before .loop-test .taken) (sym (named (c .before)) ∙ c .if1 .taken)
-    ∙ l .inv .2
-
-add-k : tie.Need-add-k Inv-loop μ-loop
-add-k c = search needs
-
-loop-less : tie.Need-loop-less Inv-loop μ-loop
-loop-less c = search needs
+    let p = c .before .before .before in
+    let l = p .before .before in
+    search-found _ _ _ _ (l .before .loop .inv) (l .loop-test .taken) _ _ (points p) (c .before .fetch322 .ensures) (c .if1 .taken)
 
 loop-again : tie.Need-loop-again Inv-loop μ-loop
 loop-again c =
-    let a = c .before .before .before .before .before .before .before .before .before .args in
-    let l = c .before .before .before .before .before .loop in
-    (search needs, l .inv .1, place-next (now (a .body)) (a .name) (l .k) _ (c .before .before .before .before .loop-test .taken) (λ e. c .if1 .left (named (c .before) ∙ e)) ∙ l .inv .2)
+    let p = c .before .before .before in
+    let l = p .before .before in
+    search-on _ _ _ _ (l .before .loop .inv) (l .loop-test .taken) _ _ (points p) (c .before .fetch322 .ensures) (c .if1 .left)
 
 returns-2 : tie.Need-returns-2 Inv-loop μ-loop
-returns-2 c =
-    let a = c .before .before .before .before .before .args in
-    place-end (now (a .body)) (a .name) (c .before .loop .k) _ (c .loop-test .left) ∙ c .before .loop .inv .2
+returns-2 c = search-ends _ _ _ _ (c .before .loop .inv) (c .loop-test .left)
 
 pub moment-place-spec : {M : Type 1} → statement M
 moment-place-spec =
-    tie.close
-    (tie.spec
-    Inv-loop
-    μ-loop
-    sub-fetch16
-    part-fetch16-start
-    part-fetch16-end
-    fetch16-requires
-    cast-end
-    cast-k
-    loop-holds
-    mul-place-at
-    add-place-at
-    place-at-requires
-    add-after
-    sub-fetch32
-    part-fetch32-start
-    part-fetch32-end
-    fetch32-requires
-    cast-result
-    returns
-    add-k
-    loop-less
-    loop-again
-    returns-2)
+    tie.close (tie.spec Inv-loop μ-loop (λ c κs. search needs) (λ c. search needs) (λ c. search needs) loop-holds
+    (λ c. search needs) (λ c. search needs) (λ c. search needs) (λ c. search needs) (λ c. search needs) (λ c. search needs)
+    pointed (λ c κs. search needs) (λ c. search needs) (λ c. search needs) (λ c. search needs) (λ c. search needs) inside
+    (λ c κs. search needs) returns (λ c. search needs) (λ c. search needs) loop-again returns-2)

@@ -14,26 +14,32 @@ use Rattle.radial.proofs.read_radial.Statement.{statement}
 use Rattle.radial.proofs.read_radial.Tie as tie
 
 -- the body is accepted, and what its checks leave known
-accepted : (c : tie.After-header) → radialOf (now (c .before .before .before .before .before .args .body)) ≡ given (description (now (c .before .before .before .before .before .args .body)))
-accepted c = number-given (now (c .before .before .before .before .before .args .body)) (c .before .before .before .read-heading .result .refusal) (ap (λ (h : Heading). h .refusal) (c .before .before .before .read-heading .ensures) ∙ heading-number (radialOf (now (c .before .before .before .before .before .args .body)))) (c .before .if1 .left)
+accepted : (c : tie.After-header) → radialOf (now (c .before .before .before .before .before .args .body))
+    ≡ given (description (now (c .before .before .before .before .before .args .body)))
+accepted c = number-given (now (c .before .before .before .before .before .args .body))
+    (c .before .before .before .read-heading .result .refusal) (ap (λ (h : Heading). h .refusal)
+    (c .before .before .before .read-heading .ensures)
+    ∙ heading-number (radialOf (now (c .before .before .before .before .before .args .body)))) (c .before .if1 .left)
 
 all : (c : tie.After-header) → Held (now (c .before .before .before .before .before .args .body))
-all c = held (now (c .before .before .before .before .before .args .body)) _ (accepted c)
+all c =
+    let args = c .before .before .before .before .before .args in
+    held (now (args .body)) _ (accepted c)
 
-counted : (c : tie.After-header) → c .before .before .before .read-heading .result .count ≡ countIn (now (c .before .before .before .before .before .args .body))
-counted c = count-is (now (c .before .before .before .before .before .args .body)) (accepted c) _ (c .before .before .before .read-heading .ensures)
-
-read-heading-requires : tie.Need-read-heading-requires
-read-heading-requires c κs = search needs
-
-refuse-requires : tie.Need-refuse-requires
-refuse-requires c κs = search needs
+counted : (c : tie.After-header)
+    → c .before .before .before .read-heading .result .count ≡ countIn (now (c .before .before .before .before .before .args .body))
+counted c =
+    let args = c .before .before .before .before .before .args in
+    let read-heading = c .before .before .before .read-heading in
+    count-is (now (args .body)) (accepted c) _ (read-heading .ensures)
 
 returns : tie.Need-returns
 returns c =
-    let b = now (c .before .before .before .before .before .args .body) in
+    let args = c .before .before .before .before .before .args in
+    let b = now (args .body) in
     let h = c .before .before .before .read-heading in
-    c .refuse .ensures ∙ sym (ap shown (number-refused b (h .result .refusal) (ap (λ (x : Heading). x .refusal) (h .ensures) ∙ heading-number (radialOf b)) (c .before .if1 .taken)))
+    c .refuse .ensures ∙ sym (ap shown (number-refused b (h .result .refusal) (ap (λ (x : Heading). x .refusal) (h .ensures)
+    ∙ heading-number (radialOf b)) (c .before .if1 .taken)))
 
 span-of-requires : tie.Need-span-of-requires
 span-of-requires c κs = (omega (arith, all c .start .long), all c .volume .inside)
@@ -42,33 +48,33 @@ span-of-requires-2 : tie.Need-span-of-requires-2
 span-of-requires-2 c κs = (omega (arith, all (c .before) .start .long), all (c .before) .elevation .inside)
 
 span-of-requires-3 : tie.Need-span-of-requires-3
-span-of-requires-3 c κs = (omega (arith, all (c .before .before) .start .long), all (c .before .before) .radial .inside)
+span-of-requires-3 c κs =
+    let earlier = c .before .before in
+    (omega (arith, all earlier .start .long), all earlier .radial .inside)
 
 sub-all-heads : tie.Need-sub-all-heads
-sub-all-heads c = omega (arith, counted (c .before .before .before .before), all (c .before .before .before .before) .start .some)
-
-cast-all-heads : tie.Need-cast-all-heads
-cast-all-heads c = search needs
+sub-all-heads c =
+    let earlier = c .before .before .before .before in
+    omega (arith, counted earlier, all earlier .start .some)
 
 all-heads-requires : tie.Need-all-heads-requires
-all-heads-requires c κs = (accepted (c .before .before .before .before), ap (λ (n : ℕ). n - 3) (counted (c .before .before .before .before)), omega (arith, counted (c .before .before .before .before), all (c .before .before .before .before) .start .few))
+all-heads-requires c κs =
+    let earlier = c .before .before .before .before in
+    (accepted earlier, ap (λ (n : ℕ). n - 3) (counted earlier), omega (arith, counted earlier, all earlier .start .few))
 
 returns-2 : tie.Need-returns-2
 returns-2 c =
-    let b = now (c .before .before .before .before .before .before .before .before .before .before .args .body) in
-    read b (accepted (c .before .before .before .before .before)) _ _ _ _ _ (c .before .before .before .before .before .before .before .before .read-heading .ensures) (c .before .before .before .before .span-of .ensures) (c .before .before .before .span-of2 .ensures) (c .before .before .span-of3 .ensures) (c .all-heads .ensures ∙ ap (λ (n : ℕ). headsOf (momentsAt b 44 (n - 3))) (counted (c .before .before .before .before .before)))
+    let args = c .before .before .before .before .before .before .before .before .before .before .args in
+    let read-heading = c .before .before .before .before .before .before .before .before .read-heading in
+    let earlier = c .before .before .before .before .before in
+    let span-of = c .before .before .before .before .span-of in
+    let span-of2 = c .before .before .before .span-of2 in
+    let span-of3 = c .before .before .span-of3 in
+    let b = now (args .body) in
+    read b (accepted earlier) _ _ _ _ _ (read-heading .ensures) (span-of .ensures) (span-of2 .ensures) (span-of3 .ensures)
+    (c .all-heads .ensures ∙ ap (λ (n : ℕ). headsOf (momentsAt b 44 (n - 3))) (counted earlier))
 
 pub read-radial-spec : {M : Type 1} → statement M
 read-radial-spec =
-    tie.close
-    (tie.spec
-    read-heading-requires
-    refuse-requires
-    returns
-    span-of-requires
-    span-of-requires-2
-    span-of-requires-3
-    sub-all-heads
-    cast-all-heads
-    all-heads-requires
-    returns-2)
+    tie.close (tie.spec (λ c κs. search needs) (λ c κs. search needs) returns span-of-requires span-of-requires-2
+    span-of-requires-3 sub-all-heads (λ c. search needs) all-heads-requires returns-2)

@@ -1,47 +1,28 @@
-use Rattle.radial.proofs.PartLaws.{span-cut}
+use Prim.Native.Nat.{_+_, _≤_}
+use mathlib.Core.Path.{_≡_}
+use lib.ListN.{length}
 use denote.Ref.{now}
+use Rattle.wire.proofs.NumberLaws.{number-is}
+use Rattle.radial_spec.specs.Description.{constantHead}
+use Rattle.radial_spec.specs.Refusal.{pointer}
+use Rattle.radial.proofs.PartLaws.{span-cut}
 use borrow.Author.Needs.{needs}
 use Rattle.radial.proofs.span_of.Statement.{statement}
 use Rattle.radial.proofs.span_of.Tie as tie
 
-place-at-requires : tie.Need-place-at-requires
-place-at-requires c κs = search needs
+-- the pointer that was fetched, and that the block's head is in the body
+points : (c : tie.After-fetch32) → pointer (now (c .before .before .args .body)) (c .before .before .args .at) ≡ c .fetch32 .result
+points c = number-is 4 _ _ _ (c .fetch32 .ensures) (c .before .before .pre .0)
 
-add-begin : tie.Need-add-begin
-add-begin c = search needs
-
-add-end : tie.Need-add-end
-add-end c = search needs
-
-cast-t6 : tie.Need-cast-t6
-cast-t6 c = search needs
-
-sub-fetch16 : tie.Need-sub-fetch16
-sub-fetch16 c = search needs
-
-part-fetch16-start : tie.Need-part-fetch16-start
-part-fetch16-start c = search needs
-
-part-fetch16-end : tie.Need-part-fetch16-end
-part-fetch16-end c = search needs
-
-fetch16-requires : tie.Need-fetch16-requires
-fetch16-requires c κs = search needs
+inside : (c : tie.After-fetch32) → c .fetch32 .result + constantHead ≤ length (now (c .before .before .args .body))
+inside c = rw (← points c) (c .before .before .pre .1)
 
 returns : tie.Need-returns
-returns c = let a = c .before .before .before .before .args in
-    span-cut (now (a .body)) (a .at) (c .before .before .place-at .result) (c .fetch16 .result) (c .before .before .place-at .ensures .0) (c .before .before .before .before .pre .1) (c .fetch16 .ensures)
+returns c =
+    let p = c .before .before in
+    span-cut (now (p .before .before .args .body)) (p .before .before .args .at) _ _ (points p) (inside p) (c .fetch16 .ensures)
 
 pub span-of-spec : {M : Type 1} → statement M
 span-of-spec =
-    tie.close
-    (tie.spec
-    place-at-requires
-    add-begin
-    add-end
-    cast-t6
-    sub-fetch16
-    part-fetch16-start
-    part-fetch16-end
-    fetch16-requires
-    returns)
+    tie.close (tie.spec (λ c κs. search needs) (λ c. search needs) (λ c. search needs) (λ c. search needs) (λ c. search needs)
+    inside (λ c κs. search needs) returns)

@@ -1,55 +1,33 @@
-use Rattle.radial_check.proofs.PartLaws.{constant-early, constant-late, constant-there}
-use Rattle.wire.specs.Numbers.{fetched}
+use native.Mathlib.Omega.{arith}
+use mathlib.Core.Path.{_≡_, _∙_}
 use denote.Ref.{now}
-use lib.ListN.{drop}
-use mathlib.Core.Path.{_∙_}
+use borrow.Author.Tests.{lt-ltb, le-ltb}
+use Rattle.wire.proofs.NumberLaws.{number-is}
+use Rattle.radial_spec.specs.Refusal.{pointer}
+use Rattle.radial_check.proofs.PartLaws.{constant-there}
 use borrow.Author.Needs.{needs}
 use Rattle.radial_check.proofs.constant_at.Statement.{statement}
 use Rattle.radial_check.proofs.constant_at.Tie as tie
 
-place-at-requires : tie.Need-place-at-requires
-place-at-requires c κs = search needs
+-- the pointer that was fetched
+points : (c : tie.After-fetch32)
+    → pointer (now (c .before .before .before .args .body)) (c .before .before .before .args .at) ≡ c .fetch32 .result
+points c = number-is 4 _ _ _ (c .fetch32 .ensures) (c .before .before .before .pre .1)
 
 returns : tie.Need-returns
-returns c = let a = c .before .before .before .before .args in
-    let p = c .before .place-at .result in
-    rw (← c .before .place-at .ensures .0) (constant-early (a .at) (a .size) (a .from) p (drop p (now (a .body))) (fetched 4 (now (a .name)) 0) (a .least) (c .if1 .taken))
-
-add-end : tie.Need-add-end
-add-end c = search needs
+returns c = simp (points (c .before), lt-ltb _ _ (c .if1 .taken))
 
 returns-2 : tie.Need-returns-2
-returns-2 c = let a = c .before .before .before .before .before .args in
-    let p = c .before .before .place-at .result in
-    rw (← c .before .before .place-at .ensures .0) (constant-late (a .at) (a .size) (a .from) p (drop p (now (a .body))) (fetched 4 (now (a .name)) 0) (a .least) (c .before .if1 .left) (c .if2 .taken))
-
-sub-constant : tie.Need-sub-constant
-sub-constant c = search needs
-
-part-constant-start : tie.Need-part-constant-start
-part-constant-start c = search needs
-
-part-constant-end : tie.Need-part-constant-end
-part-constant-end c = search needs
-
-constant-requires : tie.Need-constant-requires
-constant-requires c κs = search needs
+returns-2 c = simp (points (c .before .before), le-ltb _ _ (c .before .if1 .left), lt-ltb _ _ (c .if2 .taken))
 
 returns-3 : tie.Need-returns-3
-returns-3 c = let a = c .before .before .before .before .before .before .before .args in
-    let p = c .before .before .before .before .place-at .result in
-    rw (← c .before .before .before .before .place-at .ensures .0) (c .constant .ensures ∙ constant-there (now (a .body)) (a .size) (a .from) p (c .before .before .before .if1 .left) (a .at) (fetched 4 (now (a .name)) 0) (a .least) (c .before .before .if2 .left))
+returns-3 c =
+    let s = c .before .before .before .before .before .before .before in
+    let room = c .before .before .if2 .left in
+    rw (points (c .before .before .before .before)) (c .constant .ensures ∙ constant-there (now (s .args .body)) _ _ _
+    (c .before .before .before .if1 .left) (s .args .at) _ _ (omega (arith, room, s .pre .0)) room)
 
 pub constant-at-spec : {M : Type 1} → statement M
 constant-at-spec =
-    tie.close
-    (tie.spec
-    place-at-requires
-    returns
-    add-end
-    returns-2
-    sub-constant
-    part-constant-start
-    part-constant-end
-    constant-requires
-    returns-3)
+    tie.close (tie.spec (λ c κs. search needs) (λ c. search needs) returns (λ c. search needs) returns-2 (λ c. search needs)
+    (λ c. search needs) (λ c. search needs) (λ c κs. search needs) returns-3)

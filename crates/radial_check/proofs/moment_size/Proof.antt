@@ -11,8 +11,5 @@ mul-result c = omega (arith, mul-le-mul {n₁ = c .args .gates} {m₁ = c .args 
 add-result : tie.Need-add-result
 add-result c = omega (arith, mul-le-mul {n₁ = c .args .gates} {m₁ = c .args .word / 8} {n₂ = 65535} {m₂ = 31} (omega arith) (omega arith))
 
-returns : tie.Need-returns
-returns c = search needs
-
 pub moment-size-spec : {M : Type 1} → statement M
-moment-size-spec = tie.close (tie.spec mul-result add-result returns)
+moment-size-spec = tie.close (tie.spec (λ c. search needs) mul-result add-result (λ c. search needs))

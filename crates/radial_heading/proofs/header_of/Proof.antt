@@ -5,12 +5,13 @@ use mathlib.Core.Path.{sym, _∙_}
 use borrow.Author.Needs.{needs}
 use Rattle.radial_heading.proofs.header_of.Statement.{statement}
 use Rattle.radial_heading.proofs.header_of.Tie as tie
+use Rattle.radial_spec.specs.Description.{headerSize}
 
 slice-aggregate-header-in : tie.Need-slice-aggregate-header-in
-slice-aggregate-header-in c = sym (length-take-le 68 (now (c .before .before .args .body)) (c .before .before .pre))
+slice-aggregate-header-in c = sym (length-take-le headerSize (now (c .before .before .args .body)) (c .before .before .pre))
 
 header-in-requires : tie.Need-header-in-requires
-header-in-requires c κs = rw (length-take-le 68 (now (c .before .before .args .body)) (c .before .before .pre)) (search needs)
+header-in-requires c κs = rw (length-take-le headerSize (now (c .before .before .args .body)) (c .before .before .pre)) (search needs)
 
 returns : tie.Need-returns
 returns c = c .header-in .ensures ∙ header-there (now (c .before .before .before .args .body))
