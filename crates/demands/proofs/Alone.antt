@@ -35,7 +35,8 @@ one : (b : List ℕ) (h : Header) → headerOf b ≡ given h → h .segments ≡
 unfolding headerIn
 one b h e n =
     let q : headerIn b ≡ h = header-given b h e .1 in
-    sym (ap (λ (x : Header). x .number) q) ∙ number-lone (storedIn b .segments) (storedIn b .number) (ap (λ (x : Header). x .segments) q ∙ n)
+    sym (ap (λ (x : Header). x .number) q) ∙ number-lone (storedIn b .segments) (storedIn b .number)
+    (ap (λ (x : Header). x .segments) q ∙ n)
 
 others : (b : List ℕ) (h : Header) → headerOf b ≡ given h → (h .segments ≡ 1 → ⊥) → h .number ≡ storedIn b .number
 unfolding headerIn
@@ -56,7 +57,8 @@ accepted b r lone e = (
 same-set : (frames frames′ out out′ : List ℕ) → ButLoneNumber frames frames′ → out ≡ out′ → setOf frames out ≡ setOf frames′ out′
 same-set frames frames′ out out′ b same =
     ap (λ (x : List ℕ). setOf x out) (b .buffer)
-    ∙ lone-segment (b .each) (b .rest) frames′ out (b .whole) (b .lone) (subst (λ (x : List ℕ). ButTwoBytes (length (flatten (b .each)) + headSize + numberPlace) x frames′) (b .buffer) (b .but))
+    ∙ lone-segment (b .each) (b .rest) frames′ out (b .whole) (b .lone)
+    (subst (λ (x : List ℕ). ButTwoBytes (length (flatten (b .each)) + headSize + numberPlace) x frames′) (b .buffer) (b .but))
     ∙ ap (λ (x : List ℕ). setOf frames′ x) same
 
 pub lone : LoneSegment
@@ -80,7 +82,8 @@ lone = record {
         l .leaves ∙ ap (λ (o : Outcome (List ℕ) SetSays). o .output) e ∙ sym (l′ .leaves),
       );
   written = λ κs given body out size g b after l one.
-      ap (λ (x : List ℕ). num 2 x (headSize + numberPlace)) (l .leaves) ∙ lone-number given (now body) (now out) size (sym (l .answers)) one;
+      ap (λ (x : List ℕ). num 2 x (headSize + numberPlace)) (l .leaves) ∙ lone-number given (now body) (now out) size
+      (sym (l .answers)) one;
   writtenForC = λ κs channel kind sequence date ms body out r c k q d m b after l z one.
       let g = givenBy channel kind sequence date ms in
       let v = wrote-for-c g (now body) (now out) r (l .answers) z in

@@ -47,7 +47,8 @@ with-room c pieces a h k =
     (by-pieces c pieces a ∙ refused-in-order frames skipped (now (c .out)) (now (c .runs)) .enough h k)
 
 -- frames alone, and room for them
-no-runs : (c : Call) (frames : List (List ℕ)) → right c ≡ salvaged frames [] (now (c .out)) (now (c .runs)) → length (flatten frames) ≤ length (now (c .out))
+no-runs : (c : Call) (frames : List (List ℕ)) → right c ≡ salvaged frames [] (now (c .out)) (now (c .runs))
+    → length (flatten frames) ≤ length (now (c .out))
     → Reports c (length frames) (length (flatten frames)) 0 (filled (flatten frames) (now (c .out))) (now (c .runs))
 unfolding numbers flatten
 no-runs c frames e h =
@@ -55,7 +56,8 @@ no-runs c frames e h =
     (e ∙ refused-in-order frames [] (now (c .out)) (now (c .runs)) .enough h (omega arith))
 
 -- ---- what a salvage wrote
-wrote-again : (c d : Call) (v : Report) (out′ : List ℕ) → right c .answer ≡ given v → out′ ≡ right c .output .0 → now (d .buf) ≡ take (v .long) out′
+wrote-again : (c d : Call) (v : Report) (out′ : List ℕ) → right c .answer ≡ given v → out′ ≡ right c .output .0
+    → now (d .buf) ≡ take (v .long) out′
     → v .long ≤ length (now (d .out))
     → Reports d (v .kept) (v .long) 0 (filled (take (v .long) out′) (now (d .out))) (now (d .runs))
 wrote-again c d v out′ e l b h =
@@ -68,7 +70,8 @@ wrote-again c d v out′ e l b h =
     let clean = flatten frames in
     let told = by-pieces c pieces a in
     let g =
-    outcome-given (roomChecks clean (numbers skipped) out runs) (out, runs) (report frames skipped) (filled clean out, filled (numbers skipped) runs) v
+    outcome-given (roomChecks clean (numbers skipped) out runs) (out, runs) (report frames skipped)
+    (filled clean out, filled (numbers skipped) runs) v
     (sym (ap (λ (o : Outcome (List ℕ × List ℕ) Report). o .answer) told) ∙ e)
     in
     let kept : length frames ≡ v .kept = ap (λ (r : Report). r .kept) (g .1) in
@@ -77,15 +80,19 @@ wrote-again c d v out′ e l b h =
     l ∙ ap (λ (o : Outcome (List ℕ × List ℕ) Report). o .output .0) told ∙ ap (λ (o : List ℕ × List ℕ). o .0) (g .2)
     in
     let same : take (v .long) out′ ≡ clean =
-    ap (λ (n : ℕ). take n out′) (sym long) ∙ ap (λ (o : List ℕ). take (length clean) o) left ∙ take-append-seam clean (drop (length clean) out)
+    ap (λ (n : ℕ). take n out′) (sym long) ∙ ap (λ (o : List ℕ). take (length clean) o) left
+    ∙ take-append-seam clean (drop (length clean) out)
     in
     let from : right d ≡ salvaged frames [] (now (d .out)) (now (d .runs)) =
-    ap (λ (x : List ℕ). salvageOf x (now (d .out)) (now (d .runs))) (b ∙ same) ∙ again (now (c .buf)) (now (d .out)) (now (d .runs)) pieces a
+    ap (λ (x : List ℕ). salvageOf x (now (d .out)) (now (d .runs))) (b ∙ same)
+    ∙ again (now (c .buf)) (now (d .out)) (now (d .runs)) pieces a
     in
-    subst (λ (p : List ℕ × ℕ × ℕ). Reports d (p .1) (p .2) 0 (filled (p .0) (now (d .out))) (now (d .runs))) (λ i. (sym same i, kept i, long i))
+    subst (λ (p : List ℕ × ℕ × ℕ). Reports d (p .1) (p .2) 0 (filled (p .0) (now (d .out))) (now (d .runs)))
+    (λ i. (sym same i, kept i, long i))
     (no-runs d frames from (omega (arith, long, h)))
 
-wrote-for-c : (c d : Call) (r : UlmSalvage) (out′ runs′ : List ℕ) → SalvagesForC c r (out′, runs′) → r .refusal ≡ 0 → now (d .buf) ≡ take (r .length) out′
+wrote-for-c : (c d : Call) (r : UlmSalvage) (out′ runs′ : List ℕ) → SalvagesForC c r (out′, runs′) → r .refusal ≡ 0
+    → now (d .buf) ≡ take (r .length) out′
     → r .length ≤ length (now (d .out))
     → Reports d (r .kept) (r .length) 0 (filled (take (r .length) out′) (now (d .out))) (now (d .runs))
 wrote-for-c c d r out′ runs′ p z b h =
@@ -98,7 +105,8 @@ wrote-for-c c d r out′ runs′ p z b h =
         let q : r ≡ salvageFace (given v) = p .answers ∙ ap salvageFace e in
         let from = subst (λ (u : UlmSalvage). now (d .buf) ≡ take (u .length) out′) q b in
         let room = subst (λ (u : UlmSalvage). u .length ≤ length (now (d .out))) q h in
-        subst (λ (u : UlmSalvage). Reports d (u .kept) (u .length) 0 (filled (take (u .length) out′) (now (d .out))) (now (d .runs))) (sym q)
+        subst (λ (u : UlmSalvage). Reports d (u .kept) (u .length) 0 (filled (take (u .length) out′) (now (d .out)))
+        (now (d .runs))) (sym q)
         (wrote-again c d v out′ e (ap (λ (o : List ℕ × List ℕ). o .0) (p .leaves)) from room)
 
 -- ---- frames and runs, by the account
@@ -122,9 +130,11 @@ damaged-recording = record {
       let few = in-account b pieces a (λ frames skipped. suc leastFrame * length skipped ≤ length b + leastFrame) (most-runs b) in
       with-room c pieces a (omega (arith, bytes, h)) (omega (arith, few, k));
   undamaged = λ c frames e p h.
-      no-runs c frames (ap (λ (b : List ℕ). salvageOf b (now (c .out)) (now (c .runs))) e ∙ undamaged frames (now (c .out)) (now (c .runs)) p) h;
+      no-runs c frames (ap (λ (b : List ℕ). salvageOf b (now (c .out)) (now (c .runs))) e
+      ∙ undamaged frames (now (c .out)) (now (c .runs)) p) h;
   again = λ c d kept long count out′ runs′ p b h.
-      wrote-again c d (record { kept = kept; long = long; runs = count }) out′ (sym (p .answers)) (ap (λ (o : List ℕ × List ℕ). o .0) (p .leaves)) b h;
+      wrote-again c d (record { kept = kept; long = long; runs = count }) out′ (sym (p .answers))
+      (ap (λ (o : List ℕ × List ℕ). o .0) (p .leaves)) b h;
   againForC = wrote-for-c;
   all = λ b pieces a. in-account b pieces a (λ frames skipped. length (flatten frames) + longAll skipped ≡ length b) (in-all b);
   apart = λ b pieces a. in-account b pieces a (λ frames skipped. Apart 0 (length b) skipped) (runs-apart b);

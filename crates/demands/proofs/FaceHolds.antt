@@ -3,6 +3,7 @@ use Prim.Native.Nat.{ℕ, zero, suc, _-_}
 use mathlib.Core.Path.{_≡_, refl, sym, ap, subst, _∙_}
 use mathlib.Core.Option.{none, some}
 use mathlib.Core.List.{List, [], _∷_, _++_}
+use borrow.Author.Needs.{needs}
 use lib.Ieee as Ieee
 use lib.Ieee.{ofBits, toBits}
 use lib.ListN.{length, getD, replicate}
@@ -61,7 +62,8 @@ use Rattle.demands.proofs.Lent.{set-kept, write-kept, request-kept, cen
 use Rattle.demands.proofs.Readers.{by-stream, by-radial, by-moment, by-block, by-value, by-gate}
 
 -- one law for every function: the face of a refusal is blank but for its number, the face of a value shows it
-module _ {R A : Type 0} (face : Answer A → R) (Blank : R → ℕ → Type 0) (Shows : R → A → Type 0) (blank : (n : ℕ) → Blank (face (refused n)) n)
+module _ {R A : Type 0} (face : Answer A → R) (Blank : R → ℕ → Type 0) (Shows : R → A → Type 0) (blank : (n : ℕ)
+    → Blank (face (refused n)) n)
     (shows : (v : A) → Shows (face (given v)) v) where
   shown : (right : Answer A) → ((n : ℕ) → right ≡ refused n → OfTheTable n) → Shown (λ (r : R). r ≡ face right) Blank Shows right
   shown right table = record {
@@ -70,7 +72,8 @@ module _ {R A : Type 0} (face : Answer A → R) (Blank : R → ℕ → Type 0) (
     accepts = λ r v e q. subst (λ (x : R). Shows x v) (sym (e ∙ ap face q)) (shows v);
   }
 
-  shown-lent : {S O : Type 0} (tell : S → Answer A) (ks : List Check) (right : Outcome O A) (out : O) → KeptLent (Promise tell right) tell ks right out
+  shown-lent : {S O : Type 0} (tell : S → Answer A) (ks : List Check) (right : Outcome O A) (out : O)
+      → KeptLent (Promise tell right) tell ks right out
       → ShownLent (Leaves face right) Blank Shows right out
   shown-lent tell ks right out k = record {
     one = record {
@@ -155,101 +158,63 @@ worth-shown = shown worthFace (λ (r : UlmGate) n. OnlyNumber (gateMembers r) n)
 written-lent : (ks : List Check) (right : Outcome (List ℕ) Bytes) (out : List ℕ) → KeptLent (Promise tellWrite right) tellWrite ks right out
     → ShownLent (Leaves writtenFace right) (λ (r : UlmWritten) n. OnlyNumber (writtenMembers r) n) ShowsWritten right out
 written-lent =
-    shown-lent writtenFace (λ (r : UlmWritten) n. OnlyNumber (writtenMembers r) n) ShowsWritten (λ n. (refl, zeros 1)) (λ v. record { refusal = refl; long = refl })
+    shown-lent writtenFace (λ (r : UlmWritten) n. OnlyNumber (writtenMembers r) n) ShowsWritten (λ n. (refl, zeros 1))
+    (λ v. search needs)
     tellWrite
 
 pub faceOfC : FaceOfC
 faceOfC = record {
   frame = λ κs buf place s.
-      shown (frameFace place) (BlankFrame place) (ShowsFrame place) (λ n. ((refl, zeros 5), refl)) (frame-shows place) (frameAt (now buf) place)
+      shown (frameFace place) (BlankFrame place) (ShowsFrame place) (λ n. ((refl, zeros 5), refl)) (frame-shows place)
+      (frameAt (now buf) place)
       (by-stream (now buf) place .numbered);
   header = λ κs msg s.
       shown headerFace (λ (r : UlmHeader) n. OnlyNumber (headerMembers r) n) ShowsHeader (λ n. (refl, zeros 8))
-      (λ v. record {
-        refusal = refl;
-        size = refl;
-        channel = refl;
-        kind = refl;
-        sequence = refl;
-        date = refl;
-        ms = refl;
-        segments = refl;
-        number = refl;
-      }) (headerOf (now msg)) (by-header (now msg) .numbered);
+      (λ v. search needs) (headerOf (now msg)) (by-header (now msg) .numbered);
   set = λ κs buf out buf′.
       shown-lent setFace (λ (r : UlmSet) n. OnlyNumber (setMembers r) n) ShowsSet (λ n. (refl, zeros 9))
-      (λ v. record {
-        refusal = refl;
-        size = refl;
-        channel = refl;
-        kind = refl;
-        sequence = refl;
-        date = refl;
-        ms = refl;
-        segments = refl;
-        number = refl;
-        long = refl;
-      }) tellSet _ (setOf (now buf) (now out)) (now out) (set-kept (now buf) (now out));
+      (λ v. search needs) tellSet _ (setOf (now buf) (now out)) (now out) (set-kept (now buf) (now out));
   salvage = λ κs buf out runs buf′.
       shown-lent salvageFace (λ (r : UlmSalvage) n. OnlyNumber (salvageMembers r) n) ShowsSalvage (λ n. (refl, zeros 3))
-      (λ v. record { refusal = refl; kept = refl; long = refl; runs = refl }) tellSalvage _ (salvageOf (now buf) (now out) (now runs)) (now out, now runs)
+      (λ v. search needs) tellSalvage _ (salvageOf (now buf) (now out)
+      (now runs)) (now out, now runs)
       (salvage-kept (now buf) (now out) (now runs));
   write = λ κs channel kind sequence date ms body out channel′ kind′ sequence′ date′ ms′ body′.
       written-lent _ _ (now out)
       (write-kept (record { channel = channel; kind = kind; sequence = sequence; date = date; milliseconds = ms }) (now body) (now out));
   radial = λ κs body s.
       shown radialFace (λ (r : UlmRadial) n. OnlyNumber (radialMembers r) n) ShowsRadial (λ n. (refl, zeros 14))
-      (λ v. record {
-        refusal = refl;
-        station = refl;
-        time = refl;
-        date = refl;
-        azimuthNumber = refl;
-        azimuth = refl;
-        long = refl;
-        spacing = refl;
-        status = refl;
-        elevationNumber = refl;
-        sector = refl;
-        elevation = refl;
-        blanking = refl;
-        indexing = refl;
-        blocks = refl;
-      }) (radialOf (now body)) (by-radial (now body) .numbered);
+      (λ v. search needs) (radialOf (now body)) (by-radial (now body) .numbered);
   block = λ κs body k s.
-      shown blockFace (λ (r : UlmBlock) n. OnlyNumber (blockMembers r) n) ShowsBlock (λ n. (refl, zeros 14)) block-shows (blockOf (now body) k)
+      shown blockFace (λ (r : UlmBlock) n. OnlyNumber (blockMembers r) n) ShowsBlock (λ n. (refl, zeros 14)) block-shows
+      (blockOf (now body) k)
       (block-number (now body) k);
   gates = λ κs body name s.
       shown gatesFace (λ (r : UlmGates) n. OnlyNumber (gatesMembers r) n) ShowsGates (λ n. (refl, zeros 8))
-      (λ v. record {
-        refusal = refl;
-        gates = refl;
-        word = refl;
-        scale = refl;
-        offset = refl;
-        first = refl;
-        interval = refl;
-        start = refl;
-        size = refl;
-      }) (momentOf (now body) name) (moment-number (now body) name);
+      (λ v. search needs) (momentOf (now body) name) (moment-number (now body) name);
   gate = λ κs body name gate s. worth-shown (gateOf (now body) name gate) (by-gate (now body) name gate .numbered);
   value = λ κs code scale offset s. worth-shown (valueOf code scale offset) (by-value code scale offset .numbered);
   request = λ κs body s.
-      shown requestFace (λ (r : UlmRequest) n. OnlyNumber (r .refusal ∷ r .code ∷ []) n) ShowsRequest (λ n. (refl, zeros 1)) (λ v. (refl, refl))
+      shown requestFace (λ (r : UlmRequest) n. OnlyNumber (r .refusal ∷ r .code ∷ []) n) ShowsRequest (λ n. (refl, zeros 1))
+      (λ v. (refl, refl))
       (requestOf (now body)) (by-request (now body) .numbered);
   writeRequest = λ κs list out list′. written-lent _ _ (now out) (request-kept (now list) (now out));
   censor = λ κs body s.
-      shown censorFace (λ (r : UlmCensor) n. OnlyNumber (r .refusal ∷ r .count ∷ r .regions) n) ShowsCensor (λ n. (refl, (refl, zeros places))) censor-shows
+      shown censorFace (λ (r : UlmCensor) n. OnlyNumber (r .refusal ∷ r .count ∷ r .regions) n) ShowsCensor
+      (λ n. (refl, (refl, zeros places))) censor-shows
       (censorOf (now body)) (by-censor (now body) .numbered);
   writeCensor = λ κs list out list′. written-lent _ _ (now out) (censor-kept (now list) (now out));
   map = λ κs body s.
-      shown mapFace (λ (r : UlmMap) n. OnlyNumber (r .refusal ∷ r .date ∷ r .minutes ∷ r .elevations ∷ []) n) ShowsMap (λ n. (refl, zeros 3))
-      (λ v. record { refusal = refl; date = refl; minutes = refl; elevations = refl }) (summaryOf (now body)) (by-map (now body) .numbered);
+      shown mapFace (λ (r : UlmMap) n. OnlyNumber (r .refusal ∷ r .date ∷ r .minutes ∷ r .elevations ∷ []) n) ShowsMap
+      (λ n. (refl, zeros 3))
+      (λ v. search needs) (summaryOf (now body)) (by-map (now body) .numbered);
   mapCode = λ κs body elevation azimuth kilometre s.
-      shown mapCodeFace (λ (r : UlmMapCode) n. OnlyNumber (r .refusal ∷ r .code ∷ []) n) ShowsCode (λ n. (refl, zeros 1)) (λ v. (refl, refl))
+      shown mapCodeFace (λ (r : UlmMapCode) n. OnlyNumber (r .refusal ∷ r .code ∷ []) n) ShowsCode (λ n. (refl, zeros 1))
+      (λ v. (refl, refl))
       (codeOf (now body) elevation azimuth kilometre) (by-query (now body) elevation azimuth kilometre .numbered);
   compareMaps = λ κs old new out old′ new′.
-      shown-lent comparisonFace (λ (r : UlmComparison) n. OnlyNumber (r .refusal ∷ r .«old_elevations» ∷ r .«new_elevations» ∷ r .differences ∷ []) n) ShowsComparison
-      (λ n. (refl, zeros 3)) (λ v. record { refusal = refl; oldElevations = refl; newElevations = refl; differences = refl }) tellCompare _
+      shown-lent comparisonFace (λ (r : UlmComparison) n. OnlyNumber (r .refusal ∷ r .«old_elevations» ∷ r .«new_elevations»
+      ∷ r .differences ∷ []) n) ShowsComparison
+      (λ n. (refl, zeros 3)) (λ v. search needs) tellCompare _
       (comparisonOf (now old) (now new) (now out)) (now out) (compare-kept (now old) (now new) (now out));
 }

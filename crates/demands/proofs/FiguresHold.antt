@@ -1,23 +1,21 @@
 -- The figures, from the theorems of the crates below. Assumes nothing.
-use Prim.Native.Nat.{ℕ, zero, suc, _+_, _-_, _*_, _/_, _≤_, _<_}
+use Prim.Native.Nat.{ℕ, suc, _+_, _-_, _*_, _/_, _≤_, _<_}
 use native.Mathlib.Omega.{arith}
 use mathlib.Core.Path.{_≡_, refl, sym, ap, subst, _∙_}
 use mathlib.Core.Logic.{_⊎_, inl, inr, ⊎-elim}
 use mathlib.Core.Bool.{Bool, true, false}
 use mathlib.Core.List.{List, [], _∷_, _++_, List·Memᴰ, List·Memᴰ·cases-cons, List·Memᴰ·not-nil}
 use lib.Dec.{eqb}
-use lib.ListN.{length, getD, drop, replicate, length-append, length-replicate}
-use borrow.Author.Tests.{ltb-false, eqb-true, not-false}
+use lib.ListN.{length, drop, replicate, length-append, length-replicate}
+use borrow.Author.Tests.{eqb-true}
 use denote.Ref.{now}
 use Rattle.wire.specs.Numbers.{num, Octets}
-use Rattle.wire.specs.Tables.{render}
 use Rattle.wire.specs.Checks.{pick, among, Check, AllHold}
 use Rattle.wire.specs.Answers.{Answer, refused, given, rule, numberOf, Outcome, onward}
 use Rattle.wire.specs.Writing.{filled, roomCheck, thenRoom}
 use Rattle.wire.proofs.CheckLaws.{never, all-hold, all-hold-append}
 use Rattle.wire.proofs.AnswerLaws.{rule-given, outcome-given}
 use Rattle.wire.proofs.WriteLaws.{accepted}
-use Rattle.wire.proofs.NumberLaws.{nums-length}
 use Rattle.frame.specs.declared.Frame.{Frame}
 use Rattle.frame.specs.Session.{sessionLimit, frameChecks, Stream, end, frame, frameIn, frameAt}
 use Rattle.header.specs.Header.{radialType}
@@ -38,10 +36,12 @@ use Rattle.radial_spec.specs.Refusal.{radialOf}
 use Rattle.radial_spec.specs.Lookups.{momentNamed, momentOf}
 use Rattle.radial_spec.proofs.Accepted.{exactly}
 use Rattle.radial_spec.proofs.Finding.{found-by-name}
-use Rattle.request.specs.Request.{requestTable, requestChecks, requestWritten}
-use Rattle.censor.specs.Censor.{mostRegions, regionsChecks, count, fields, listOf, bodyChecks, censorOf, bodyOf, listChecks, censorWritten}
+use Rattle.wire.specs.Forms.{Row, times, fieldChecks, rowsOf, numbersIn, bodyChecks, readBy, listChecks, bodyBy}
+use Rattle.wire.proofs.FormLaws.{body-long, numbers-count}
+use Rattle.request.specs.Request.{requestForm, requestWritten}
+use Rattle.censor.specs.Censor.{mostRegions, regionFields, region, censorForm, count, fields, censorOf, censorWritten}
 use Rattle.censor.specs.Told.{places}
-use Rattle.censor.proofs.Halfwords.{body-length}
+use Rattle.censor.proofs.StepLaws.{few-regions, regions-long, regions-count}
 use Rattle.map_spec.specs.Map.{mostElevations, azimuths}
 use Rattle.map_spec.specs.Reading.{Summary, mapChecks, mapIn, summary, summaryOf}
 use Rattle.map_spec.proofs.Theorems.{accepted-exactly}
@@ -73,7 +73,8 @@ use Rattle.demands.specs.Demand2.{givenBy}
 use Rattle.demands.proofs.ByChecksLaws.{by-rule}
 use Rattle.demands.proofs.Inside.{map-inside}
 use Rattle.demands.proofs.Lent.{request-kept, censor-kept}
-use Rattle.demands.proofs.Written.{was-given, thirteen, written-tells, wrote-for-c, numbers, wanted, told-length, written-13}
+use Rattle.demands.proofs.ComesLaws.{was-given}
+use Rattle.demands.proofs.Written.{thirteen, written-tells, wrote-for-c, numbers, wanted, told-length, written-13}
 
 -- ---- the number that a struct holds is the answer's
 set-number : (a : Answer SetSays) → setFace a .refusal ≡ numberOf a
@@ -157,14 +158,16 @@ found-few b name m o e = go (radialOf b) refl
     go : (a : Answer Description) → radialOf b ≡ a → (gates m ≤ mostGates) × Member (m .word) wordSizes
     go (refused n) q = never (cc (sym (ap (λ (a : Answer Description). onward a (λ d. momentNamed name (d .moments))) q) ∙ e))
     go (given d) q =
-        moment-few (blockEnd (d .radialBlock)) (d .size) [] (d .moments) m (exactly b d o .0 q .0 .momentsLie) (found-by-name b d name m q .0 e .0)
+        moment-few (blockEnd (d .radialBlock)) (d .size) [] (d .moments) m (exactly b d o .0 q .0 .momentsLie)
+        (found-by-name b d name m q .0 e .0)
 
 bytes-few : (n w : ℕ) → n ≤ mostGates → Member w wordSizes → n * (w / 8) ≤ 2 * mostGates
 bytes-few n w h (inl e) = rw e (omega arith)
 bytes-few n w h (inr (inl e)) = rw e (omega arith)
 bytes-few n w h (inr (inr x)) = absurd x
 
-gates-few : (b : List ℕ) (name : ℕ) (r : UlmGates) → Octets b → r ≡ gatesFace (momentOf b name) → (r .gates ≤ mostGates) × (r .size ≤ 2 * mostGates)
+gates-few : (b : List ℕ) (name : ℕ) (r : UlmGates) → Octets b → r ≡ gatesFace (momentOf b name)
+    → (r .gates ≤ mostGates) × (r .size ≤ 2 * mostGates)
 gates-few b name r o e = subst (λ (x : UlmGates). (x .gates ≤ mostGates) × (x .size ≤ 2 * mostGates)) (sym e) (go (momentOf b name) refl)
   where
     go : (a : Answer Moment) → momentOf b name ≡ a → (gatesFace a .gates ≤ mostGates) × (gatesFace a .size ≤ 2 * mostGates)
@@ -184,41 +187,46 @@ module _ (g : Given) (body out : List ℕ) (r : UlmWritten) (e : r ≡ writtenFa
       (wanted (writeChecks g body) (framesOf g body) out refl (written-13 (writeOf g body out .answer) r e z) .1)
 
 module _ (list out : List ℕ) (r : UlmWritten) (e : r ≡ writtenFace (requestWritten list out .answer)) where
-  abbrev ofCode : List Check
-  ofCode = requestChecks (eqb (length list) 1) (getD list 0 0)
-
   request-long : r .refusal ≡ 0 → r .length ≡ 2
   unfolding requestWritten
   request-long z =
-      told-length ofCode (render (requestTable (getD list 0 0))) out r
-      (written-tells _ (requestWritten list out .answer) r (request-kept list out .byChecks) e z)
+      told-length (listChecks requestForm list) (bodyBy requestForm list) out r
+      (written-tells (requestWritten list out .answer) r (request-kept list out .byChecks .numbered) e z)
 
   request-room : r .refusal ≡ 13 → length out < 2
   unfolding requestWritten
-  request-room z = wanted ofCode (render (requestTable (getD list 0 0))) out refl (written-13 (requestWritten list out .answer) r e z) .1
+  request-room z = wanted (listChecks requestForm list) (bodyBy requestForm list) out refl
+      (written-13 (requestWritten list out .answer) r e z) .1
 
-regions-free : (n : ℕ) (l : List ℕ) → among 13 (numbers (regionsChecks n l)) ≡ false
-regions-free zero l = refl
-regions-free (suc n) l = regions-free n (drop 6 l)
+fields-free : (rs : List Row) (l : List ℕ) → among 13 (numbers (fieldChecks rs l)) ≡ false
+fields-free [] l = refl
+fields-free (r ∷ rs) l = fields-free rs (drop 1 l)
 
 -- the body of a list whose checks hold
-list-long : (list : List ℕ) → AllHold (listChecks list) → (length (bodyOf list) ≡ 2 + 12 * count list) × (count list ≤ mostRegions)
-list-long list h =
-    let l : length list ≡ 1 + 6 * count list = eqb-true (length list) (1 + 6 * count list) (not-false _ (h .1 .1 .0)) in
-    (omega (arith, body-length list, l), ltb-false mostRegions (count list) (h .1 .0))
+list-long : (list : List ℕ) → AllHold (listChecks censorForm list)
+    → (length (bodyBy censorForm list) ≡ 2 + 2 * regionFields * count list) × (count list ≤ mostRegions)
+list-long list h = (
+  body-long (rowsOf censorForm (count list)) list ∙ ap (λ (n : ℕ). 2 + n) (regions-long (count list)),
+  few-regions (count list)
+      (h .1 .0),
+)
 
 module _ (list out : List ℕ) (r : UlmWritten) (e : r ≡ writtenFace (censorWritten list out .answer)) where
-  censor-long : r .refusal ≡ 0 → (r .length ≡ 2 + 12 * count list) × (count list ≤ mostRegions)
+  abbrev checks : List Check
+  checks = listChecks censorForm list
+
+  censor-long : r .refusal ≡ 0 → (r .length ≡ 2 + 2 * regionFields * count list) × (count list ≤ mostRegions)
   unfolding censorWritten
   censor-long z =
-      let t = written-tells _ (censorWritten list out .answer) r (censor-kept list out .byChecks) e z in
-      let l = list-long list (accepted (listChecks list) (bodyOf list) out (t .size) (t .is) .0) in
-      (told-length (listChecks list) (bodyOf list) out r t ∙ l .0, l .1)
+      let t = written-tells (censorWritten list out .answer) r (censor-kept list out .byChecks .numbered) e z in
+      let l = list-long list (accepted checks (bodyBy censorForm list) out (t .size) (t .is) .0) in
+      (told-length checks (bodyBy censorForm list) out r t ∙ l .0, l .1)
 
-  censor-room : r .refusal ≡ 13 → length out < 2 + 12 * count list
+  censor-room : r .refusal ≡ 13 → length out < 2 + 2 * regionFields * count list
   unfolding censorWritten
   censor-room z =
-      let w = wanted (listChecks list) (bodyOf list) out (regions-free (count list) (fields list)) (written-13 (censorWritten list out .answer) r e z) in
+      let w = wanted checks (bodyBy censorForm list) out (fields-free (times (count list) region) (drop 1 list))
+      (written-13 (censorWritten list out .answer) r e z) in
       subst (λ (n : ℕ). length out < n) (list-long list (w .0) .0) (w .1)
 
 -- ---- regions by value
@@ -227,7 +235,8 @@ places-filled : (a : Answer (List ℕ)) → ((list : List ℕ) → a ≡ given l
 places-filled (refused n) h = (length-replicate {A = ℕ} places 0, omega arith)
 places-filled (given list) h =
     let l = h list refl in (
-      length-append (fields list) (replicate (places - length (fields list)) 0) ∙ omega (arith, length-replicate {A = ℕ} (places - length (fields list)) 0, l .0),
+      length-append (fields list) (replicate (places - length (fields list)) 0)
+          ∙ omega (arith, length-replicate {A = ℕ} (places - length (fields list)) 0, l .0),
       l .1,
     )
 
@@ -235,18 +244,19 @@ regions-fill : (body : List ℕ) (r : UlmCensor) → r ≡ censorFace (censorOf 
 unfolding censorOf
 regions-fill body r e =
     subst (λ (x : UlmCensor). (length (x .regions) ≡ places) × (x .count ≤ mostRegions)) (sym e)
-    (places-filled (rule (bodyChecks body) (listOf body))
+    (places-filled (readBy censorForm body)
     (λ list q.
-    let p = rule-given (bodyChecks body) (listOf body) list q in
-    let few : num 2 body 0 ≤ mostRegions = ltb-false mostRegions (num 2 body 0) (all-hold (bodyChecks body) (p .0) .1 .0) in
+    let p = rule-given (bodyChecks censorForm body) (numbersIn censorForm body) list q in
+    let n = num 2 body 0 in
+    let few : n ≤ mostRegions = few-regions n (all-hold (bodyChecks censorForm body) (p .0) .1 .0) in
     subst (λ (l : List ℕ). (length (fields l) ≤ places) × (count l ≤ mostRegions)) (p .1)
-    (omega (arith, few, nums-length 2 body 2 (6 * num 2 body 0)), few)))
+    (omega (arith, few, numbers-count (times n region) body 2, regions-count n), few)))
 
 -- ---- comparisons
 map-passed : (b : List ℕ) (r : UlmMap) → r ≡ mapFace (summaryOf b) → r .refusal ≡ 0 → AllHold (mapChecks b)
 map-passed b r e z =
     let h = by-rule (mapChecks b) (summary (mapIn b)) (map-inside b) in
-    let v = was-given (mapChecks b) (summaryOf b) h (sym (map-number (summaryOf b)) ∙ sym (ap (λ (x : UlmMap). x .refusal) e) ∙ z) in
+    let v = was-given (summaryOf b) (h .numbered) (sym (map-number (summaryOf b)) ∙ sym (ap (λ (x : UlmMap). x .refusal) e) ∙ z) in
     h .passed (v .0) (v .1)
 
 module _ (old new out : List ℕ) (o : Octets old) (p : Octets new) where
@@ -255,10 +265,13 @@ module _ (old new out : List ℕ) (o : Octets old) (p : Octets new) where
       room-for-all (mapIn old) (mapIn new) (accepted-exactly old o (mapIn old) .0 (map-given old h) .0)
       (accepted-exactly new p (mapIn new) .0 (map-given new k) .0)
 
-  compared-most : (r : UlmComparison) → r ≡ comparisonFace (comparisonOf old new out .answer) → r .differences ≤ mostElevations * (azimuths * mostRuns)
-  compared-most r e = subst (λ (x : UlmComparison). x .differences ≤ mostElevations * (azimuths * mostRuns)) (sym e) (go (comparisonOf old new out .answer) refl)
+  compared-most : (r : UlmComparison) → r ≡ comparisonFace (comparisonOf old new out .answer)
+      → r .differences ≤ mostElevations * (azimuths * mostRuns)
+  compared-most r e = subst (λ (x : UlmComparison). x .differences ≤ mostElevations * (azimuths * mostRuns)) (sym e)
+      (go (comparisonOf old new out .answer) refl)
     where
-      go : (a : Answer Comparison) → comparisonOf old new out .answer ≡ a → comparisonFace a .differences ≤ mostElevations * (azimuths * mostRuns)
+      go : (a : Answer Comparison) → comparisonOf old new out .answer ≡ a
+          → comparisonFace a .differences ≤ mostElevations * (azimuths * mostRuns)
       go (refused n) q = omega arith
       go (given c) q =
           let m = mapIn old in
@@ -272,14 +285,16 @@ module _ (old new out : List ℕ) (o : Octets old) (p : Octets new) where
           omega (arith, told, halfwords-length (differences m n), in-room (maps .0) (maps .1))
 
   -- two bodies that are accepted, and room for any two maps
-  compared-room : (a b : UlmMap) (r : UlmComparison) → a ≡ mapFace (summaryOf old) → a .refusal ≡ 0 → b ≡ mapFace (summaryOf new) → b .refusal ≡ 0
+  compared-room : (a b : UlmMap) (r : UlmComparison) → a ≡ mapFace (summaryOf old) → a .refusal ≡ 0 → b ≡ mapFace (summaryOf new)
+      → b .refusal ≡ 0
       → mostHalfwords ≤ length out
       → r ≡ comparisonFace (comparisonOf old new out .answer)
       → r .refusal ≡ 0
   compared-room a b r e z f y room h =
       let k = map-passed old a e z in
       let l = map-passed new b f y in
-      let c = compared-in-order old new out .enough (mapIn old) (mapIn new) (map-given old k) (map-given new l) (omega (arith, in-room k l, room)) in
+      let c = compared-in-order old new out .enough (mapIn old) (mapIn new) (map-given old k) (map-given new l)
+      (omega (arith, in-room k l, room)) in
       ap (λ (x : UlmComparison). x .refusal) (h ∙ ap (λ (x : Outcome (List ℕ) Comparison). comparisonFace (x .answer)) c)
 
 pub figures : Figures

@@ -10,6 +10,7 @@ use Rattle.wire.specs.Answers.{Answer, given, onward}
 use Rattle.radial_spec.specs.Description.{constants, Moment, Description, blockCount, RVOL, RELV, RRAD}
 use Rattle.radial_spec.specs.Refusal.{radialOf}
 use Rattle.radial_spec.specs.Lookups.{Asked, noSuch, lies, blocks, constantLying, momentLying, blockOf}
+use Rattle.radial_spec.proofs.Accepted.{withBlocks}
 use Rattle.radial.specs.Told.{headOf, shown}
 use Rattle.radial.specs.Theorems.{momentFrom, blockFrom, handed}
 use Rattle.radial.proofs.HandedLaws.{heads-taken, handed-is}
@@ -21,7 +22,8 @@ use Rattle.demands.specs.FaceOfRadial.{momentFromC, momentsFromC, fromC,
 abbrev asked : List Asked → List Moment → ℕ → UlmBlock
 asked before ms k = blockFace (given (getD (before ++ map lies (map momentLying ms)) k noSuch))
 
-run : (b : List ℕ) (before : List Asked) (ms : List Moment) → momentsFromC b (asked before ms) (length before) (length ms) ≡ map (momentFrom b) (map headOf ms)
+run : (b : List ℕ) (before : List Asked) (ms : List Moment)
+    → momentsFromC b (asked before ms) (length before) (length ms) ≡ map (momentFrom b) (map headOf ms)
 run b before [] = refl
 run b before (m ∷ ms) =
     let x = lies (momentLying m) in
@@ -48,34 +50,21 @@ faces-handed : (b : List ℕ) (d : Description) → radialOf b ≡ given d → f
 unfolding blockOf
 faces-handed b d e =
     let k = constants in
-    let before = noSuch ∷ lies (constantLying RVOL (d .volumeBlock)) ∷ lies (constantLying RELV (d .elevationBlock)) ∷ lies (constantLying RRAD (d .radialBlock)) ∷ [] in
+    let before = noSuch ∷ lies (constantLying RVOL (d .volumeBlock)) ∷ lies (constantLying RELV (d .elevationBlock)) ∷ lies
+    (constantLying RRAD (d .radialBlock)) ∷ [] in
     let count : blockCount d - k ≡ length (d .moments) = omega arith in
-    let moments : momentsFromC b (asked before (d .moments)) 4 (blockCount d - k) ≡ map (momentFrom b) (take (blockCount d - k) (shown (given d) .moments)) =
-    ap (λ (n : ℕ). momentsFromC b (asked before (d .moments)) 4 n) count ∙ run b before (d .moments) ∙ sym (ap (map (momentFrom b)) (heads-taken d))
+    let moments : momentsFromC b (asked before (d .moments)) 4 (blockCount d - k)
+    ≡ map (momentFrom b) (take (blockCount d - k) (shown (given d) .moments)) =
+    ap (λ (n : ℕ). momentsFromC b (asked before (d .moments)) 4 n) count ∙ run b before (d .moments)
+    ∙ sym (ap (map (momentFrom b)) (heads-taken d))
     in
     let whole : handed (shown (given d)) b ≡ given d =
     ap (λ (a : Answer Description). handed (shown a) b) (sym e) ∙ handed-is b (shown (radialOf b)) refl ∙ e
     in
-    ap (λ (a : Answer Description). fromC (radialFace a) (λ n. blockFace (onward a (λ x. given (getD (noSuch ∷ map lies (blocks x)) n noSuch)))) b) e
-    ∙ (λ i. record {
-      station = d .station;
-      time = d .time;
-      date = d .date;
-      azimuthNumber = d .azimuthNumber;
-      azimuth = d .azimuth;
-      size = d .size;
-      spacing = d .spacing;
-      status = d .status;
-      elevationNumber = d .elevationNumber;
-      sector = d .sector;
-      elevation = d .elevation;
-      spot = d .spot;
-      indexing = d .indexing;
-      volumeBlock = blockFrom b (shown (given d) .volume);
-      elevationBlock = blockFrom b (shown (given d) .elevation);
-      radialBlock = blockFrom b (shown (given d) .radial);
-      moments = moments i;
-    })
+    ap (λ (a : Answer Description). fromC (radialFace a)
+    (λ n. blockFace (onward a (λ x. given (getD (noSuch ∷ map lies (blocks x)) n noSuch)))) b) e
+    ∙ ap (withBlocks d (blockFrom b (shown (given d) .volume)) (blockFrom b (shown (given d) .elevation))
+    (blockFrom b (shown (given d) .radial))) moments
     ∙ cc whole
 
 -- structs that are the faces, one by one

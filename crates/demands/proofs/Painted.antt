@@ -57,7 +57,8 @@ framed-so : (s : List ℕ) (place : ℕ) (f : Frame) → given (frame f) ≡ fra
 unfolding frameAt
 framed-so s place f e = go (eqb place (length s)) e
   where
-    go : (t : Bool) → given (frame f) ≡ pick t (given end) (rule (frameChecks (drop place s)) (frame (frameIn (drop place s) place))) → Framed s place f
+    go : (t : Bool)
+        → given (frame f) ≡ pick t (given end) (rule (frameChecks (drop place s)) (frame (frameIn (drop place s) place))) → Framed s place f
     go true q = never (cc q)
     go false q =
         let p = rule-given (frameChecks (drop place s)) (frame (frameIn (drop place s) place)) (frame f) (sym q) in
@@ -89,11 +90,14 @@ wall κs₁ κs₂ κs₃ s₁ s₂ s₃ buffer message body gates place name f 
     let part = gates-so (now body) n m (w .found) in
     let fits : m .place + momentHead + gateBytes m ≤ f .size .0 - headerSize = omega (arith, lies .2, w .after .size) in
     let lent : LiesAt body gates (gatesIn m) = rw (← part) (w .lent) in
-    let inMessage = within message body gates (record { place = headerSize; size = f .size .0 - headerSize }) (gatesIn m) (w .after) lent (omega arith) in
+    let inMessage = within message body gates (record { place = headerSize; size = f .size .0 - headerSize }) (gatesIn m)
+    (w .after) lent (omega arith) in
     let inBuffer =
-    within buffer message gates (record { place = f .start; size = f .size .0 }) (record { place = headerSize + (m .place + momentHead); size = gateBytes m }) (w .taken) inMessage
+    within buffer message gates (record { place = f .start; size = f .size .0 })
+    (record { place = headerSize + (m .place + momentHead); size = gateBytes m }) (w .taken) inMessage
     (omega arith) in (
-      same-place buffer gates (record { place = f .start + (headerSize + (m .place + momentHead)); size = gateBytes m }) (onTheWall place m) (omega (arith, F .starts)) refl inBuffer,
+      same-place buffer gates (record { place = f .start + (headerSize + (m .place + momentHead)); size = gateBytes m })
+          (onTheWall place m) (omega (arith, F .starts)) refl inBuffer,
       omega (arith, F .ends),
       omega (arith, F .ends, F .inside),
       lent .bytes ∙ gate-words (now body) n m (w .bytes) (w .found) .1,

@@ -49,7 +49,12 @@ kept-gates body name = record {
 
 pub kept-lent-gates : (body : RefT (List ℕ)) (name : ℕ) → KeptLentGates body name
 kept-lent-gates body name = record {
-  met = λ o. record { number = refl; gates = refl; part = cut-lies body (partOf (gatesOf (now body) name)) (part-inside (now body) name o) };
+  met = λ o. record {
+    number = refl;
+    gates = refl;
+    part = cut-lies body (partOf (gatesOf (now body) name))
+        (part-inside (now body) name o);
+  };
   only = λ r r₂. same-lent body name r r₂;
   empty = λ r n l e. (l .number ∙ ap numberOf e, l .gates ∙ ap countOf e, l .part .size ∙ refused-part (now body) name n e);
 }

@@ -12,14 +12,15 @@ use Rattle.wire.specs.Sizes.{bytes}
 use Rattle.wire.specs.declared.Bytes.{Bytes}
 use Rattle.wire.proofs.CheckLaws.{all-hold}
 use Rattle.wire.proofs.AnswerLaws.{rule-given}
-use Rattle.frame.specs.Session.{headSize, sizeIn}
+use Rattle.frame.specs.Session.{headSize, wholeLong}
 use Rattle.frame.proofs.Theorems.{head-stands}
 use Rattle.header.specs.Header.{headerSize}
 use Rattle.header.specs.declared.Header.{Header}
 use Rattle.header.proofs.Theorems.{header-stands}
 use Rattle.request.proofs.Theorems.{body-is-table}
 use Rattle.censor.specs.declared.Censor.{Censor}
-use Rattle.censor.specs.Censor.{bodyOf, censorOf}
+use Rattle.wire.specs.Forms.{bodyBy}
+use Rattle.censor.specs.Censor.{regionFields, censorForm, censorOf}
 use Rattle.censor.specs.Told.{shown, tellCensor}
 use Rattle.censor.proofs.Theorems.{struct-tells, body-is-table as zones-are-table}
 use Rattle.map_spec.specs.Reading.{Summary, mapChecks, mapIn, summary, summaryOf}
@@ -44,16 +45,17 @@ use Rattle.demands.proofs.Written.{wrote-for-c}
 
 -- ---- a segment where it lies
 segment-lies : (b : List ℕ) (at : ℕ) (p : Placed) → given p ≡ segmentAt b at
-    → (p .start ≡ at + (headSize + headerSize)) × (p .next ≡ at + (headSize + sizeIn (drop at b) .0))
+    → (p .start ≡ at + (headSize + headerSize)) × (p .next ≡ at + wholeLong (drop at b))
 unfolding segmentAt
 segment-lies b at p e =
     let q = rule-given (ownChecks (drop at b)) (placedIn (drop at b) at) p (sym e) .1 in
     (sym (ap (λ (x : Placed). x .start) q), sym (ap (λ (x : Placed). x .next) q))
 
 -- ---- message 8: the struct tells the list
-censor-stands : (body : List ℕ) (r : Censor) → Octets body → r ≡ shown (censorOf body) → r .number ≡ 0 → body ≡ bodyOf (r .count ∷ take (6 * r .count) (r .regions))
+censor-stands : (body : List ℕ) (r : Censor) → Octets body → r ≡ shown (censorOf body) → r .number ≡ 0
+    → body ≡ bodyBy censorForm (r .count ∷ take (regionFields * r .count) (r .regions))
 censor-stands body r o e z =
-    let list = r .count ∷ take (6 * r .count) (r .regions) in
+    let list = r .count ∷ take (regionFields * r .count) (r .regions) in
     let told : tellCensor r ≡ given list = ap (λ (n : ℕ). pick (eqb n 0) (given list) (refused (r .number))) z in
     zones-are-table body list o (sym (struct-tells body) ∙ ap tellCensor (sym e) ∙ told)
 
@@ -89,12 +91,14 @@ module _ (frames out : List ℕ) (h : Header) (long : Bytes) (after : List ℕ) 
   joined j =
       let e = accepted-exactly-if-whole frames out h (j .body) .1 (j .whole, j .room) in
       record {
-        answers = ap (λ (l : Bytes). given (record { header = h; long = l })) (j .told) ∙ sym (ap (λ (o : Outcome (List ℕ) SetSays). o .answer) e);
+        answers = ap (λ (l : Bytes). given (record { header = h; long = l })) (j .told)
+            ∙ sym (ap (λ (o : Outcome (List ℕ) SetSays). o .answer) e);
         leaves = j .left ∙ sym (ap (λ (o : Outcome (List ℕ) SetSays). o .output) e);
       }
 
 -- ---- written and read again
-module _ (g : Given) (body out room : List ℕ) (size : Bytes) (written frames : List ℕ) (fits : Fits g) (e : writeOf g body out .answer ≡ given size)
+module _ (g : Given) (body out room : List ℕ) (size : Bytes) (written frames : List ℕ) (fits : Fits g)
+    (e : writeOf g body out .answer ≡ given size)
     (l : written ≡ writeOf g body out .output) (f : frames ≡ take (size .0) written) (h : length body ≤ length room) where
   set-back : setOf frames room ≡ accepted (headerBack g body) body room
   set-back = ap (λ (x : List ℕ). setOf x room) (f ∙ ap (λ (x : List ℕ). take (size .0) x) l) ∙ round-trip g body out room size fits e h
@@ -125,11 +129,13 @@ demand2 = record {
   segment = λ κs frames at h start next s l. segment-lies (now frames) at (record { header = h; start = start; next = next }) l;
   request = λ κs body code s o l. body-is-table (now body) code o (sym l);
   censor = λ κs body r s o l z. censor-stands (now body) r o l z;
-  map = λ κs body date minutes elevations s o l. map-stands (now body) (record { date = date; minutes = minutes; elevations = elevations }) o l;
+  map = λ κs body date minutes elevations s o l. map-stands (now body)
+      (record { date = date; minutes = minutes; elevations = elevations }) o l;
   whole = λ κs frames out h long f after. (joins (now frames) (now out) h long after, joined (now frames) (now out) h long after);
   back = λ κs given body out size g b written κs′ frames room r f after fits w same h l.
       let e = set-back given (now body) (now out) (now room) size written (now frames) fits (sym (w .answers)) (w .leaves) same h in (
-        set-apart r (Set (headerBack given (now body)) (bytes (length (now body)))) (l .answers ∙ ap (λ (o : Outcome (List ℕ) SetSays). o .answer) e),
+        set-apart r (Set (headerBack given (now body)) (bytes (length (now body)))) (l .answers
+            ∙ ap (λ (o : Outcome (List ℕ) SetSays). o .answer) e),
         l .leaves ∙ ap (λ (o : Outcome (List ℕ) SetSays). o .output) e,
       );
   backInC = λ κs channel kind sequence date ms body out r c k q d m b written κs′ frames room a f after fits w z same h l.

@@ -29,7 +29,8 @@ use Rattle.demands.specs.Demand3.{SameFromEach, ButUnnamed, Demand3}
 use Rattle.demands.proofs.HandedToC.{handed-to-c}
 
 -- the bytes of the part are the same, where it is given, and none where it is refused
-same-bytes : (b b′ : List ℕ) (a : Answer Part) → ((p : Part) → a ≡ given p → bytesIn b′ p ≡ bytesIn b p) → bytesIn b (partOf a) ≡ bytesIn b′ (partOf a)
+same-bytes : (b b′ : List ℕ) (a : Answer Part) → ((p : Part) → a ≡ given p → bytesIn b′ p ≡ bytesIn b p)
+    → bytesIn b (partOf a) ≡ bytesIn b′ (partOf a)
 same-bytes b b′ (refused n) f = refl
 same-bytes b b′ (given p) f = sym (f p refl)
 
@@ -44,7 +45,8 @@ module _ (body body′ : RefT (List ℕ)) (d : Description) (u : ButUnnamed (now
   same = unnamed b b′ d (u .octets) (u .long) (u .accepted) (u .named)
 
   -- a constant block that was told is the rule's, so its bytes are the same
-  same-block : (k : ℕ) (l : Lying) (a : Answer Asked) → blockOf b k ≡ a → given (some (record { name = l .name; place = l .place; size = l .size; head = none })) ≡ blockShown a
+  same-block : (k : ℕ) (l : Lying) (a : Answer Asked) → blockOf b k ≡ a
+      → given (some (record { name = l .name; place = l .place; size = l .size; head = none })) ≡ blockShown a
       → bytesIn b′ (record { place = l .place; size = l .size }) ≡ bytesIn b (record { place = l .place; size = l .size })
   same-block k l (refused n) e p = never (cc p)
   same-block k l (given noSuch) e p = never (cc p)
@@ -52,12 +54,14 @@ module _ (body body′ : RefT (List ℕ)) (d : Description) (u : ButUnnamed (now
       let t : _≡_ {A = Told} (record { name = l .name; place = l .place; size = l .size; head = none })
       (record { name = x .name; place = x .place; size = x .size; head = headIfAny (x .moment) })
       = cc p in
-      (λ i. bytesIn b′ (record { place = t i .place; size = t i .size })) ∙ same .whole k x e ∙ (λ i. bytesIn b (record { place = sym t i .place; size = sym t i .size }))
+      (λ i. bytesIn b′ (record { place = t i .place; size = t i .size })) ∙ same .whole k x e
+      ∙ (λ i. bytesIn b (record { place = sym t i .place; size = sym t i .size }))
 
   same-part : (name : ℕ) → partOf (gatesOf b name) ≡ partOf (gatesOf b′ name)
   same-part name = ap partOf (sym (same .gates name))
 
-  same-words : (name : ℕ) (r r′ : RefT (List ℕ)) → LiesAt body r (partOf (gatesOf b name)) → LiesAt body′ r′ (partOf (gatesOf b′ name)) → now r ≡ now r′
+  same-words : (name : ℕ) (r r′ : RefT (List ℕ)) → LiesAt body r (partOf (gatesOf b name))
+      → LiesAt body′ r′ (partOf (gatesOf b′ name)) → now r ≡ now r′
   same-words name r r′ p q =
       p .bytes ∙ same-bytes b b′ (gatesOf b name) (same .codes name) ∙ ap (λ (x : Part). bytesIn b′ x) (same-part name) ∙ sym (q .bytes)
 
@@ -87,7 +91,8 @@ module _ (body body′ : RefT (List ℕ)) (d : Description) (u : ButUnnamed (now
   }
 
 -- the part of the moment that is found
-words : (body r : RefT (List ℕ)) (name : ℕ) (m : Moment) → Octets (now body) → momentOf (now body) name ≡ given m → LiesAt body r (partOf (gatesOf (now body) name))
+words : (body r : RefT (List ℕ)) (name : ℕ) (m : Moment) → Octets (now body) → momentOf (now body) name ≡ given m
+    → LiesAt body r (partOf (gatesOf (now body) name))
     → now r ≡ render (map (field (wordBytes m)) (m .codes))
 unfolding gatesOf
 words body r name m o e l =
@@ -103,7 +108,8 @@ demand3 = record {
   handedToC = handed-to-c;
   found = found-by-name;
   none = none-named;
-  lookedUp = λ κs body name r s d m e i n l. moment-apart r (Found (headOf m)) (l ∙ ap headShown (found-by-name (now body) d (num 4 name 0) m e .1 (i, n)));
+  lookedUp = λ κs body name r s d m e i n l. moment-apart r (Found (headOf m)) (l
+      ∙ ap headShown (found-by-name (now body) d (num 4 name 0) m e .1 (i, n)));
   words = λ κs body name r s m o e l. words body r (num 4 name 0) m o e l;
   named = named-exactly;
   places = unnamed-places;

@@ -42,11 +42,13 @@ ends c = comes tellCompare compare-apart comparisonFace (right c)
 the-list : (old new : List ℕ) (m n : FilterMap) (ds : List Difference) → Good old new m n ds → ds ≡ differences m n
 the-list old new m n ds g = compared-exactly m n ds .1 (g .compared)
 
-the-size : (old new : List ℕ) (m n : FilterMap) (ds : List Difference) → Good old new m n ds → length (halfwords (differences m n)) ≡ 6 * length ds
+the-size : (old new : List ℕ) (m n : FilterMap) (ds : List Difference) → Good old new m n ds
+    → length (halfwords (differences m n)) ≡ 6 * length ds
 the-size old new m n ds g =
     subst (λ (l : List Difference). length (halfwords l) ≡ 6 * length ds) (the-list old new m n ds g) (halfwords-length ds)
 
-too-little : (c : Call) (m n : FilterMap) (ds : List Difference) → Good (now (c .old)) (now (c .new)) m n ds → length (now (c .out)) < 6 * length ds
+too-little : (c : Call) (m n : FilterMap) (ds : List Difference) → Good (now (c .old)) (now (c .new)) m n ds
+    → length (now (c .out)) < 6 * length ds
     → Refuses c 13
 too-little c m n ds g h =
     ends c (Refused 13) (now (c .out))
@@ -74,7 +76,8 @@ turned old new out f =
     let m = f .m in
     let n = f .n in
     let ds : List Difference = map swappedRun (f .ds) in
-    let same : ds ≡ differences n m = ap (λ (l : List Difference). map swappedRun l) (the-list old new m n (f .ds) (f .good)) ∙ sym (swapped m n) in
+    let same : ds ≡ differences n m = ap (λ (l : List Difference). map swappedRun l) (the-list old new m n (f .ds) (f .good))
+    ∙ sym (swapped m n) in
     record {
       m = n;
       n = m;
@@ -95,17 +98,24 @@ fits old new out v e =
     let m = mapIn old in
     let n = mapIn new in
     let list = halfwords (differences m n) in
-    let all = all-hold-append (mapChecks old ++ mapChecks new) (roomCheck (length out) list ∷ []) (compare-kept old new out .byChecks .passed v e) in
+    let all = all-hold-append (mapChecks old ++ mapChecks new) (roomCheck (length out) list ∷ [])
+    (compare-kept old new out .byChecks .passed v e) in
     let maps = all-hold-append (mapChecks old) (mapChecks new) (all .0) in
     record {
       m = m;
       n = n;
       ds = differences m n;
-      good = record { inOld = map-given old (maps .0); inNew = map-given new (maps .1); compared = compared-exactly m n (differences m n) .0 refl };
+      good = record {
+        inOld = map-given old (maps .0);
+        inNew = map-given new (maps .1);
+        compared = compared-exactly m n
+            (differences m n) .0 refl;
+      };
       room = omega (arith, ltb-false (length out) (length list) (all .1 .0), halfwords-length (differences m n));
     }
 
-most : (old new : List ℕ) (m n : FilterMap) (ds : List Difference) → Octets old → Octets new → Good old new m n ds → 6 * length ds ≤ mostHalfwords
+most : (old new : List ℕ) (m n : FilterMap) (ds : List Difference) → Octets old → Octets new → Good old new m n ds
+    → 6 * length ds ≤ mostHalfwords
 most old new m n ds o p g =
     let r = accepted-exactly old o m .0 (g .inOld) .0 in
     let s = accepted-exactly new p n .0 (g .inNew) .0 in
@@ -115,7 +125,8 @@ most old new m n ds o p g =
 abbrev undatedMap : List (List (List Zone)) → FilterMap
 undatedMap elevations = record { date = 0; minutes = 0; elevations = elevations }
 
-undated : (c d : Call) → ButDate (now (c .old)) (now (d .old)) → ButDate (now (c .new)) (now (d .new)) → now (c .out) ≡ now (d .out) → right c ≡ right d
+undated : (c d : Call) → ButDate (now (c .old)) (now (d .old)) → ButDate (now (c .new)) (now (d .new))
+    → now (c .out) ≡ now (d .out) → right c ≡ right d
 undated c d f g same =
     both-good (now (c .old)) (now (c .new)) (now (c .out)) (f .m) (g .m) (f .stands) (g .stands)
     ∙ (λ i. answered (same i) (undatedMap (f .same i)) (undatedMap (g .same i)))
@@ -128,8 +139,10 @@ two-maps = record {
     meets = compared-exactly m n (differences m n) .0 refl;
     only = λ ds c. compared-exactly m n ds .1 c;
   };
-  oldBad = λ c number e. ends c (Refused number) (now (c .out)) (refused-in-order (now (c .old)) (now (c .new)) (now (c .out)) .oldBad number e);
-  newBad = λ c m number e f. ends c (Refused number) (now (c .out)) (refused-in-order (now (c .old)) (now (c .new)) (now (c .out)) .newBad m number e f);
+  oldBad = λ c number e. ends c (Refused number) (now (c .out)) (refused-in-order (now (c .old)) (now (c .new))
+      (now (c .out)) .oldBad number e);
+  newBad = λ c m number e f. ends c (Refused number) (now (c .out)) (refused-in-order (now (c .old)) (now (c .new))
+      (now (c .out)) .newBad m number e f);
   tooLittle = too-little;
   listed = listed;
   accepted = λ c older newer count after p. fits (now (c .old)) (now (c .new)) (now (c .out)) _ (sym (p .answers));
@@ -141,5 +154,6 @@ two-maps = record {
   itself = itself;
   swap = λ c f. listed c (turned (now (c .new)) (now (c .old)) (now (c .out)) f);
   undated = λ c d f g same answer struct left e.
-      subst (λ (o : Outcome (List ℕ) Comparison). Comes (Promise tellCompare o) (Leaves comparisonFace o) answer struct left) (undated c d f g same) e;
+      subst (λ (o : Outcome (List ℕ) Comparison). Comes (Promise tellCompare o) (Leaves comparisonFace o) answer struct left)
+      (undated c d f g same) e;
 }

@@ -24,11 +24,11 @@ use Rattle.gate_value.specs.Cases.{two, sixtySix}
 use Rattle.map_spec.specs.Reading.{codeOf}
 use Rattle.map_spec.specs.Cases.{body13}
 
--- a question, and its answer last
+-- a question, with its right answer as the last argument
 pub data Case : Type 0 where
   stream : (buffer : List ℕ) (place : ℕ) → Answer Stream → Case
   header : (message : List ℕ) → Answer Header → Case
-  -- a set, or a request written, with what the output holds before and then
+  -- a set, or a request to write; the outcome says what the output then holds
   set : (frames out : List ℕ) → Outcome (List ℕ) SetSays → Case
   write : (body out : List ℕ) → Outcome (List ℕ) Bytes → Case
   -- a body written for the request: the writer's answer alone, and the sizes in the headers of its frames
@@ -146,6 +146,6 @@ bodyCases =
 abbrev pub starred : List Case
 starred = frameCases ++ (setCases ++ bodyCases)
 
--- of every case the rule says what is right
+-- in every case the rule gives the right answer
 abbrev pub Starred : Type 0
 Starred = map found starred ≡ map right starred

@@ -1,6 +1,6 @@
--- Demand 3. "A radial body is accepted exactly if some description meets document 01's layout for a body of that length, stated apart from any
--- reader, and agrees with the body at every byte that it names. Then there is only one, and it is what we hand over. With the length kept, altering
--- any byte that the description does not name alters no answer about that radial."
+-- Demand 3. "A radial body is accepted exactly if some description meets [the] layout for a body of that length, stated apart from
+-- any reader, and agrees with the body at every byte that it names. Then there is only one, and it is what we hand over. With the length
+-- kept, altering any byte that the description does not name alters no answer about that radial."
 use Prim.Native.Nat.{ℕ}
 use mathlib.Core.Path.{_≡_}
 use mathlib.Core.Logic.{_↔_}
@@ -42,7 +42,8 @@ pub record SameFromEach (body body′ : RefT (List ℕ)) : Type 0 where
   pub heading : (κs κs′ r r′ s s′ : _) → read-heading.Learnt κs (body, tt) r s → read-heading.Learnt κs′ (body′, tt) r′ s′ → r ≡ r′
   pub reader : (κs κs′ r r′ s s′ : _) → read-radial.Learnt κs (body, tt) r s → read-radial.Learnt κs′ (body′, tt) r′ s′ → r ≡ r′
   -- `moment`, `block`, and the bytes of a constant block, "kept whole"
-  pub moment : (κs κs′ name r r′ s s′ : _) → moment-of.Learnt κs (body, (name, tt)) r s → moment-of.Learnt κs′ (body′, (name, tt)) r′ s′ → r ≡ r′
+  pub moment : (κs κs′ name r r′ s s′ : _) → moment-of.Learnt κs (body, (name, tt)) r s
+      → moment-of.Learnt κs′ (body′, (name, tt)) r′ s′ → r ≡ r′
   pub block : (κs κs′ k r r′ s s′ : _) → block-at.Learnt κs (body, (k, tt)) r s → block-at.Learnt κs′ (body′, (k, tt)) r′ s′ → r ≡ r′
   pub whole : (κs k s : _) (l : Lying) → block-at.Learnt κs (body, (k, tt)) (Constant l) s
       → bytesIn (now body′) (record { place = l .place; size = l .size }) ≡ bytesIn (now body) (record { place = l .place; size = l .size })
@@ -50,15 +51,18 @@ pub record SameFromEach (body body′ : RefT (List ℕ)) : Type 0 where
   pub gates : (κs κs′ name r r′ s s′ : _) → gates-of.Learnt κs (body, (name, tt)) r s → gates-of.Learnt κs′ (body′, (name, tt)) r′ s′
       → (partOf (gatesOf (now body) (num 4 name 0)) ≡ partOf (gatesOf (now body′) (num 4 name 0))) × (now r ≡ now r′)
   pub lent : (name : ℕ) (r r′ : LentGates) → Lent body name r → Lent body′ name r′
-      → (r .number ≡ r′ .number) × (r .gates ≡ r′ .gates) × (partOf (gatesOf (now body) name) ≡ partOf (gatesOf (now body′) name)) × (now (r .part) ≡ now (r′ .part))
+      → (r .number ≡ r′ .number) × (r .gates ≡ r′ .gates) × (partOf (gatesOf (now body) name) ≡ partOf (gatesOf (now body′) name))
+      × (now (r .part) ≡ now (r′ .part))
   -- `code`, `gate_value`
-  pub code : (κs κs′ name gate r r′ s s′ : _) → code-of.Learnt κs (body, (name, (gate, tt))) r s → code-of.Learnt κs′ (body′, (name, (gate, tt))) r′ s′ → r ≡ r′
+  pub code : (κs κs′ name gate r r′ s s′ : _) → code-of.Learnt κs (body, (name, (gate, tt))) r s
+      → code-of.Learnt κs′ (body′, (name, (gate, tt))) r′ s′ → r ≡ r′
   pub gate : (κs κs′ name gate r r′ s s′ : _)
       → gate-value.Learnt κs (body, (name, (gate, tt))) r s → gate-value.Learnt κs′ (body′, (name, (gate, tt))) r′ s′ → r ≡ r′
   -- `ulm_radial`, `ulm_block`, `ulm_gates`, `ulm_gate`
   pub radialForC : (κs κs′ r r′ s s′ : _) → ulm-radial.Learnt κs (body, tt) r s → ulm-radial.Learnt κs′ (body′, tt) r′ s′ → r ≡ r′
   pub blockForC : (κs κs′ k r r′ s s′ : _) → ulm-block.Learnt κs (body, (k, tt)) r s → ulm-block.Learnt κs′ (body′, (k, tt)) r′ s′ → r ≡ r′
-  pub gatesForC : (κs κs′ name r r′ s s′ : _) → ulm-gates.Learnt κs (body, (name, tt)) r s → ulm-gates.Learnt κs′ (body′, (name, tt)) r′ s′ → r ≡ r′
+  pub gatesForC : (κs κs′ name r r′ s s′ : _) → ulm-gates.Learnt κs (body, (name, tt)) r s
+      → ulm-gates.Learnt κs′ (body′, (name, tt)) r′ s′ → r ≡ r′
   pub gateForC : (κs κs′ name gate r r′ s s′ : _)
       → ulm-gate.Learnt κs (body, (name, (gate, tt))) r s → ulm-gate.Learnt κs′ (body′, (name, (gate, tt))) r′ s′ → r ≡ r′
 
@@ -76,12 +80,15 @@ pub record Demand3 : Type 0 where
   pub handed : (κs body r s : _) (d : Description) → Octets (now body) → read-radial.Learnt κs (body, tt) r s
       → (handed r (now body) ≡ given d) ↔ (Layout (length (now body)) d × Agrees (now body) d)
   pub handedToC : HandedToC
-  -- each moment of the description is found under its own name, and nothing else is; its gates are handed over as the rendering of its codes
+  -- each moment of the description is found under its own name, and nothing else is; its gates are handed over as the rendering of its
+  -- codes
   pub found : FoundByName
   pub none : NoneNamed
-  pub lookedUp : (κs body name r s : _) (d : Description) (m : Moment) → radialOf (now body) ≡ given d → List·Memᴰ m (d .moments) → m .name ≡ num 4 name 0
+  pub lookedUp : (κs body name r s : _) (d : Description) (m : Moment) → radialOf (now body) ≡ given d → List·Memᴰ m (d .moments)
+      → m .name ≡ num 4 name 0
       → moment-of.Learnt κs (body, (name, tt)) r s → r ≡ Found (headOf m)
-  pub words : (κs body name r s : _) (m : Moment) → Octets (now body) → momentOf (now body) (num 4 name 0) ≡ given m → gates-of.Learnt κs (body, (name, tt)) r s
+  pub words : (κs body name r s : _) (m : Moment) → Octets (now body) → momentOf (now body) (num 4 name 0) ≡ given m
+      → gates-of.Learnt κs (body, (name, tt)) r s
       → now r ≡ render (map (field (wordBytes m)) (m .codes))
   -- what the description names, and what it does not
   pub named : NamedExactly

@@ -1,6 +1,7 @@
--- Demand 1 for the C face, and that each member of each struct is the rule's value of that name. For every call of each `ulm_` function exactly one
--- struct meets its contract; a refusal's struct holds the rule's number, which is of the table and so not 0, and 0 in every other member (a stream
--- keeps the place that was given), and leaves what was lent as it was; where nothing is refused the number is 0, and each member is said below.
+-- Demand 1 for the C face, and that each member of each struct is the rule's value of that name. For every call of each `ulm_` function
+-- exactly one struct meets its contract; a refusal's struct holds the rule's number, which is of the table and so not 0, and 0 in every
+-- other member (a stream keeps the place that was given), and leaves what was lent as it was; where nothing is refused the number is 0, and
+-- each member is said below.
 use Prim.Native.Nat.{ℕ, _+_}
 use mathlib.Core.Path.{_≡_}
 use mathlib.Core.Option.{Option, none, some}
@@ -64,15 +65,17 @@ abbrev pub OnlyNumber : List ℕ → ℕ → Type 0
 OnlyNumber [] n = ⊥
 OnlyNumber (x ∷ xs) n = (x ≡ n) × Each (λ (y : ℕ). y ≡ 0) xs
 
--- ---- a function by the property P of a struct that its contract is: `Blank r n` is what a refusal's struct holds, `Shows r v` names each member of
+-- ---- a function by the property P of a struct that its contract is: `Blank r n` is what a refusal's struct holds, `Shows r v` names each
+-- member of
 -- one that shows v
 pub record Shown {R A : Type 0} (P : R → Type 0) (Blank : R → ℕ → Type 0) (Shows : R → A → Type 0) (right : Answer A) : Type 0 where
   pub one : One P
   pub refuses : (r : R) (n : ℕ) → P r → right ≡ refused n → Blank r n × OfTheTable n
   pub accepts : (r : R) (v : A) → P r → right ≡ given v → Shows r v
 
--- the same of a function that writes to what was lent, which held `out`
-pub record ShownLent {R O A : Type 0} (P : R → O → Type 0) (Blank : R → ℕ → Type 0) (Shows : R → A → Type 0) (right : Outcome O A) (out : O) : Type 0 where
+-- the same for a function that writes to lent memory, which held `out`
+pub record ShownLent {R O A : Type 0} (P : R → O → Type 0) (Blank : R → ℕ → Type 0) (Shows : R → A → Type 0) (right : Outcome O A)
+    (out : O) : Type 0 where
   pub one : One (λ (p : R × O). P (p .0) (p .1))
   pub refuses : (r : R) (after : O) (n : ℕ) → P r after → right .answer ≡ refused n → Blank r n × OfTheTable n × (after ≡ out)
   pub accepts : (r : R) (after : O) (v : A) → P r after → right .answer ≡ given v → Shows r v × (after ≡ right .output)
@@ -84,7 +87,8 @@ BlankFrame place r n = OnlyNumber (r .refusal ∷ r .found ∷ r .kind ∷ r .se
 
 pub data ShowsFrame (place : ℕ) (r : UlmFrame) : Stream → Type 0 where
   atEnd : BlankFrame place r 0 → ShowsFrame place r end
-  read : (f : Frame) → (r .refusal ≡ 0) × (r .found ≡ 1) × (r .kind ≡ f .kind) × (r .second ≡ f .second) × (r .start ≡ f .start) × (r .size ≡ f .size .0) × (r .next ≡ f .next)
+  read : (f : Frame) → (r .refusal ≡ 0) × (r .found ≡ 1) × (r .kind ≡ f .kind) × (r .second ≡ f .second) × (r .start ≡ f .start)
+      × (r .size ≡ f .size .0) × (r .next ≡ f .next)
       → ShowsFrame place r (frame f)
 
 abbrev pub headerMembers : UlmHeader → List ℕ
@@ -156,7 +160,8 @@ pub record ShowsRadial (r : UlmRadial) (d : Description) : Type 0 where
 
 abbrev pub blockMembers : UlmBlock → List ℕ
 blockMembers r =
-    r .refusal ∷ r .found ∷ r .name ∷ r .reserved ∷ r .gates ∷ r .first ∷ r .interval ∷ r .overlay ∷ r .noise ∷ r .flags ∷ r .word ∷ r .scale
+    r .refusal ∷ r .found ∷ r .name ∷ r .reserved ∷ r .gates ∷ r .first ∷ r .interval ∷ r .overlay ∷ r .noise ∷ r .flags ∷ r .word
+    ∷ r .scale
     ∷ r .offset ∷ r .start ∷ r .size ∷ []
 
 -- of a moment its head besides; of a constant block 0 in those members
@@ -229,45 +234,62 @@ pub record ShowsComparison (r : UlmComparison) (c : Comparison) : Type 0 where
 
 -- ---- every function of the C face, by its name in include/ulm.h
 pub record FaceOfC : Type 0 where
-  pub frame : (κs buf place s : _) → Shown (λ r. ulm-frame.Learnt κs (buf, (place, tt)) r s) (BlankFrame place) (ShowsFrame place) (frameAt (now buf) place)
+  pub frame : (κs buf place s : _) → Shown (λ r. ulm-frame.Learnt κs (buf, (place, tt)) r s) (BlankFrame place) (ShowsFrame place)
+      (frameAt (now buf) place)
   pub header : (κs msg s : _)
-      → Shown (λ r. ulm-header.Learnt κs (msg, tt) r s) (λ (r : UlmHeader) n. OnlyNumber (headerMembers r) n) ShowsHeader (headerOf (now msg))
+      → Shown (λ r. ulm-header.Learnt κs (msg, tt) r s) (λ (r : UlmHeader) n. OnlyNumber (headerMembers r) n) ShowsHeader
+      (headerOf (now msg))
   pub set : (κs buf out buf′ : _)
-      → ShownLent (λ r after. ulm-set.Learnt κs (buf, (out, tt)) r (buf′, (at-last out after, tt))) (λ (r : UlmSet) n. OnlyNumber (setMembers r) n) ShowsSet
+      → ShownLent (λ r after. ulm-set.Learnt κs (buf, (out, tt)) r (buf′, (at-last out after, tt)))
+      (λ (r : UlmSet) n. OnlyNumber (setMembers r) n) ShowsSet
       (setOf (now buf) (now out)) (now out)
   pub salvage : (κs buf out runs buf′ : _)
-      → ShownLent (λ r after. ulm-salvage.Learnt κs (buf, (out, (runs, tt))) r (buf′, (at-last out (after .0), (at-last runs (after .1), tt))))
+      → ShownLent (λ r after. ulm-salvage.Learnt κs (buf, (out, (runs, tt))) r
+      (buf′, (at-last out (after .0), (at-last runs (after .1), tt))))
       (λ (r : UlmSalvage) n. OnlyNumber (salvageMembers r) n) ShowsSalvage (salvageOf (now buf) (now out) (now runs)) (now out, now runs)
   pub write : (κs channel kind sequence date ms body out channel′ kind′ sequence′ date′ ms′ body′ : _)
       → ShownLent
-      (λ r after. ulm-write.Learnt κs (channel, (kind, (sequence, (date, (ms, (body, (out, tt))))))) r (channel′, (kind′, (sequence′, (date′, (ms′, (body′, (at-last out after, tt))))))))
+      (λ r after. ulm-write.Learnt κs (channel, (kind, (sequence, (date, (ms, (body, (out, tt))))))) r
+      (channel′, (kind′, (sequence′, (date′, (ms′, (body′, (at-last out after, tt))))))))
       (λ (r : UlmWritten) n. OnlyNumber (writtenMembers r) n) ShowsWritten
-      (writeOf (record { channel = channel; kind = kind; sequence = sequence; date = date; milliseconds = ms }) (now body) (now out)) (now out)
+      (writeOf (record { channel = channel; kind = kind; sequence = sequence; date = date; milliseconds = ms }) (now body)
+      (now out)) (now out)
   pub radial : (κs body s : _)
-      → Shown (λ r. ulm-radial.Learnt κs (body, tt) r s) (λ (r : UlmRadial) n. OnlyNumber (radialMembers r) n) ShowsRadial (radialOf (now body))
+      → Shown (λ r. ulm-radial.Learnt κs (body, tt) r s) (λ (r : UlmRadial) n. OnlyNumber (radialMembers r) n) ShowsRadial
+      (radialOf (now body))
   pub block : (κs body k s : _)
-      → Shown (λ r. ulm-block.Learnt κs (body, (k, tt)) r s) (λ (r : UlmBlock) n. OnlyNumber (blockMembers r) n) ShowsBlock (blockOf (now body) k)
+      → Shown (λ r. ulm-block.Learnt κs (body, (k, tt)) r s) (λ (r : UlmBlock) n. OnlyNumber (blockMembers r) n) ShowsBlock
+      (blockOf (now body) k)
   pub gates : (κs body name s : _)
-      → Shown (λ r. ulm-gates.Learnt κs (body, (name, tt)) r s) (λ (r : UlmGates) n. OnlyNumber (gatesMembers r) n) ShowsGates (momentOf (now body) name)
+      → Shown (λ r. ulm-gates.Learnt κs (body, (name, tt)) r s) (λ (r : UlmGates) n. OnlyNumber (gatesMembers r) n) ShowsGates
+      (momentOf (now body) name)
   pub gate : (κs body name gate s : _)
-      → Shown (λ r. ulm-gate.Learnt κs (body, (name, (gate, tt))) r s) (λ (r : UlmGate) n. OnlyNumber (gateMembers r) n) ShowsWorth (gateOf (now body) name gate)
+      → Shown (λ r. ulm-gate.Learnt κs (body, (name, (gate, tt))) r s) (λ (r : UlmGate) n. OnlyNumber (gateMembers r) n)
+      ShowsWorth (gateOf (now body) name gate)
   pub value : (κs code scale offset s : _)
-      → Shown (λ r. ulm-value.Learnt κs (code, (scale, (offset, tt))) r s) (λ (r : UlmGate) n. OnlyNumber (gateMembers r) n) ShowsWorth (valueOf code scale offset)
+      → Shown (λ r. ulm-value.Learnt κs (code, (scale, (offset, tt))) r s) (λ (r : UlmGate) n. OnlyNumber (gateMembers r) n)
+      ShowsWorth (valueOf code scale offset)
   pub request : (κs body s : _)
-      → Shown (λ r. ulm-request.Learnt κs (body, tt) r s) (λ (r : UlmRequest) n. OnlyNumber (r .refusal ∷ r .code ∷ []) n) ShowsRequest (requestOf (now body))
+      → Shown (λ r. ulm-request.Learnt κs (body, tt) r s) (λ (r : UlmRequest) n. OnlyNumber (r .refusal ∷ r .code ∷ []) n)
+      ShowsRequest (requestOf (now body))
   pub writeRequest : (κs list out list′ : _)
-      → ShownLent (λ r after. ulm-write-request.Learnt κs (list, (out, tt)) r (list′, (at-last out after, tt))) (λ (r : UlmWritten) n. OnlyNumber (writtenMembers r) n)
+      → ShownLent (λ r after. ulm-write-request.Learnt κs (list, (out, tt)) r (list′, (at-last out after, tt)))
+      (λ (r : UlmWritten) n. OnlyNumber (writtenMembers r) n)
       ShowsWritten (requestWritten (now list) (now out)) (now out)
   pub censor : (κs body s : _)
-      → Shown (λ r. ulm-censor.Learnt κs (body, tt) r s) (λ (r : UlmCensor) n. OnlyNumber (r .refusal ∷ r .count ∷ r .regions) n) ShowsCensor (censorOf (now body))
+      → Shown (λ r. ulm-censor.Learnt κs (body, tt) r s) (λ (r : UlmCensor) n. OnlyNumber (r .refusal ∷ r .count ∷ r .regions) n)
+      ShowsCensor (censorOf (now body))
   pub writeCensor : (κs list out list′ : _)
-      → ShownLent (λ r after. ulm-write-censor.Learnt κs (list, (out, tt)) r (list′, (at-last out after, tt))) (λ (r : UlmWritten) n. OnlyNumber (writtenMembers r) n)
+      → ShownLent (λ r after. ulm-write-censor.Learnt κs (list, (out, tt)) r (list′, (at-last out after, tt)))
+      (λ (r : UlmWritten) n. OnlyNumber (writtenMembers r) n)
       ShowsWritten (censorWritten (now list) (now out)) (now out)
   pub map : (κs body s : _)
-      → Shown (λ r. ulm-map.Learnt κs (body, tt) r s) (λ (r : UlmMap) n. OnlyNumber (r .refusal ∷ r .date ∷ r .minutes ∷ r .elevations ∷ []) n) ShowsMap
+      → Shown (λ r. ulm-map.Learnt κs (body, tt) r s) (λ (r : UlmMap) n. OnlyNumber (r .refusal ∷ r .date ∷ r .minutes
+      ∷ r .elevations ∷ []) n) ShowsMap
       (summaryOf (now body))
   pub mapCode : (κs body elevation azimuth kilometre s : _)
-      → Shown (λ r. ulm-map-code.Learnt κs (body, (elevation, (azimuth, (kilometre, tt)))) r s) (λ (r : UlmMapCode) n. OnlyNumber (r .refusal ∷ r .code ∷ []) n) ShowsCode
+      → Shown (λ r. ulm-map-code.Learnt κs (body, (elevation, (azimuth, (kilometre, tt)))) r s) (λ (r : UlmMapCode) n. OnlyNumber
+      (r .refusal ∷ r .code ∷ []) n) ShowsCode
       (codeOf (now body) elevation azimuth kilometre)
   pub compareMaps : (κs old new out old′ new′ : _)
       → ShownLent (λ r after. ulm-compare-maps.Learnt κs (old, (new, (out, tt))) r (old′, (new′, (at-last out after, tt))))

@@ -1,5 +1,5 @@
--- What a C caller has of an accepted radial: `ulm_radial`, `ulm_block` for each of its blocks, and the body that it lent. Together they are the
--- description.
+-- What a C caller has of an accepted radial: `ulm_radial`, `ulm_block` for each of its blocks, and the body that it lent. Together they are
+-- the description.
 use Prim.Native.Nat.{ℕ, zero, suc, _-_, _/_}
 use mathlib.Core.Path.{_≡_}
 use mathlib.Core.List.{List, [], _∷_}

@@ -1,5 +1,5 @@
--- The figures of include/ulm.h by which a caller sizes what it lends, of every call of the compiled functions, as Notions says it: how much is told at
--- most, and how much room is enough.
+-- The figures of include/ulm.h by which a caller sizes what it lends, of every call of the compiled functions, as Notions says it: how much
+-- is told at most, and how much room is enough.
 use Prim.Native.Nat.{ℕ, suc, _+_, _-_, _*_, _/_, _≤_, _<_}
 use mathlib.Core.Path.{_≡_}
 use mathlib.Core.List.{List}
@@ -11,7 +11,7 @@ use Rattle.header.specs.Header.{headerSize, radialType}
 use Rattle.salvage_spec.specs.Theorems.{leastFrame}
 use Rattle.writer.specs.Writing.{segmentData, segmentsOf, longest, longestBody}
 use Rattle.radial_spec.specs.Description.{mostBlocks, mostGates}
-use Rattle.censor.specs.Censor.{mostRegions, count}
+use Rattle.censor.specs.Censor.{mostRegions, regionFields, count}
 use Rattle.censor.specs.Told.{places}
 use Rattle.map_spec.specs.Map.{mostElevations, azimuths}
 use Rattle.compare_spec.specs.Differences.{mostRuns}
@@ -36,7 +36,8 @@ pub record Figures : Type 1 where
   -- "its body of at most 131,068 bytes"
   pub frame : (κs buf place r s : _) → ulm-frame.Learnt κs (buf, (place, tt)) r s → r .size ≤ sessionLimit .0
   -- "At most 307,200 bytes are written (131,052 for type 31)", so 13 is for an output of fewer
-  pub set : (κs buf out r b after : _) → ulm-set.Learnt κs (buf, (out, tt)) r (b, (at-last out after, tt)) → r .length ≤ longest (r .kind) .0
+  pub set : (κs buf out r b after : _) → ulm-set.Learnt κs (buf, (out, tt)) r (b, (at-last out after, tt))
+      → r .length ≤ longest (r .kind) .0
   pub setRoom : (κs buf out r b after : _) → ulm-set.Learnt κs (buf, (out, tt)) r (b, (at-last out after, tt)) → r .refusal ≡ 13
       → length (now out) < longestBody .0
   -- "out_len = len and n = 2 * ((len + 28) / 29) always suffice"
@@ -47,28 +48,35 @@ pub record Figures : Type 1 where
       → r .refusal ≡ 0
   -- "type 31 makes one frame always"; another type makes one for each 2,400 bytes, the last shorter or full, and an empty body one
   pub radialSegments : (kind : ℕ) (body : List ℕ) → kind ≡ radialType → length (segmentsOf kind body) ≡ 1
-  pub segments : (kind : ℕ) (body : List ℕ) → (kind ≡ radialType → ⊥) → length (segmentsOf kind body) ≡ (length body - 1) / segmentData .0 + 1
+  pub segments : (kind : ℕ) (body : List ℕ) → (kind ≡ radialType → ⊥)
+      → length (segmentsOf kind body) ≡ (length body - 1) / segmentData .0 + 1
   pub write : (κs channel kind sequence date ms body out r c k q d m b after : _)
-      → ulm-write.Learnt κs (channel, (kind, (sequence, (date, (ms, (body, (out, tt))))))) r (c, (k, (q, (d, (m, (b, (at-last out after, tt)))))))
+      → ulm-write.Learnt κs (channel, (kind, (sequence, (date, (ms, (body, (out, tt))))))) r
+      (c, (k, (q, (d, (m, (b, (at-last out after, tt)))))))
       → r .refusal ≡ 0
       → r .length ≡ bytesOf kind (now body)
   pub writeRoom : (κs channel kind sequence date ms body out r c k q d m b after : _)
-      → ulm-write.Learnt κs (channel, (kind, (sequence, (date, (ms, (body, (out, tt))))))) r (c, (k, (q, (d, (m, (b, (at-last out after, tt)))))))
+      → ulm-write.Learnt κs (channel, (kind, (sequence, (date, (ms, (body, (out, tt))))))) r
+      (c, (k, (q, (d, (m, (b, (at-last out after, tt)))))))
       → r .refusal ≡ 13
       → length (now out) < bytesOf kind (now body)
   -- "4 to 9 blocks", "at most 1,840 gates of 8 or 16 bits"
   pub blocks : (κs body r s : _) → Octets (now body) → ulm-radial.Learnt κs (body, tt) r s → r .blocks ≤ mostBlocks
-  pub gates : (κs body name r s : _) → Octets (now body) → ulm-gates.Learnt κs (body, (name, tt)) r s → (r .gates ≤ mostGates) × (r .size ≤ 2 * mostGates)
+  pub gates : (κs body name r s : _) → Octets (now body) → ulm-gates.Learnt κs (body, (name, tt)) r s
+      → (r .gates ≤ mostGates) × (r .size ≤ 2 * mostGates)
   -- "Writes the body of a request, 2 bytes"
-  pub request : (κs list out r l after : _) → ulm-write-request.Learnt κs (list, (out, tt)) r (l, (at-last out after, tt)) → r .refusal ≡ 0 → r .length ≡ 2
-  pub requestRoom : (κs list out r l after : _) → ulm-write-request.Learnt κs (list, (out, tt)) r (l, (at-last out after, tt)) → r .refusal ≡ 13
+  pub request : (κs list out r l after : _) → ulm-write-request.Learnt κs (list, (out, tt)) r (l, (at-last out after, tt))
+      → r .refusal ≡ 0 → r .length ≡ 2
+  pub requestRoom : (κs list out r l after : _) → ulm-write-request.Learnt κs (list, (out, tt)) r (l, (at-last out after, tt))
+      → r .refusal ≡ 13
       → length (now out) < 2
   -- "uint16_t regions[150]", "of regions, 0 to 25"; "The length is 2 + 12n", n the first number of the list
   pub regions : (κs body r s : _) → ulm-censor.Learnt κs (body, tt) r s → (length (r .regions) ≡ places) × (r .count ≤ mostRegions)
   pub censor : (κs list out r l after : _) → ulm-write-censor.Learnt κs (list, (out, tt)) r (l, (at-last out after, tt)) → r .refusal ≡ 0
-      → (r .length ≡ 2 + 12 * count (now list)) × (count (now list) ≤ mostRegions)
-  pub censorRoom : (κs list out r l after : _) → ulm-write-censor.Learnt κs (list, (out, tt)) r (l, (at-last out after, tt)) → r .refusal ≡ 13
-      → length (now out) < 2 + 12 * count (now list)
+      → (r .length ≡ 2 + 2 * regionFields * count (now list)) × (count (now list) ≤ mostRegions)
+  pub censorRoom : (κs list out r l after : _) → ulm-write-censor.Learnt κs (list, (out, tt)) r (l, (at-last out after, tt))
+      → r .refusal ≡ 13
+      → length (now out) < 2 + 2 * regionFields * count (now list)
   -- "at most 70,200"; and two maps that `ulm_map` accepts are compared in 421,200 halfwords
   pub compare : (κs old new out r o n after : _) → Octets (now old) → Octets (now new)
       → ulm-compare-maps.Learnt κs (old, (new, (out, tt))) r (o, (n, (at-last out after, tt)))

@@ -1,4 +1,4 @@
--- The demands of the order, stated over the contracts of the compiled functions, and document 01's starred cases, over the rules.
+-- The demands of the order, stated over the contracts of the compiled functions, and the worked cases of the rules, over the rules.
 pub mod Notions
 pub mod Orders
 pub mod Demand1

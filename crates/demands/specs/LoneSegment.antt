@@ -22,7 +22,8 @@ use Rattle.ulm.proofs.ulm_header.Reads as ulm-header
 use Rattle.ulm.proofs.ulm_set.Reads as ulm-set
 use Rattle.ulm.proofs.ulm_write.Reads as ulm-write
 
--- a buffer, in whole frames and what is left from a frame of one segment on, and another that is the same but for the two bytes of that frame's number
+-- two buffers that differ only in the two bytes of one frame's number: whole frames come first, then a frame of one segment, which has
+-- that number, and the rest
 pub record ButLoneNumber (frames frames′ : List ℕ) : Type 0 where
   pub each : List (List ℕ)
   pub rest : List ℕ
@@ -34,8 +35,9 @@ pub record ButLoneNumber (frames frames′ : List ℕ) : Type 0 where
 pub record LoneSegment : Type 1 where
   -- "reported as 1", and where N is not 1 the number is the stored one
   pub one : (κs message h s : _) → read-header.Learnt κs (message, tt) (Read h) s → h .segments ≡ 1 → h .number ≡ 1
-  pub others : (κs message h s : _) → read-header.Learnt κs (message, tt) (Read h) s → (h .segments ≡ 1 → ⊥) → h .number ≡ num 2 (now message) numberPlace
-  -- "any segment number is accepted": a message of one segment is, exactly if all other checks hold
+  pub others : (κs message h s : _) → read-header.Learnt κs (message, tt) (Read h) s → (h .segments ≡ 1 → ⊥)
+      → h .number ≡ num 2 (now message) numberPlace
+  -- "any segment number is accepted": a message of one segment is accepted exactly if all other checks hold
   pub accepted : (κs message r s : _) → Lone (now message) → read-header.Learnt κs (message, tt) r s
       → (r ≡ Read (headerIn (now message))) ↔ AllHold (loneChecks (storedIn (now message)) (length (now message)))
   -- "number 7 loses that cause for N = 1 only"
@@ -43,25 +45,28 @@ pub record LoneSegment : Type 1 where
       → (storedIn (now message) .number ≡ 0) ⊎ (storedIn (now message) .segments < storedIn (now message) .number)
       → read-header.Learnt κs (message, tt) r s
       → r ≡ Refused 7
-  -- two calls, of `read_header` and of `ulm_header`, answer the same
+  -- two calls of `read_header`, or of `ulm_header`, give the same answer
   pub header : (κs κs′ message message′ r r′ s s′ : _) → Lone (now message) → ButTwoBytes numberPlace (now message) (now message′)
       → read-header.Learnt κs (message, tt) r s → read-header.Learnt κs′ (message′, tt) r′ s′ → r ≡ r′
   pub headerForC : (κs κs′ message message′ r r′ s s′ : _) → Lone (now message) → ButTwoBytes numberPlace (now message) (now message′)
       → ulm-header.Learnt κs (message, tt) r s → ulm-header.Learnt κs′ (message′, tt) r′ s′ → r ≡ r′
-  -- and of `read_set` and of `ulm_set`, which leave the same in outputs that held the same
+  -- and so do two calls of `read_set` or of `ulm_set`; outputs that held the same then hold the same
   pub set : (κs κs′ frames frames′ out out′ r r′ f f′ after after′ : _) → ButLoneNumber (now frames) (now frames′) → now out ≡ now out′
-      → read-set.Learnt κs (frames, (out, tt)) r (f, (at-last out after, tt)) → read-set.Learnt κs′ (frames′, (out′, tt)) r′ (f′, (at-last out′ after′, tt))
+      → read-set.Learnt κs (frames, (out, tt)) r (f, (at-last out after, tt)) → read-set.Learnt κs′ (frames′, (out′, tt)) r′
+      (f′, (at-last out′ after′, tt))
       → (r ≡ r′) × (after ≡ after′)
   pub setForC : (κs κs′ frames frames′ out out′ r r′ f f′ after after′ : _) → ButLoneNumber (now frames) (now frames′) → now out ≡ now out′
-      → ulm-set.Learnt κs (frames, (out, tt)) r (f, (at-last out after, tt)) → ulm-set.Learnt κs′ (frames′, (out′, tt)) r′ (f′, (at-last out′ after′, tt))
+      → ulm-set.Learnt κs (frames, (out, tt)) r (f, (at-last out after, tt)) → ulm-set.Learnt κs′ (frames′, (out′, tt)) r′
+      (f′, (at-last out′ after′, tt))
       → (r ≡ r′) × (after ≡ after′)
-  -- what `write_message` and `ulm_write` write of one segment spells 1 in these bytes
+  -- a message of one segment that `write_message` or `ulm_write` wrote has 1 in these bytes
   pub written : (κs given body out size g b after : _)
       → write-message.Learnt κs (given, (body, (out, tt))) (Written size) (g, (b, (at-last out after, tt)))
       → length (segmentsOf (given .kind) (now body)) ≡ 1
       → num 2 after (headSize + numberPlace) ≡ 1
   pub writtenForC : (κs channel kind sequence date ms body out r c k q d m b after : _)
-      → ulm-write.Learnt κs (channel, (kind, (sequence, (date, (ms, (body, (out, tt))))))) r (c, (k, (q, (d, (m, (b, (at-last out after, tt)))))))
+      → ulm-write.Learnt κs (channel, (kind, (sequence, (date, (ms, (body, (out, tt))))))) r
+      (c, (k, (q, (d, (m, (b, (at-last out after, tt)))))))
       → r .refusal ≡ 0
       → length (segmentsOf kind (now body)) ≡ 1
       → num 2 after (headSize + numberPlace) ≡ 1

@@ -1,5 +1,5 @@
 -- "Order": the checks of each entry that asks more than one rule, one list after the other.
-use Prim.Native.Nat.{ℕ, zero, suc}
+use Prim.Native.Nat.{ℕ}
 use mathlib.Core.Bool.{Bool, true, false}
 use mathlib.Core.List.{List, [], _∷_, _++_, flatten}
 use lib.Dec.{eqb, leb}
@@ -7,9 +7,9 @@ use lib.ListN.{length, drop}
 use Rattle.wire.specs.Checks.{pick, Check, check}
 use Rattle.wire.specs.Answers.{Answer, refused, given}
 use Rattle.wire.specs.Writing.{thenRoom}
-use Rattle.frame.specs.Session.{after, frameChecks}
-use Rattle.set_spec.specs.Segment.{Segment, segmentIn}
-use Rattle.set_spec.specs.Walk.{turnChecks, endChecks}
+use Rattle.frame.specs.Session.{frameChecks}
+use Rattle.frame.specs.Walk.{walked, inOrder}
+use Rattle.set_spec.specs.Walk.{eachFrame, endChecks}
 use Rattle.salvage_spec.specs.Walk.{keptOf, skippedOf}
 use Rattle.salvage_spec.specs.Salvage.{numbers, roomChecks}
 use Rattle.radial_spec.specs.Description.{Moment, gates}
@@ -25,13 +25,8 @@ abbrev pub streamChecks : List ℕ → ℕ → List Check
 streamChecks stream place = pick (eqb place (length stream)) [] (frameChecks (drop place stream))
 
 -- "Set: each frame in turn, its frame checks, 9, header checks, 10, 11; after all, 12, 13."
-abbrev pub turnsChecks : ℕ → List Segment → List ℕ → ℕ → List Check
-turnsChecks zero gs rest room = endChecks gs room
-turnsChecks (suc turns) gs rest room =
-    pick (eqb (length rest) 0) (endChecks gs room) (turnChecks gs rest ++ turnsChecks turns (gs ++ (segmentIn rest ∷ [])) (after rest) room)
-
 abbrev pub setChecks : List ℕ → ℕ → List Check
-setChecks frames room = turnsChecks (length frames) [] frames room
+setChecks frames room = walked (inOrder eachFrame (λ gs. endChecks gs room)) [] frames
 
 -- "Gates as a part (a body, a moment's name): the radial's checks, 21."
 abbrev pub missing : ℕ → List Moment → Bool

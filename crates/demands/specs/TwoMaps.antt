@@ -1,5 +1,5 @@
--- K2. "Compare two filter maps.": what comes of every call of the compiled `compare` and of `ulm_compare_maps`. What is listed is told by
--- `Compared`, over the codes that the two maps have: sound, complete, of longest runs and in order.
+-- K2. "Compare two filter maps.": the result of every call of the compiled `compare` and of `ulm_compare_maps`. `Compared` defines what is
+-- listed, over the codes of the two maps: sound, complete, of longest runs and in order.
 use Prim.Native.Nat.{ℕ, _*_, _≤_, _<_}
 use mathlib.Core.Path.{_≡_}
 use mathlib.Core.List.{List, map}
@@ -37,9 +37,10 @@ abbrev pub Compares : Call → CompareAnswer → List ℕ → Type 0
 Compares c r after = compare.Learnt (c .κs) (c .old, (c .new, (c .out, tt))) r (c .old′, (c .new′, (at-last (c .out) after, tt)))
 
 abbrev pub ComparesForC : Call → UlmComparison → List ℕ → Type 0
-ComparesForC c r after = ulm-compare-maps.Learnt (c .κs) (c .old, (c .new, (c .out, tt))) r (c .old′, (c .new′, (at-last (c .out) after, tt)))
+ComparesForC c r after = ulm-compare-maps.Learnt (c .κs) (c .old, (c .new, (c .out, tt))) r
+    (c .old′, (c .new′, (at-last (c .out) after, tt)))
 
--- what comes of both
+-- the result of both calls
 abbrev pub Ends : Call → CompareAnswer → UlmComparison → List ℕ → Type 0
 Ends c = Comes (Compares c) (ComparesForC c)
 
@@ -70,7 +71,7 @@ pub record Fits (old new out : List ℕ) : Type 0 where
   pub good : Good old new m n ds
   pub room : 6 * length ds ≤ length out
 
--- two good maps that are the same but for date and minutes
+-- two good maps that differ only in date and minutes
 pub record ButDate (b b′ : List ℕ) : Type 0 where
   pub m : FilterMap
   pub m′ : FilterMap
@@ -79,15 +80,17 @@ pub record ButDate (b b′ : List ℕ) : Type 0 where
   pub same : m .elevations ≡ m′ .elevations
 
 pub record TwoMaps : Type 0 where
-  -- of any two maps there is exactly one such list, so that the next four are all that can come
+  -- any two maps have exactly one such list, so the next four cases cover every call
   pub one : (m n : FilterMap) → One (Compared m n)
   -- "A bad map is refused by its own number, the first map first; too little output is 13"
   pub oldBad : (c : Call) (number : ℕ) → mapOf (now (c .old)) ≡ refused number → Refuses c number
-  pub newBad : (c : Call) (m : FilterMap) (number : ℕ) → mapOf (now (c .old)) ≡ given m → mapOf (now (c .new)) ≡ refused number → Refuses c number
-  pub tooLittle : (c : Call) (m n : FilterMap) (ds : List Difference) → Good (now (c .old)) (now (c .new)) m n ds → length (now (c .out)) < 6 * length ds
+  pub newBad : (c : Call) (m : FilterMap) (number : ℕ) → mapOf (now (c .old)) ≡ given m → mapOf (now (c .new)) ≡ refused number
+      → Refuses c number
+  pub tooLittle : (c : Call) (m n : FilterMap) (ds : List Difference) → Good (now (c .old)) (now (c .new)) m n ds
+      → length (now (c .out)) < 6 * length ds
       → Refuses c 13
   pub listed : (c : Call) (f : Fits (now (c .old)) (now (c .new)) (now (c .out))) → Lists c (f .m) (f .n) (f .ds)
-  -- accepted only if both maps are and there is room
+  -- a call is accepted only if both maps are good and there is room
   pub accepted : (c : Call) (older newer count : ℕ) (after : List ℕ) → Compares c (Told older newer count) after
       → Fits (now (c .old)) (now (c .new)) (now (c .out))
   pub acceptedForC : (c : Call) (r : UlmComparison) (after : List ℕ) → ComparesForC c r after → r .refusal ≡ 0
@@ -95,11 +98,11 @@ pub record TwoMaps : Type 0 where
   -- 421,200 halfwords have room for the differences of any two maps
   pub most : (old new : List ℕ) (m n : FilterMap) (ds : List Difference) → Octets old → Octets new → Good old new m n ds
       → 6 * length ds ≤ mostHalfwords
-  -- a map compared with itself
+  -- a map compared with itself has no differences
   pub itself : (c : Call) (m : FilterMap) → mapOf (now (c .old)) ≡ given m → now (c .new) ≡ now (c .old)
       → Reports c (length (m .elevations)) (length (m .elevations)) 0 (now (c .out))
-  -- told by what differs between the two maps the other way round: the counts change places, and the codes
+  -- the maps in the other order: the two counts and the two codes are swapped
   pub swap : (c : Call) (f : Fits (now (c .new)) (now (c .old)) (now (c .out))) → Lists c (f .n) (f .m) (map swapped (f .ds))
-  -- "Date and time aren't compared": of two calls whose maps are the same but for them the same comes
+  -- "Date and time aren't compared": two calls whose maps differ only in these have the same result
   pub undated : (c d : Call) → ButDate (now (c .old)) (now (d .old)) → ButDate (now (c .new)) (now (d .new)) → now (c .out) ≡ now (d .out)
       → (answer : CompareAnswer) (struct : UlmComparison) (left : List ℕ) → Ends c answer struct left → Ends d answer struct left

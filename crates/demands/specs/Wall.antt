@@ -1,5 +1,5 @@
--- From a stream's place to the wall: the gates that the renderer paints are the buffer's own bytes, at the range that the frame, the header and the
--- block's pointer say, inside that frame, and they are the moment's codes, one word each.
+-- From the stream to the display: the gates that the renderer paints are the buffer's own bytes, at the range given by the frame, the
+-- header and the block's pointer. They lie inside that frame and are the moment's codes, one word each.
 use Prim.Native.Nat.{ℕ, _+_, _-_, _≤_}
 use mathlib.Core.Path.{_≡_}
 use mathlib.Core.List.{List, map}
@@ -21,9 +21,10 @@ use Rattle.radial_spec.specs.Lookups.{momentOf, Part}
 use Rattle.radial_gates.specs.Told.{LiesAt}
 use Rattle.radial_gates.proofs.gates.Reads as gates-of
 
--- what a loader does with a lent buffer: it calls `frame_at` at a place, takes the frame's body, calls `read_header` on it, takes what follows the
--- header, and calls `gates` there with a moment's name. Each call's result meets its contract; κs and s are each call's own.
-pub record Walked (κs₁ κs₂ κs₃ s₁ s₂ s₃ : _) (buffer message body gates : RefT (List ℕ)) (place : ℕ) (name : List ℕ) (f : Frame) (h : Header) (m : Moment) : Type 0
+-- what a loader does with a lent buffer: it calls `frame_at` at a place, takes the frame's body, calls `read_header` on it, takes what
+-- follows the header, and calls `gates` there with a moment's name. Each call's result meets its contract; κs and s are each call's own.
+pub record Walked (κs₁ κs₂ κs₃ s₁ s₂ s₃ : _) (buffer message body gates : RefT (List ℕ)) (place : ℕ) (name : List ℕ) (f : Frame)
+    (h : Header) (m : Moment) : Type 0
   where
     pub framed : frame-at.Learnt κs₁ (buffer, (place, tt)) (Read f) s₁
     pub carries : f .kind ≡ dataKind
@@ -35,7 +36,7 @@ pub record Walked (κs₁ κs₂ κs₃ s₁ s₂ s₃ : _) (buffer message body
     pub found : momentOf (now body) (num 4 name 0) ≡ given m
     pub lent : gates-of.Learnt κs₃ (body, (name, tt)) gates s₃
 
--- where the gates lie in the buffer: the session's head, the message header, the block's pointer and its head from the frame's place on
+-- where the gates lie in the buffer: the frame's place plus session head, message header, block's pointer and moment's head
 abbrev pub onTheWall : ℕ → Moment → Part
 onTheWall place m = record { place = place + headSize + headerSize + m .place + momentHead; size = gateBytes m }
 

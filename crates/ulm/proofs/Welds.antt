@@ -1,5 +1,5 @@
--- What the contract of each public function says of a call, as Rattle reads it from src/ (`Learnt`): its promise, and that no two results of one call
--- meet it. Assumes nothing.
+-- What the contract of each public function says of a call, as Rattle reads it from src/ (`Learnt`): its promise, and that no two results
+-- of one call meet it. Assumes nothing.
 use Prim.Native.Nat.{ℕ}
 use denote.Ref.{now}
 use mathlib.Core.List.{List}
@@ -44,7 +44,8 @@ use Rattle.ulm.proofs.ulm_map.Reads as ulm-map
 use Rattle.ulm.proofs.ulm_map_code.Reads as ulm-map-code
 use Rattle.ulm.proofs.ulm_compare_maps.Reads as ulm-compare-maps
 
-pub ulm-frame-says : (κs buf place r last : _) → ulm-frame.Learnt κs (buf, (place, tt)) r last → r ≡ frameFace place (frameAt (now buf) place)
+pub ulm-frame-says : (κs buf place r last : _) → ulm-frame.Learnt κs (buf, (place, tt)) r last
+    → r ≡ frameFace place (frameAt (now buf) place)
 ulm-frame-says κs buf place r last l = l
 
 pub ulm-frame-one : (κs buf place r r₂ last last₂ : _) → ulm-frame.Learnt κs (buf, (place, tt)) r last
@@ -65,32 +66,45 @@ pub ulm-set-one : (κs buf out r r₂ buf′ out′ buf″ out″ : _) → ulm-s
     → ulm-set.Learnt κs (buf, (out, tt)) r₂ (buf″, (out″, tt)) → (r ≡ r₂) × (now out′ ≡ now out″)
 ulm-set-one κs buf out r r₂ buf′ out′ buf″ out″ l l₂ = (l .answers ∙ sym (l₂ .answers), l .leaves ∙ sym (l₂ .leaves))
 
-pub ulm-salvage-says : (κs buf out runs r buf′ out′ runs′ : _) → ulm-salvage.Learnt κs (buf, (out, (runs, tt))) r (buf′, (out′, (runs′, tt)))
+pub ulm-salvage-says : (κs buf out runs r buf′ out′ runs′ : _) → ulm-salvage.Learnt κs (buf, (out, (runs, tt))) r
+    (buf′, (out′, (runs′, tt)))
     → Leaves salvageFace (salvageOf (now buf) (now out) (now runs)) r (now out′, now runs′)
 ulm-salvage-says κs buf out runs r buf′ out′ runs′ l = l
 
 pub ulm-salvage-one : (κs buf out runs r r₂ buf′ out′ runs′ buf″ out″ runs″ : _)
     → ulm-salvage.Learnt κs (buf, (out, (runs, tt))) r (buf′, (out′, (runs′, tt)))
-    → ulm-salvage.Learnt κs (buf, (out, (runs, tt))) r₂ (buf″, (out″, (runs″, tt))) → (r ≡ r₂) × (now out′ ≡ now out″) × (now runs′ ≡ now runs″)
-ulm-salvage-one κs buf out runs r r₂ buf′ out′ runs′ buf″ out″ runs″ l l₂ =
-    (l .answers ∙ sym (l₂ .answers), ap (λ (p : List ℕ × List ℕ). p .0) (l .leaves ∙ sym (l₂ .leaves)), ap (λ (p : List ℕ × List ℕ). p .1) (l .leaves ∙ sym (l₂ .leaves)))
+    → ulm-salvage.Learnt κs (buf, (out, (runs, tt))) r₂ (buf″, (out″, (runs″, tt)))
+    → (r ≡ r₂) × (now out′ ≡ now out″) × (now runs′ ≡ now runs″)
+ulm-salvage-one κs buf out runs r r₂ buf′ out′ runs′ buf″ out″ runs″ l l₂ = (
+  l .answers ∙ sym (l₂ .answers),
+  ap (λ (p : List ℕ × List ℕ). p .0) (l .leaves ∙ sym (l₂ .leaves)),
+  ap (λ (p : List ℕ
+      × List ℕ). p .1) (l .leaves ∙ sym (l₂ .leaves)),
+)
 
 pub ulm-write-says : (κs channel kind sequence date ms body out r channel′ kind′ sequence′ date′ ms′ body′ out′ : _)
-    → ulm-write.Learnt κs (channel, (kind, (sequence, (date, (ms, (body, (out, tt))))))) r (channel′, (kind′, (sequence′, (date′, (ms′, (body′, (out′, tt)))))))
-    → Leaves writtenFace (writeOf (record { channel = channel; kind = kind; sequence = sequence; date = date; milliseconds = ms }) (now body) (now out)) r (now out′)
+    → ulm-write.Learnt κs (channel, (kind, (sequence, (date, (ms, (body, (out, tt))))))) r
+    (channel′, (kind′, (sequence′, (date′, (ms′, (body′, (out′, tt)))))))
+    → Leaves writtenFace (writeOf (record { channel = channel; kind = kind; sequence = sequence; date = date; milliseconds = ms })
+    (now body) (now out)) r (now out′)
 ulm-write-says κs channel kind sequence date ms body out r channel′ kind′ sequence′ date′ ms′ body′ out′ l = l
 
-pub ulm-write-one : (κs channel kind sequence date ms body out r r₂ channel′ kind′ sequence′ date′ ms′ body′ out′ channel″ kind″ sequence″ date″ ms″ body″ out″ : _)
-    → ulm-write.Learnt κs (channel, (kind, (sequence, (date, (ms, (body, (out, tt))))))) r (channel′, (kind′, (sequence′, (date′, (ms′, (body′, (out′, tt)))))))
-    → ulm-write.Learnt κs (channel, (kind, (sequence, (date, (ms, (body, (out, tt))))))) r₂ (channel″, (kind″, (sequence″, (date″, (ms″, (body″, (out″, tt)))))))
+pub ulm-write-one : (κs channel kind sequence date ms body out r r₂ channel′ kind′ sequence′ date′ ms′ body′ out′ channel″ kind″
+    sequence″ date″ ms″ body″ out″ : _)
+    → ulm-write.Learnt κs (channel, (kind, (sequence, (date, (ms, (body, (out, tt))))))) r
+    (channel′, (kind′, (sequence′, (date′, (ms′, (body′, (out′, tt)))))))
+    → ulm-write.Learnt κs (channel, (kind, (sequence, (date, (ms, (body, (out, tt))))))) r₂
+    (channel″, (kind″, (sequence″, (date″, (ms″, (body″, (out″, tt)))))))
     → (r ≡ r₂) × (now out′ ≡ now out″)
-ulm-write-one κs channel kind sequence date ms body out r r₂ channel′ kind′ sequence′ date′ ms′ body′ out′ channel″ kind″ sequence″ date″ ms″ body″ out″ l l₂ =
+ulm-write-one κs channel kind sequence date ms body out r r₂ channel′ kind′ sequence′ date′ ms′ body′ out′ channel″ kind″
+    sequence″ date″ ms″ body″ out″ l l₂ =
     (l .answers ∙ sym (l₂ .answers), l .leaves ∙ sym (l₂ .leaves))
 
 pub ulm-radial-says : (κs body r last : _) → ulm-radial.Learnt κs (body, tt) r last → r ≡ radialFace (radialOf (now body))
 ulm-radial-says κs body r last l = l
 
-pub ulm-radial-one : (κs body r r₂ last last₂ : _) → ulm-radial.Learnt κs (body, tt) r last → ulm-radial.Learnt κs (body, tt) r₂ last₂ → r ≡ r₂
+pub ulm-radial-one : (κs body r r₂ last last₂ : _) → ulm-radial.Learnt κs (body, tt) r last
+    → ulm-radial.Learnt κs (body, tt) r₂ last₂ → r ≡ r₂
 ulm-radial-one κs body r r₂ last last₂ l l₂ = l ∙ sym l₂
 
 pub ulm-block-says : (κs body block r last : _) → ulm-block.Learnt κs (body, (block, tt)) r last → r ≡ blockFace (blockOf (now body) block)
@@ -126,21 +140,24 @@ ulm-value-one κs code scale offset r r₂ last last₂ l l₂ = l ∙ sym l₂
 pub ulm-request-says : (κs body r last : _) → ulm-request.Learnt κs (body, tt) r last → r ≡ requestFace (requestOf (now body))
 ulm-request-says κs body r last l = l
 
-pub ulm-request-one : (κs body r r₂ last last₂ : _) → ulm-request.Learnt κs (body, tt) r last → ulm-request.Learnt κs (body, tt) r₂ last₂ → r ≡ r₂
+pub ulm-request-one : (κs body r r₂ last last₂ : _) → ulm-request.Learnt κs (body, tt) r last
+    → ulm-request.Learnt κs (body, tt) r₂ last₂ → r ≡ r₂
 ulm-request-one κs body r r₂ last last₂ l l₂ = l ∙ sym l₂
 
 pub ulm-write-request-says : (κs list out r list′ out′ : _) → ulm-write-request.Learnt κs (list, (out, tt)) r (list′, (out′, tt))
     → Leaves writtenFace (requestWritten (now list) (now out)) r (now out′)
 ulm-write-request-says κs list out r list′ out′ l = l
 
-pub ulm-write-request-one : (κs list out r r₂ list′ out′ list″ out″ : _) → ulm-write-request.Learnt κs (list, (out, tt)) r (list′, (out′, tt))
+pub ulm-write-request-one : (κs list out r r₂ list′ out′ list″ out″ : _) → ulm-write-request.Learnt κs (list, (out, tt)) r
+    (list′, (out′, tt))
     → ulm-write-request.Learnt κs (list, (out, tt)) r₂ (list″, (out″, tt)) → (r ≡ r₂) × (now out′ ≡ now out″)
 ulm-write-request-one κs list out r r₂ list′ out′ list″ out″ l l₂ = (l .answers ∙ sym (l₂ .answers), l .leaves ∙ sym (l₂ .leaves))
 
 pub ulm-censor-says : (κs body r last : _) → ulm-censor.Learnt κs (body, tt) r last → r ≡ censorFace (censorOf (now body))
 ulm-censor-says κs body r last l = l
 
-pub ulm-censor-one : (κs body r r₂ last last₂ : _) → ulm-censor.Learnt κs (body, tt) r last → ulm-censor.Learnt κs (body, tt) r₂ last₂ → r ≡ r₂
+pub ulm-censor-one : (κs body r r₂ last last₂ : _) → ulm-censor.Learnt κs (body, tt) r last
+    → ulm-censor.Learnt κs (body, tt) r₂ last₂ → r ≡ r₂
 ulm-censor-one κs body r r₂ last last₂ l l₂ = l ∙ sym l₂
 
 pub ulm-write-censor-says : (κs list out r list′ out′ : _) → ulm-write-censor.Learnt κs (list, (out, tt)) r (list′, (out′, tt))
@@ -158,7 +175,8 @@ pub ulm-map-one : (κs body r r₂ last last₂ : _) → ulm-map.Learnt κs (bod
 ulm-map-one κs body r r₂ last last₂ l l₂ = l ∙ sym l₂
 
 pub ulm-map-code-says : (κs body elevation azimuth kilometre r last : _)
-    → ulm-map-code.Learnt κs (body, (elevation, (azimuth, (kilometre, tt)))) r last → r ≡ mapCodeFace (codeOf (now body) elevation azimuth kilometre)
+    → ulm-map-code.Learnt κs (body, (elevation, (azimuth, (kilometre, tt)))) r last
+    → r ≡ mapCodeFace (codeOf (now body) elevation azimuth kilometre)
 ulm-map-code-says κs body elevation azimuth kilometre r last l = l
 
 pub ulm-map-code-one : (κs body elevation azimuth kilometre r r₂ last last₂ : _)
@@ -166,7 +184,8 @@ pub ulm-map-code-one : (κs body elevation azimuth kilometre r r₂ last last₂
     → ulm-map-code.Learnt κs (body, (elevation, (azimuth, (kilometre, tt)))) r₂ last₂ → r ≡ r₂
 ulm-map-code-one κs body elevation azimuth kilometre r r₂ last last₂ l l₂ = l ∙ sym l₂
 
-pub ulm-compare-maps-says : (κs old new out r old′ new′ out′ : _) → ulm-compare-maps.Learnt κs (old, (new, (out, tt))) r (old′, (new′, (out′, tt)))
+pub ulm-compare-maps-says : (κs old new out r old′ new′ out′ : _) → ulm-compare-maps.Learnt κs (old, (new, (out, tt))) r
+    (old′, (new′, (out′, tt)))
     → Leaves comparisonFace (comparisonOf (now old) (now new) (now out)) r (now out′)
 ulm-compare-maps-says κs old new out r old′ new′ out′ l = l
 

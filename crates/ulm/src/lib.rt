@@ -1,5 +1,5 @@
-// The library as C sees it: each function takes what its caller lends and answers a struct by value whose first field is 0
-// or the number of document 01. include/ulm.h declares them; what each does stands in the crate that it calls.
+// The library as C sees it: each function takes lent memory and returns a struct by value, whose first field is 0
+// or the number of the refusal. include/ulm.h declares them. The crate that each calls says what it does.
 ghost use mathlib.Core.Path.{_≡_};
 ghost use Rattle.frame.specs.Session.{frameAt};
 ghost use Rattle.header.specs.Header.{headerOf};
