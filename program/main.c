@@ -1,4 +1,4 @@
-/* The program. What it does, and its exit status, is the proved function's. */
+/* The program. The proved function does all the work and gives the exit status. */
 int ulmarzhe_run(void);
 
 int main(void) {

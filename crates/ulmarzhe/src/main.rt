@@ -1,4 +1,4 @@
-// The program as `rt` runs it. The language's main has no status to answer: the one that is installed calls the same function from C.
+// The program as `rt` runs it. The language's `main` returns no status, so the installed program calls this function from C.
 fn main() {
     ulmarzhe_run::ulmarzhe_run();
 }

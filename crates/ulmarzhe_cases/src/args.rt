@@ -1,4 +1,4 @@
-// The words of a question after its entry, by the entry's shape: a letter for each.
+// Parses the words of a question after its entry. The entry's shape has one letter for each word.
 use ulmarzhe_text::part::part;
 use ulmarzhe_text::part::sum;
 use ulmarzhe_text::words;
@@ -11,8 +11,8 @@ pub struct Span {
     pub to: usize,
 }
 
-// What the words say, and the place where the next one is looked for. `digits`: those of the last word that has some; `before`: those of
-// the one before it. Of the line: its entry, where its name ends, where its answer begins, and whether it asks for one.
+// A line's question. `title`: where the line's name ends; `answer`: where its expected answer begins; `asks`: it has none; `good`: it is
+// well formed; `at`: where the next word begins; `digits`: the digits of the last word that has some; `before`: those of the word before.
 pub struct Args {
     pub entry: usize,
     pub title: usize,
@@ -125,7 +125,7 @@ fn with_name(a: Args, word: &[u8]) -> Args {
     a
 }
 
-// Whether the digits are any is seen when they are turned into bytes.
+// Checks the length and the `x`. The digits themselves are checked when they are turned into bytes.
 fn with_digits(a: Args, word: &[u8], kind: u8, from: usize) -> Args {
     if !fits(kind, word.len()) {
         return spoil(a);
@@ -144,7 +144,7 @@ fn with_digits(a: Args, word: &[u8], kind: u8, from: usize) -> Args {
     a
 }
 
-// Whether a word of that many letters, the `x` among them, can be of a kind.
+// Whether a word of that length, its `x` included, holds whole bytes or, for `l`, whole halfwords.
 fn fits(kind: u8, letters: usize) -> bool {
     if kind == b'l' {
         return letters % 4 == 1;

@@ -25,7 +25,7 @@ use ulmarzhe_text::status::NOT_DONE;
 use ulmarzhe_text::window::WINDOW;
 use ulmarzhe_text::words;
 
-// What is said of a line, in the order of the list in `judge`.
+// The verdicts on a line, in the order of the list in `judge`.
 const SAME: usize = 0;
 
 const DIFFERS: usize = 1;
@@ -57,7 +57,7 @@ fn run_lines(fd: i32, window: &mut [u8; WINDOW], sheet: &mut [u8; SHEET]) -> u8 
     status
 }
 
-// It is said why a file could not be read to its end.
+// Says why a file could not be read to its end.
 fn end(l: Line, status: u8) -> u8 {
     let r = l.reading;
     if r.failed {
@@ -74,7 +74,7 @@ fn run_line(l: Line, window: &mut [u8; WINDOW], sheet: &mut [u8; SHEET]) -> u8 {
     run_case(part(window, r.from, l.end), a, sheet)
 }
 
-// A question whose digits are turned into bytes in their place, in a line that begins at `start`. Where they say none it is no question.
+// Turns a question's digits into bytes, in place, in a line that begins at `start`. Wrong digits make the question malformed.
 fn decode(a: Args, start: usize, window: &mut [u8; WINDOW]) -> Args {
     let mut a = a;
     if !a.good {
@@ -88,7 +88,7 @@ fn decode(a: Args, start: usize, window: &mut [u8; WINDOW]) -> Args {
     a
 }
 
-// Where the digits say no bytes, the span ends before it begins.
+// Wrong digits give a span that ends before it begins.
 fn bytes_of(s: Span, start: usize, window: &mut [u8; WINDOW]) -> Span {
     let to = words::decode(window, sum(start, s.from), sum(start, s.to));
     Span {
@@ -97,7 +97,7 @@ fn bytes_of(s: Span, start: usize, window: &mut [u8; WINDOW]) -> Span {
     }
 }
 
-// A line's question. One that is too long for the window is none.
+// A line's question. A line that is too long for the window is malformed.
 fn read_question(line: &[u8], long: bool) -> Args {
     let title = words::until(line, 0, b' ');
     let first = sum(title, 1);
@@ -233,7 +233,7 @@ fn say_blocks(s: Sink, sheet: &mut [u8; SHEET], body: &[u8], count: u16) -> Sink
     s
 }
 
-// What stands before an answer: nothing where it is compared, the name where it is written.
+// Where an answer is written, the line's name stands before it; where it is compared, nothing does.
 fn begin(asks: bool, name: &[u8], sheet: &mut [u8; SHEET]) -> Sink {
     if !asks {
         return sink::begin(asks, output::begin(0));

@@ -6,8 +6,8 @@ use ulmarzhe_text::window::Reading;
 use ulmarzhe_text::window::WINDOW;
 use ulmarzhe_text::words;
 
-// A line that was `found` begins where the reading looks and ends at `end`. `skips`: it is too long for the window, and its rest goes
-// by. `done`: no line is left.
+// A line that is `found` begins where the reading looks and ends at `end`. `skips`: it is too long for the window, and its rest is
+// skipped. `done`: no line is left.
 pub struct Line {
     pub reading: Reading,
     pub end: usize,
@@ -40,7 +40,7 @@ pub fn next(l: Line, window: &mut [u8; WINDOW]) -> Line {
     seek(none, window)
 }
 
-// A line was found, or the file is done with. Of a line that is too long for the window its beginning is found.
+// Reads until a line is found or the file is at its end. Of a line that is too long for the window the beginning is found.
 fn seek(l: Line, window: &mut [u8; WINDOW]) -> Line {
     let mut l = look(l, window);
     let mut turns = u64::MAX;
@@ -77,7 +77,7 @@ fn look(l: Line, window: &[u8; WINDOW]) -> Line {
     )
 }
 
-// What the place where a line ends says: that it was found, that nothing is left, or that more is to be read.
+// Decides by the place where a line ends: the line is found, nothing is left, or more must be read.
 fn judge(r: Reading, skips: bool, end: usize) -> Line {
     if end < r.fill {
         if skips {

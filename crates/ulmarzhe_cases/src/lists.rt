@@ -12,7 +12,7 @@ pub const RUNS: usize = (WINDOW / 2 + 28) / 29;
 // Two numbers a run, its place and its length.
 pub const NUMBERS: usize = RUNS * 2;
 
-// The halfwords that stand in bytes, and how many they are. A longer list to write is refused as one that is cut off here.
+// Reads halfwords from bytes and answers how many. A list above `MOST` is cut off there, and the writers refuse it as they would the whole.
 pub fn read_halfwords(bytes: &[u8], list: &mut [u16; MOST]) -> usize {
     let count = bytes.len() / 2;
     let mut n = 0;
@@ -33,7 +33,7 @@ pub fn first(list: &[u16], count: usize) -> &[u16] {
     list
 }
 
-// Above every number that a difference has.
+// Above every number of a difference, so that no written number looks like the pattern.
 fn pattern(i: usize) -> u16 {
     (40000 + i % 251) as u16
 }
@@ -49,7 +49,7 @@ pub fn lay(list: &mut [u16; MOST], end: usize) {
     }
 }
 
-// Whether the pattern stands after so many halfwords to the end of what was lent.
+// Whether the pattern is unchanged after so many halfwords, up to the end of what was lent.
 pub fn is_kept(list: &[u16; MOST], count: usize, end: usize) -> bool {
     let mut i = count;
     while i < MOST {
@@ -71,21 +71,12 @@ pub fn spread(list: &[u16], sheet: &mut [u8; SHEET]) {
         if ROOM / 2 <= i {
             return;
         }
-        sheet[PAGE + i * 2] = high(list[i]);
-        sheet[PAGE + i * 2 + 1] = low(list[i]);
+        wire::store16(sheet, (PAGE + i * 2) as u32, list[i]);
         i += 1;
     }
 }
 
-fn high(x: u16) -> u8 {
-    (x / 256) as u8
-}
-
-fn low(x: u16) -> u8 {
-    (x % 256) as u8
-}
-
-// Above every place and every length.
+// Above every place and every length, so that no written number looks like the pattern.
 fn number_pattern(i: usize) -> u64 {
     u64::MAX - (i % 251) as u64
 }
@@ -101,7 +92,7 @@ pub fn lay_numbers(list: &mut [u64; NUMBERS], end: usize) {
     }
 }
 
-// Whether the pattern stands after so many numbers to the end of what was lent.
+// Whether the pattern is unchanged after so many numbers, up to the end of what was lent.
 pub fn are_numbers_kept(list: &[u64; NUMBERS], count: usize, end: usize) -> bool {
     let mut i = count;
     while i < NUMBERS {

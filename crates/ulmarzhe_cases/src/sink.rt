@@ -1,4 +1,4 @@
-// Where an answer's text goes: it is compared with the text that was expected as it is produced, or written out where none was.
+// Where an answer's text goes. It is compared, page by page, with the expected text; where none is expected it is written out.
 use crate::told::Told;
 use ulmarzhe_text::output;
 use ulmarzhe_text::output::Output;
@@ -9,7 +9,7 @@ use ulmarzhe_text::part::part;
 use ulmarzhe_text::part::sum;
 use ulmarzhe_text::words;
 
-// `asks`: the text is written to `out`; else `same`: all of it was met so far, and `done`: how much of the expected text that is.
+// `asks`: the text is written to `out`. Otherwise `same`: the text so far equals the expected text; `done`: how much was compared.
 pub struct Sink {
     pub asks: bool,
     pub same: bool,
@@ -38,7 +38,7 @@ fn fill(s: Sink, at: usize) -> Sink {
     s
 }
 
-// Whether the expected text was met, all of it.
+// Whether the answer is the whole expected text.
 pub fn is_met(s: Sink, expected: &[u8]) -> bool {
     if !s.same {
         return false;
@@ -60,7 +60,7 @@ pub fn end_line(s: Sink, sheet: &mut [u8; SHEET]) -> Sink {
     fill(s, page::put_byte(sheet, at(s), b'\n'))
 }
 
-// As many bytes of the room behind the page, in hexadecimal.
+// The first `length` bytes of the room behind the page, in hexadecimal.
 pub fn say_bytes(s: Sink, sheet: &mut [u8; SHEET], expected: &[u8], length: usize) -> Sink {
     let mut s = s;
     let mut i = 0;
@@ -86,7 +86,7 @@ fn say_octet(s: Sink, sheet: &mut [u8; SHEET], expected: &[u8], b: u8) -> Sink {
     fill(s, page::put_octet(sheet, at(s), b))
 }
 
-// Where the page is filled beyond a place it is emptied: written out, or compared with the expected text from where it was met.
+// Empties the page if it is filled beyond `most`: writes it out, or compares it with the expected text from `done` on.
 pub fn settle(s: Sink, most: usize, sheet: &[u8; SHEET], expected: &[u8]) -> Sink {
     let end = at(s);
     if end <= most {

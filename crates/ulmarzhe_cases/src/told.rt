@@ -1,5 +1,5 @@
-// An answer in numbers: `which` words it is said with, the numbers that stand among them, and how many bytes of the lent output and
-// blocks of a radial or runs of a damaged recording follow.
+// An answer in numbers: `which` text of a list it has, the numbers in that text, and how many bytes of the output and blocks of a radial
+// or runs of a damaged recording follow.
 pub struct Told {
     pub which: usize,
     pub values: [u64; 14],
@@ -7,7 +7,7 @@ pub struct Told {
     pub count: u16,
 }
 
-// The words, in the order of the list in `sink::say`.
+// The texts, in the order of the list in `sink::say`.
 pub const NO: usize = 0;
 
 pub const TOUCHED: usize = 1;
@@ -65,7 +65,7 @@ pub fn refused(n: u8) -> Told {
     one(NO, n as u64)
 }
 
-// Words that bytes follow.
+// A text that bytes follow.
 pub fn followed(which: usize, a: u64, length: usize) -> Told {
     let mut t = one(which, a);
     t.length = length;

@@ -1,5 +1,5 @@
-// The entries whose answer has bytes: they lie in the room behind the page, which is lent full of a pattern. Where a refusal changed a
-// byte of what was lent, or an acceptance one past its length, the answer is `touched`. A list of halfwords is lent apart, alike.
+// The entries that write bytes. They are lent the room behind the page, filled with a pattern. If a refusal changes a lent byte, or an
+// acceptance one past its length, the answer is `touched`. A list of halfwords is lent apart, in the same way.
 use crate::entries;
 use crate::lists;
 use crate::lists::NUMBERS;
@@ -21,7 +21,7 @@ use ulmarzhe_text::part::wide32;
 use wire::WriteAnswer;
 use writer_head::Given;
 
-// Sets and writers: the room that is lent is as large as the question says, and never larger than an answer needs.
+// Sets and writers. The room lent is as large as the question says, but at most `ROOM`: no answer needs more.
 pub fn write(entry: usize, n: [u64; 6], body: &[u8], sheet: &mut [u8; SHEET]) -> Told {
     let room = if entry == entries::WRITE {
         room_of(n[5], ROOM)
@@ -37,7 +37,7 @@ pub fn write(entry: usize, n: [u64; 6], body: &[u8], sheet: &mut [u8; SHEET]) ->
     touched()
 }
 
-// The library is lent the room up to `end`.
+// Lends the library the room up to `end`.
 fn lend(entry: usize, n: [u64; 6], body: &[u8], sheet: &mut [u8], end: usize) -> Told {
     if sheet.len() < end {
         return touched();
@@ -89,7 +89,7 @@ pub fn lay(sheet: &mut [u8; SHEET], end: usize) {
     }
 }
 
-// Whether the pattern stands after a length to the end of what was lent.
+// Whether the pattern is unchanged after a length, up to the end of what was lent.
 pub fn is_kept(sheet: &[u8; SHEET], length: usize, end: usize) -> bool {
     let mut i = length;
     while i < ROOM {
@@ -199,7 +199,7 @@ pub fn of_salvage(
     t
 }
 
-// The library is lent the room up to `end` and the list up to `last`.
+// Lends the library the room up to `end` and the list up to `last`.
 fn lend_both(buffer: &[u8], sheet: &mut [u8], end: usize, list: &mut [u64], last: usize) -> Told {
     if sheet.len() < end {
         return touched();

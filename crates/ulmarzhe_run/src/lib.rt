@@ -1,4 +1,4 @@
-// The program: what the command line asks for is done, and answered by an exit status.
+// The program: does what the command line asks for and answers the exit status.
 use ulmarzhe_text::files;
 use ulmarzhe_text::output;
 use ulmarzhe_text::page;
@@ -28,7 +28,7 @@ const CASES: usize = 8;
 
 const COMMANDS: usize = 10;
 
-// The places of a row. What a command does has a place a line, from `HELP` to before `END`.
+// The places of a row. The text of what a command does has one place for each line, from `HELP` up to but not including `END`.
 const NAME: usize = 0;
 
 const LEAST: usize = 1;
@@ -41,7 +41,7 @@ const HELP: usize = 4;
 
 const END: usize = 7;
 
-// A row a command: its name, the fewest and the most words after it, their form, and what it does.
+// One row for each command: its name, the fewest and the most words after it, their form, and what it does.
 #[no_mangle]
 pub extern "C" fn ulmarzhe_run() -> i32 {
     let table =
@@ -91,7 +91,7 @@ fn row_of(table: &[u8], word: &[u8]) -> usize {
     COMMANDS
 }
 
-// Whether a command has as many words after it as it takes. The row of no command says no number.
+// Whether the command is followed by as many words as it takes. An unknown command's row holds no number, so the answer is no.
 fn has_words(row: &[u8]) -> bool {
     let least = words::read_decimal(words::pick(row, LEAST));
     let most = words::read_decimal(words::pick(row, MOST));

@@ -1,5 +1,5 @@
-// The file CLEAN that kept frames are written to. They go to CLEAN.part, which takes the name CLEAN once it is whole: so what has that
-// name is whole, and a file that is to be written over stays until then.
+// The file CLEAN that kept frames are written to. They go to CLEAN.part, which is renamed to CLEAN once it is whole. So a CLEAN with
+// frames is whole, and an older CLEAN stays until then.
 ghost use Rattle.libc.specs.Io.{Ended};
 use libc::PATH_MAX;
 use ulmarzhe_text::page;
@@ -11,7 +11,7 @@ use ulmarzhe_text::words;
 
 const LAST: usize = PATH_MAX - 1;
 
-// Whether CLEAN may be written, or it is said why not.
+// Whether CLEAN may be written. If not, says why.
 pub fn is_free(clean: &[u8], damaged: i32, over: bool, sheet: &mut [u8; SHEET]) -> bool {
     if over {
         return may_replace(clean, damaged, sheet);
@@ -48,7 +48,7 @@ fn may_replace(clean: &[u8], damaged: i32, sheet: &mut [u8; SHEET]) -> bool {
     may
 }
 
-// Neither the recording itself gives way nor what is no regular file, such as a device.
+// CLEAN may be replaced unless it is the damaged recording itself or no regular file, such as a device.
 fn gives_way(clean: &[u8], old: i32, damaged: i32, sheet: &mut [u8; SHEET]) -> bool {
     if is_same(old, damaged, sheet) {
         say(clean, b": is the damaged recording\n", sheet);
@@ -67,13 +67,13 @@ fn say(clean: &[u8], why: &[u8], sheet: &mut [u8; SHEET]) {
     page::send(libc::STDERR_FILENO, sheet, at);
 }
 
-// Only a regular file can be cut: it is cut to the length that it has.
+// `ftruncate` accepts only regular files. Cutting a file to its present length changes nothing.
 fn is_regular(fd: i32) -> bool {
     let end = libc::lseek(fd, 0, libc::SEEK_END);
     libc::ftruncate(fd, end) == 0
 }
 
-// Whether two open files have one name, as the system tells it with links followed. Where it tells none they are taken for one.
+// Whether the system tells the same name of two open files, links followed. If it tells no name of either, they count as the same.
 fn is_same(a: i32, b: i32, sheet: &mut [u8; SHEET]) -> bool {
     let mut first = io::buffer();
     let mut second = io::buffer();
@@ -93,7 +93,7 @@ fn name_of(fd: i32, name: &mut [u8; PATH_MAX], sheet: &mut [u8; SHEET]) -> usize
     io::count(got, name)
 }
 
-// A path as C takes it.
+// A path with the zero byte at its end that C needs.
 fn end_path(text: &[u8]) -> [u8; PATH_MAX]
     ensures { λ r. ⌜ Ended r ⌝ }
 {
@@ -110,13 +110,13 @@ fn end_path(text: &[u8]) -> [u8; PATH_MAX]
     path
 }
 
-// CLEAN.part on the page, up to the place that is answered.
+// Puts the name CLEAN.part on the page and answers where it ends.
 fn name_part(clean: &[u8], sheet: &mut [u8; SHEET]) -> usize {
     let at = page::put_text(sheet, 0, clean);
     page::put_text(sheet, at, b".part")
 }
 
-// CLEAN.part, new and open for writing, or -1 once it is said why not.
+// Makes CLEAN.part and opens it for writing. If that fails, says why and answers -1.
 pub fn open_part(clean: &[u8], sheet: &mut [u8; SHEET]) -> i32 {
     let at = name_part(clean, sheet);
     let name = part(sheet, 0, at);
@@ -127,7 +127,7 @@ pub fn open_part(clean: &[u8], sheet: &mut [u8; SHEET]) -> i32 {
     file
 }
 
-// Whether all that was written is on its device.
+// Stores a file on its device and closes it. Answers whether both went well.
 pub fn is_stored(file: i32) -> bool {
     if libc::fsync(file) < 0 {
         return false;
@@ -140,7 +140,7 @@ pub fn remove_part(clean: &[u8], sheet: &mut [u8; SHEET]) {
     os::unlink(part(sheet, 0, at));
 }
 
-// CLEAN.part takes its name, or is removed once it is said why not. Whether CLEAN is whole on its device is answered.
+// Renames CLEAN.part to CLEAN. If that fails, says why and removes it. Answers whether CLEAN is whole on its device.
 pub fn take_name(clean: &[u8], over: bool, sheet: &mut [u8; SHEET]) -> bool {
     if !over && !make(clean) {
         remove_part(clean, sheet);
@@ -158,7 +158,7 @@ pub fn take_name(clean: &[u8], over: bool, sheet: &mut [u8; SHEET]) -> bool {
     false
 }
 
-// The name is on its device once its folder is.
+// A file's name is stored by storing its folder.
 fn store_name(clean: &[u8]) -> bool {
     let folder = open_folder(clean);
     if folder < 0 {

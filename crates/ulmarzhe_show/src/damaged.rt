@@ -17,14 +17,14 @@ use ulmarzhe_text::words;
 
 const MEBIBYTE: u64 = 1048576;
 
-// From how many bytes on a recording is long, and after how many more it is shown how far the walk is.
+// A recording of `LONG` bytes or more is long: its progress is shown every `STEP` bytes.
 const LONG: u64 = 64 * MEBIBYTE;
 
 const STEP: u64 = 16 * MEBIBYTE;
 
-// A salvage as far as it has come: what is written of it; the file that the frames go to; where the frame kept last ends; the frames kept
-// and their bytes. `undecided`: of what is left only the next window can tell. `next`: the place from which on it is shown how far the
-// walk is; `length`: the recording's.
+// A salvage so far. `out`: its account; `file`: where frames are written; `end`: where the last kept frame ends; `frames` and `bytes`: how
+// many are kept. `undecided`: the next window is needed to decide about the rest. `next`: the place at which progress is shown next;
+// `length`: the recording's.
 pub struct Salvage {
     pub reading: Reading,
     pub out: Output,
@@ -65,7 +65,7 @@ fn length_of(fd: i32) -> u64 {
     natural(end)
 }
 
-// Nothing is shown of a recording that is not long, or to nobody.
+// The first place at which progress is shown: none for a recording that is not long, or if standard error is no terminal.
 fn first_shown(length: u64) -> u64 {
     if length < LONG {
         return u64::MAX;
@@ -103,7 +103,7 @@ fn read_more(s: Salvage, window: &mut [u8; WINDOW]) -> Salvage {
     s
 }
 
-// It is said why the recording cannot be read, or what is kept of it not written.
+// Says why the recording cannot be read, or why what is kept cannot be written.
 fn fail(s: Salvage, what: &[u8]) -> Salvage {
     os::fail(what);
     let mut s = s;
@@ -134,7 +134,7 @@ fn walk_window(s: Salvage, window: &[u8; WINDOW], sheet: &mut [u8; SHEET]) -> Sa
     s
 }
 
-// The bytes up to the next frame that passes are skipped, and the frames that follow one another from there are kept.
+// Skips the bytes up to the next frame that passes, and keeps the frames that follow one another from there.
 fn take_stretch(s: Salvage, window: &[u8; WINDOW], sheet: &mut [u8; SHEET]) -> Salvage {
     let r = s.reading;
     let stream = part(window, 0, r.fill);
@@ -150,8 +150,8 @@ fn take_stretch(s: Salvage, window: &[u8; WINDOW], sheet: &mut [u8; SHEET]) -> S
     look_at(s, f.end)
 }
 
-// The place up to which the window decides what is skipped. A frame that stands in the window stands in the recording; that none begins
-// at a place is certain if the longest would end in the window, or if the recording does.
+// The place up to which the window decides what is skipped. A frame found in the window is a frame of the recording. That no frame begins
+// at a place is certain only if the longest frame would end in the window, or if the recording ends there.
 fn decided_end(r: Reading) -> usize {
     if r.ended {
         return r.fill;
@@ -195,7 +195,7 @@ fn place_of(s: Salvage) -> u64 {
     window::place_of(s.reading)
 }
 
-// The run from the frame kept last up to what is looked at, where there is one.
+// Lists the run between the last kept frame and the place that is looked at, unless it is empty.
 fn list_run(s: Salvage, sheet: &mut [u8; SHEET]) -> Salvage {
     let place = place_of(s);
     if place == s.end {
@@ -213,7 +213,7 @@ fn list_run(s: Salvage, sheet: &mut [u8; SHEET]) -> Salvage {
     s
 }
 
-// Frames from what is looked at on.
+// Counts and writes frames that begin at the place that is looked at.
 fn keep(s: Salvage, bytes: &[u8], count: u64) -> Salvage {
     let mut s = s;
     let length = bytes.len() as u64;
@@ -233,7 +233,7 @@ fn list_last_run(s: Salvage, sheet: &mut [u8; SHEET]) -> Salvage {
     list_run(s, sheet)
 }
 
-// How far the walk is, on a line that is left at its start: whatever is written next is longer and covers it.
+// Shows how far the walk is. The line ends in a carriage return, and whatever is written next is longer and covers it.
 fn show_progress(s: Salvage, sheet: &mut [u8; SHEET]) -> Salvage {
     let place = place_of(s);
     if place < s.next {
@@ -254,7 +254,7 @@ fn clear_progress(s: Salvage) {
     }
 }
 
-// All that was kept is on its device, or it is said why not.
+// Stores all that was kept on its device, or says why not.
 pub fn store(s: Salvage) -> Salvage {
     if has_failed(s) {
         libc::close(s.file);

@@ -8,7 +8,7 @@ use crate::recorded::Walk;
 use frame::FrameAnswer;
 use gate_value::GateAnswer;
 use radial::MomentAnswer;
-use radial::MomentHead;
+use radial_check::MomentHead;
 use ulmarzhe_text::output;
 use ulmarzhe_text::output::Output;
 use ulmarzhe_text::page;
@@ -96,7 +96,7 @@ fn in_radial(
     }
 }
 
-// A scale or an offset that no value can be made with is refused for every gate alike.
+// A wrong scale or offset is refused whatever the code, so one code tells it for every gate.
 fn refusal_of(answer: GateAnswer) -> u8 {
     match answer {
         GateAnswer::Refused(n) => n,

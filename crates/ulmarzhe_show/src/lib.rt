@@ -50,7 +50,7 @@ fn list(mode: u8) -> u8 {
     )
 }
 
-// What is left of the page is written.
+// Closes the recording and writes what is left of the page.
 fn end(w: Walk, sheet: &[u8; SHEET]) -> u8 {
     let r = w.reading;
     libc::close(r.fd);
@@ -173,7 +173,7 @@ pub fn show_map_code() -> u8 {
     output::end(out, &sheet)
 }
 
-// A file is read into the window from a place on and closed, or it is said why it cannot be.
+// Reads a file into the window from a place on and closes it, or says why it cannot be read.
 fn read_map(fd: i32, from: usize, name: &[u8], window: &mut [u8; WINDOW]) -> Reading {
     let mut r = window::begin(fd, 0);
     r.fill = from;
@@ -185,7 +185,7 @@ fn read_map(fd: i32, from: usize, name: &[u8], window: &mut [u8; WINDOW]) -> Rea
     r
 }
 
-// A file longer than the window is longer than any map, and refused alike.
+// A file that the window cuts off is longer than any map, and what is left is refused as the whole would be.
 fn ask_map(
     window: &[u8; WINDOW],
     fill: usize,
@@ -273,7 +273,7 @@ fn says_over() -> bool {
     words::same(&word[..length], b"over")
 }
 
-// Whatever was skipped, a salvage is done if CLEAN is whole on its device, and else not.
+// A salvage is done exactly if CLEAN is whole on its device, whatever was skipped.
 fn salvage_to(fd: i32, clean: &[u8], over: bool) -> u8 {
     let mut window = [0u8; WINDOW];
     let mut sheet = [0u8; SHEET];

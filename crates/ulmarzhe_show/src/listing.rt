@@ -6,10 +6,10 @@ use crate::why;
 use frame::DATA;
 use header::Header;
 use header::HeaderAnswer;
-use radial::MomentHead;
 use radial::ROOM;
 use radial::Radial;
 use radial_check::CONSTANTS;
+use radial_check::MomentHead;
 use ulmarzhe_text::output;
 use ulmarzhe_text::output::Output;
 use ulmarzhe_text::page;
@@ -78,7 +78,7 @@ fn put_header(sheet: &mut [u8; SHEET], at: usize, h: Header) -> usize {
     page::fill_in(sheet, next, b", segment # of #\n", &last)
 }
 
-// A radial's date and time are not checked: those that no clock shows are shown as stored.
+// No rule checks a radial's date and time. Values that no clock shows are written as stored.
 fn put_stamp(sheet: &mut [u8; SHEET], at: usize, date: u16, milliseconds: u32) -> usize {
     if header::breaks_time(date, milliseconds) {
         let stored = [wide16(date), wide32(milliseconds)];
@@ -97,7 +97,7 @@ fn put_stamp(sheet: &mut [u8; SHEET], at: usize, date: u16, milliseconds: u32) -
     page::fill_in(sheet, at, b"#-@-@ @:@:@.&", &values)
 }
 
-// What is no radial has no line; a message that is refused has one, since nobody can tell what it was.
+// A message of another type has no line. A refused message has one, since it may have been a radial.
 pub fn list_radial(
     sheet: &mut [u8; SHEET],
     out: Output,
@@ -141,7 +141,7 @@ fn put_values(sheet: &mut [u8; SHEET], at: usize, h: radial_heading::Header) -> 
     page::put_text(sheet, next, b"  ")
 }
 
-// An angle that is none is shown by its bits.
+// An angle with more than eighteen digits, or that is no number, is shown by its bits.
 fn put_angle(sheet: &mut [u8; SHEET], at: usize, bits: u32) -> usize {
     let a = real::angle_of(bits);
     if a.plain {

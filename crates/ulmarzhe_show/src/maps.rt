@@ -17,7 +17,7 @@ use ulmarzhe_text::words;
 // A byte more than the longest map has: a file that is cut off here is refused as the whole would be.
 pub const LONG: usize = 147607;
 
-// Pairs of an old and a new code. A tally has a cell for each of them and one for all, in each elevation segment and, as segment 0, in all.
+// Pairs of an old and a new code. A tally has a cell for each pair and one for all, in each elevation segment and, as segment 0, in all.
 const PAIRS: usize = 9;
 
 const ELEVATIONS: usize = 5;
@@ -58,7 +58,7 @@ fn put_change(sheet: &mut [u8; SHEET], at: usize, old: usize, new: usize) -> usi
     page::put_byte(sheet, next, b'\n')
 }
 
-// A line a difference of two maps, and what they come to. Maps differ too if one has more elevation segments.
+// One line for each difference of two maps, then the totals. Maps differ too if one has more elevation segments.
 pub fn show_differences(
     old: &[u8],
     new: &[u8],
@@ -83,7 +83,7 @@ pub fn show_differences(
     }
 }
 
-// The first map is refused first.
+// Where both maps are refused, the first one's refusal is told.
 fn put_refused(sheet: &mut [u8; SHEET], old: &[u8], n: u8) -> usize {
     let at = match map::check_map(old) {
         MapAnswer::Refused(_) => page::put_text(sheet, 0, b"old map, "),
@@ -154,7 +154,7 @@ fn put_line(sheet: &mut [u8; SHEET], at: usize, d: Difference) -> usize {
     put_change(sheet, next, d.old as usize, d.new as usize)
 }
 
-// A difference's kilometres, counted for its pair of codes and for all, in its elevation segment and in all.
+// Adds a difference's kilometres to four cells: those of its pair and of all pairs, in its elevation segment and in all.
 fn count_in(tally: &mut [u64; CELLS], d: Difference) {
     let pair = d.old as usize * 3 + d.new as usize;
     let elevation = d.elevation as usize;
@@ -172,7 +172,7 @@ fn kilometres(first: u16, last: u16) -> u64 {
     (last - first) as u64 + 1
 }
 
-// The place in a tally, or where there is none the first, whose pair no difference has.
+// A cell's place in a tally. Out of range it is 0: that pair is of two equal codes, so no difference has it.
 fn cell(elevation: usize, pair: usize) -> usize {
     if ELEVATIONS < elevation {
         return 0;

@@ -1,7 +1,7 @@
-// A picture of a moment's codes: a row a radial that has it, as they come, a column a gate. A first walk finds how large it is.
+// A picture of a moment's codes: a row for each radial that has the moment, in order, a column for each gate. A first walk measures it.
 use crate::recorded::Carried;
 use radial::MomentAnswer;
-use radial::WIDE_WORD;
+use radial_check::WIDE_WORD;
 use ulmarzhe_text::output;
 use ulmarzhe_text::output::Output;
 use ulmarzhe_text::page;
@@ -9,7 +9,7 @@ use ulmarzhe_text::page::SHEET;
 use ulmarzhe_text::part::wide16;
 use wire::refusal;
 
-// How many rows a picture has, how many gates the longest, and whether a code takes two bytes.
+// How many rows a picture has, how many gates its longest row has, and whether a code takes two bytes.
 pub struct Picture {
     pub rows: u64,
     pub most: u16,
@@ -24,7 +24,7 @@ pub fn empty() -> Picture {
     }
 }
 
-// The moment of a radial, where it has one. `refused`: the message or the radial is.
+// The moment of a radial, where it has one. `refused`: the message or the radial is refused.
 struct Shown {
     there: bool,
     refused: bool,
@@ -103,7 +103,7 @@ pub fn add_row(
     output::fill(out, put_codes(p, gates, s.word, sheet, out.at))
 }
 
-// Gates past the last are 0.
+// A row with fewer gates than the longest is filled up with 0.
 fn put_codes(p: Picture, gates: &[u8], word: u8, sheet: &mut [u8; SHEET], at: usize) -> usize {
     let most = p.most;
     let mut next = at;

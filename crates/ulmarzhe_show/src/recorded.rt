@@ -43,7 +43,7 @@ pub struct Walk {
     pub picture: Picture,
 }
 
-// What stands at the place that is looked at, as far as more bytes could not change it.
+// What the frame reader answers at the place that is looked at.
 pub struct Found {
     pub reading: Reading,
     pub answer: FrameAnswer,
@@ -79,7 +79,7 @@ pub fn follow(
     w
 }
 
-// The frame that is looked at lies whole in the window, as far as the recording has it, or it could not be read.
+// Reads until the frame that is looked at is whole in the window or refused for what it says, or the recording ends or cannot be read.
 pub fn find(r: Reading, window: &mut [u8; WINDOW]) -> Found {
     let mut f = ask(r, window);
     let mut turns = u64::MAX;
@@ -101,7 +101,7 @@ fn ask(r: Reading, window: &[u8; WINDOW]) -> Found {
     }
 }
 
-// More bytes cannot change what is said of a frame that is whole, or of one that is refused for what it says.
+// More bytes cannot change the answer of a whole frame, or of one that is refused but not cut off.
 fn is_settled(f: Found) -> bool {
     let r = f.reading;
     if r.ended {
@@ -143,7 +143,7 @@ fn finish(w: Walk) -> Walk {
     w
 }
 
-// It is said why the recording cannot be read.
+// Says why the recording cannot be read.
 pub fn fail(w: Walk) -> Walk {
     os::fail(b"recording");
     let mut w = finish(w);
@@ -151,7 +151,7 @@ pub fn fail(w: Walk) -> Walk {
     w
 }
 
-// A frame, shown and passed over.
+// Shows a frame and goes on after it.
 fn take(w: Walk, mode: u8, name: [u8; 4], f: Frame, whole: &[u8], sheet: &mut [u8; SHEET]) -> Walk {
     let out = show(w, mode, name, f.kind, whole, sheet);
     let p = survey(w, mode, name, f.kind, whole);
@@ -233,7 +233,7 @@ fn stop(w: Walk, mode: u8, n: u8, sheet: &mut [u8; SHEET]) -> Walk {
     w
 }
 
-// The damaged place on standard error, once what was drawn is written.
+// Writes what was drawn, then the damaged place on standard error.
 fn tell_stop(out: Output, place: u64, n: u8, sheet: &mut [u8; SHEET]) -> Output {
     if output::has_failed(out) {
         return out;

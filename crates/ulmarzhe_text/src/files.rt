@@ -4,8 +4,8 @@ use crate::words::Number;
 
 const STREAMS: usize = 3;
 
-// Where a standard stream is closed, the root folder takes its number: it can be neither read nor written, and no other file is taken for
-// the stream.
+// Opens the root folder in place of each closed standard stream. A folder can be neither read nor written, and no file that is opened later
+// gets the stream's number.
 pub fn hold_streams() {
     let mut k = 0;
     while k < STREAMS {
@@ -18,7 +18,7 @@ pub fn hold_streams() {
     }
 }
 
-// The file that an argument names, open for reading, or -1 once it is said why it is not.
+// Opens the file that an argument names for reading. If that fails, says why and answers -1.
 pub fn open_named(i: usize) -> i32 {
     let mut path = io::buffer();
     let length = os::arg(i, &mut path);
@@ -43,7 +43,7 @@ fn open(path: &[u8]) -> i32 {
     fd
 }
 
-// A directory can be opened. That it cannot be read is said where nothing is asked of it.
+// `open` accepts a directory; a read of no bytes reports it.
 fn can_read(fd: i32, none: &mut [u8]) -> bool {
     0 <= libc::read(fd, &mut none[0..0])
 }

@@ -1,4 +1,4 @@
-// What both halves of the program are written with: parts and counts that stay in range, text on a page, words, floats in decimals, files
+// What both halves of the program use: parts and counts that stay in range, text on a page, words, floats in decimals, files
 // read by windows, and how a command ended.
 pub mod files;
 pub mod output;

@@ -1,4 +1,4 @@
-// Standard output: text is gathered on the page and written out where the page is filled beyond a place.
+// Standard output: text is gathered on the page, which is written out when it is filled beyond a place.
 use crate::page;
 use crate::page::SHEET;
 use crate::status;
@@ -16,14 +16,14 @@ pub fn begin(at: usize) -> Output {
     Output { at, status: DONE }
 }
 
-// The page is filled up to another place.
+// Sets how far the page is filled.
 pub fn fill(o: Output, at: usize) -> Output {
     let mut o = o;
     o.at = at;
     o
 }
 
-// The same, by an answer that is a no.
+// The same, and the command's answer is a no.
 pub fn refuse(o: Output, at: usize) -> Output {
     Output {
         at,
@@ -31,7 +31,7 @@ pub fn refuse(o: Output, at: usize) -> Output {
     }
 }
 
-// Something could not be read or written, and that was said.
+// Something could not be read or written, and the caller has said so.
 pub fn fail(o: Output) -> Output {
     let mut o = o;
     o.status = NOT_DONE;
@@ -61,7 +61,7 @@ pub fn write(o: Output, bytes: &[u8]) -> Output {
     tell_failure(o)
 }
 
-// What is on the page is given up.
+// Says why standard output cannot be written, and drops what is on the page.
 fn tell_failure(o: Output) -> Output {
     os::fail(b"standard output");
     fail(fill(o, 0))

@@ -1,5 +1,5 @@
 // Text is written into a page that the caller lends. Each function takes how far the page is filled and answers how far it is then.
-// What comes after a full page is left out: a caller empties the page long before. Behind the page lies the room that the library is lent.
+// Text past the page's end is dropped; callers empty the page long before. Behind the page lies the room that is lent to the library.
 use crate::part::part;
 use crate::part::sum;
 
@@ -47,7 +47,7 @@ pub fn fill_in(sheet: &mut [u8; SHEET], at: usize, words: &[u8], numbers: &[u64]
     next
 }
 
-// Most of what is written: no mark.
+// A space or a small letter is never a mark. Most bytes are such.
 fn is_plain(mark: u8) -> bool {
     if mark == b' ' {
         return true;
@@ -99,7 +99,7 @@ fn letter(n: u64) -> u8 {
     b
 }
 
-// A number with at least so many places before its last digit, where `blank` stands in front of its first.
+// A number with at least `before` places before its last digit, filled with `blank` in front.
 fn put_decimal(sheet: &mut [u8; SHEET], at: usize, n: u64, before: usize, blank: u8) -> usize {
     let wide = places(n / 10, before);
     let next = put_front(sheet, at, n / 10, wide, blank);
@@ -119,7 +119,7 @@ fn places(n: u64, least: usize) -> usize {
     k
 }
 
-// A number in that many places, written from its last digit, unless it is past the page.
+// Writes a number in `wide` places, last digit first, or nothing if it would go past the page's end.
 fn put_front(sheet: &mut [u8; SHEET], at: usize, n: u64, wide: usize, blank: u8) -> usize {
     let end = sum(at, wide);
     if PAGE < end {
@@ -135,7 +135,7 @@ fn put_front(sheet: &mut [u8; SHEET], at: usize, n: u64, wide: usize, blank: u8)
     end
 }
 
-// The last digit of what is left of a number, or what stands in front of it.
+// The last digit of what is left of a number, or `blank` if nothing is left.
 fn digit(rest: u64, blank: u8) -> u8 {
     if rest == 0 {
         return blank;

@@ -1,4 +1,4 @@
-// Parts of a slice, and counts that stay in range: what cannot be had is empty, or the nearest count.
+// Parts of a slice, and counts that stay in range. A part outside the slice is empty; a count out of range is the nearest in range.
 pub fn part(s: &[u8], from: usize, to: usize) -> &[u8] {
     if to <= s.len() {
         if from <= to {
@@ -30,7 +30,7 @@ pub fn natural(n: i64) -> u64 {
     n as u64
 }
 
-// A number by itself, so that whoever widens many has nothing to show of each.
+// A cast in a function of its own, so that callers prove nothing per cast.
 pub fn wide8(x: u8) -> u64 {
     x as u64
 }

@@ -1,4 +1,4 @@
-// A 32-bit float in decimals, by integer arithmetic on its bits, rounded to the nearest, to the even one of two as near.
+// A 32-bit float in decimals, by integer arithmetic on its bits, rounded to the nearest, a tie to the even one.
 use crate::page;
 use crate::page::SHEET;
 use crate::part::sum;
@@ -8,7 +8,7 @@ use wire::SIGN;
 
 const LIMB: u64 = 1000000000000000000;
 
-// The parts of a finite float without its sign: whole units in three limbs, the highest first, and what the decimals say.
+// The parts of a finite float without its sign: whole units in three limbs, the highest first, and the decimals as one number.
 struct Parts {
     high: u64,
     middle: u64,
@@ -16,7 +16,7 @@ struct Parts {
     decimals: u64,
 }
 
-// `which` words a float is shown with, in the order of the list in `shown`, and the numbers among them.
+// `which` text of the list in `show` a float has, and the numbers in it.
 struct Text {
     which: usize,
     values: [u64; 5],
@@ -36,8 +36,8 @@ pub fn show(sheet: &mut [u8; SHEET], at: usize, bits: u32) -> usize {
     page::fill_in(sheet, at, words::pick(list, t.which), &values)
 }
 
-// A float with two decimals, in numbers: `plain` where it has at most eighteen digits before them; `sign` is the number of a minus or of
-// a space.
+// A float with two decimals, in numbers. `plain`: at most eighteen digits stand before the decimals; `sign`: the byte of a minus or of a
+// space.
 pub struct Angle {
     pub plain: bool,
     pub sign: u64,
@@ -142,7 +142,7 @@ fn double(p: Parts) -> Parts {
     }
 }
 
-// A number halved some times over. One below 2^24 that is halved 40 times has no decimals left, of four.
+// A number halved `times` times. A number below 2^24 that is halved 40 times is 0 to four decimals.
 fn divide(digits: u64, times: u64, four: bool) -> Parts {
     if 40 <= times {
         return units(0, 0);
@@ -160,7 +160,7 @@ fn divide(digits: u64, times: u64, four: bool) -> Parts {
     units(low, decimals)
 }
 
-// As many decimals as are shown, of a number below 2^24.
+// A number below 2^24, multiplied so that four or two decimals become whole.
 fn scale(n: u64, four: bool) -> u64 {
     let small = n % 16777216;
     if four { small * 10000 } else { small * 100 }
@@ -180,7 +180,7 @@ fn round(whole: u64, left: u64, by: u64) -> u64 {
     whole + whole % 2
 }
 
-// The bits of a float. The language has one NaN, and its bits are none that are asked for.
+// The bits of a float. The language has one NaN; the number here stands for its bits.
 pub fn bits_of(x: f32) -> u32 {
     if x == x {
         return f32::to_bits(x);

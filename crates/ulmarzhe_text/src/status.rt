@@ -8,7 +8,7 @@ pub const NO: u8 = 1;
 // Not done: the command line is wrong, or a file or standard output cannot be read or written.
 pub const NOT_DONE: u8 = 2;
 
-// Not done, since the words are not those that the command takes. Who has the commands' forms says so; the program ends as not done.
+// Not done: the command does not take these words. `ulmarzhe_run` has the commands' forms and says so; the program ends as not done.
 pub const WRONG_WORDS: u8 = 3;
 
 pub fn worse(a: u8, b: u8) -> u8 {

@@ -3,10 +3,10 @@ use crate::part::sum;
 
 pub const WINDOW: usize = 2359296;
 
-// As much is read at a time as stays near the processor.
+// How many bytes are read at a time: few enough to stay in the processor's cache.
 const AT_ONCE: usize = 262144;
 
-// What is looked at begins at `from` in the window, whose first byte is the file's at `base`; the window is filled up to `fill`.
+// What is looked at begins at `from` in the window. The window is filled up to `fill`, and its first byte is the file's byte at `base`.
 // `ended`: nothing is left to read; `failed`: it could not be read.
 pub struct Reading {
     pub fd: i32,
@@ -33,7 +33,7 @@ pub fn place_of(r: Reading) -> u64 {
     std::num::wrapping_add_u64(r.base, r.from as u64)
 }
 
-// What was begun is moved to the window's start, and more is read after it.
+// Moves the bytes that are looked at to the window's start and reads more after them.
 pub fn read_more(r: Reading, window: &mut [u8; WINDOW]) -> Reading {
     let fill = move_down(window, r.from, r.fill);
     let got = read_at(r.fd, window, fill);
@@ -72,14 +72,14 @@ fn read_at(fd: i32, window: &mut [u8], at: usize) -> isize {
     libc::read(fd, &mut window[at..])
 }
 
-// What is looked at begins at another place.
+// Looks at another place of the window.
 pub fn look_at(r: Reading, from: usize) -> Reading {
     let mut r = r;
     r.from = from;
     r
 }
 
-// All of a file, as far as the window holds it.
+// Reads a file to its end, or as far as the window holds it.
 pub fn read_all(r: Reading, window: &mut [u8; WINDOW]) -> Reading {
     let mut r = r;
     let mut turns = u64::MAX;

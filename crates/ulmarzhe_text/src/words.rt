@@ -120,7 +120,7 @@ fn with_digit(value: u64, digit: u8) -> Number {
     }
 }
 
-// The value of a lower-case hexadecimal digit, or 16.
+// The value of a lower-case hexadecimal digit, or 16 for any other byte.
 fn nibble(digit: u8) -> u16
     ensures { λ r. ⌜ r ≤ 16 ⌝ }
 {
@@ -139,7 +139,7 @@ fn nibble(digit: u8) -> u16
     16
 }
 
-// The byte that the two digits at a place say, or 256 where they say none.
+// The byte that the two digits at a place stand for, or 256 if they are no digits.
 pub fn octet(word: &[u8], at: usize) -> u16
     ensures { λ r. ⌜ r ≤ 256 ⌝ }
 {
@@ -160,7 +160,7 @@ pub fn octet(word: &[u8], at: usize) -> u16
     high * 16 + low
 }
 
-// Digits in their place are turned into the bytes that they say. It answers where these end, or 0 where the digits say none.
+// Turns digits into bytes in place. Answers where the bytes end, or 0 if the digits are wrong.
 pub fn decode(window: &mut [u8; WINDOW], from: usize, end: usize) -> usize {
     let mut to = from;
     let mut i = from;

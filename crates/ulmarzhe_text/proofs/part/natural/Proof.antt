@@ -15,15 +15,12 @@ from-zero : (z : ℤ) → ltZ z (pos 0) ≡ false → T (nonNeg z)
 from-zero (pos n) h = tt
 from-zero (negsuc n) h = subst T h tt
 
-returns : tie.Need-returns
-returns c = search needs
-
 cast-result : tie.Need-cast-result
-cast-result c =
-    (from-zero (toZ w64 (ofZ w64 (c .before .args .n))) (c .if1 .left), fits-natAbs {w = w64} tt (sfits-toZ (fits-ofZ (c .before .fits .n))))
-
-returns-2 : tie.Need-returns-2
-returns-2 c = search needs
+cast-result c = (
+  from-zero (toZ w64 (ofZ w64 (c .before .args .n))) (c .if1 .left),
+  fits-natAbs {w = w64} tt
+      (sfits-toZ (fits-ofZ (c .before .fits .n))),
+)
 
 pub natural-spec : {M : Type 1} → statement M
-natural-spec = tie.close (tie.spec returns cast-result returns-2)
+natural-spec = tie.close (tie.spec (λ c. search needs) cast-result (λ c. search needs))

@@ -7,8 +7,5 @@ use Rattle.ulmarzhe_text.proofs.part.wide_signed.Tie as tie
 cast-result : tie.Need-cast-result
 cast-result c = sfits-widen {w = w32} tt (sfits-toZ (fits-ofZ (c .fits .n)))
 
-returns : tie.Need-returns
-returns c = search needs
-
 pub wide-signed-spec : {M : Type 1} → statement M
-wide-signed-spec = tie.close (tie.spec cast-result returns)
+wide-signed-spec = tie.close (tie.spec cast-result (λ c. search needs))
