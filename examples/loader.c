@@ -11,7 +11,7 @@
 
 #include "ulm.h"
 
-enum { HEADER = 16, RADIAL = 31 };
+enum { RADIAL = 31 };
 
 struct totals {
     uint64_t frames, radials, without, refused; /* without the moment; radials or headers refused */
@@ -52,7 +52,7 @@ static void add_radial(struct totals *t, const uint8_t *body, size_t len, uint32
     for (uint64_t i = 0; i < found.gates; i++) {
         uint16_t code = code_at(body + found.start, found.word, i);
         ulm_gate_answer gate = ulm_value(code, found.scale, found.offset);
-        if (gate.refusal != 0) { /* the scale or the offset, so it is the same for all gates */
+        if (gate.refusal != 0) { /* the scale or the offset is wrong, so every gate is refused */
             t->refused++;
             return;
         }
@@ -66,10 +66,10 @@ static void add_message(struct totals *t, const uint8_t *message, size_t len, ui
     if (header.refusal != 0)
         t->refused++;
     else if (header.type == RADIAL)
-        add_radial(t, message + HEADER, len - HEADER, name);
+        add_radial(t, message + ULM_HEADER_SIZE, len - ULM_HEADER_SIZE, name);
 }
 
-/* Walks the frames; the refusal that stopped the walk, or 0 at the recording's end. */
+/* Walks the frames. Returns the refusal that stopped the walk, or 0 at the recording's end. */
 static uint32_t add_recording(struct totals *t, const uint8_t *recording, size_t len, uint32_t name)
 {
     ulm_frame_answer frame = ulm_frame(recording, len, 0);

@@ -25,34 +25,60 @@ extern "C" {
 
 /* Why a call was refused. */
 enum ulm_refusal {
-    ULM_REFUSED_FRAME_CUT_OFF = 1,    /* fewer than 12 bytes left, or frame body runs past the buffer */
-    ULM_REFUSED_SESSION_KIND = 2,     /* session kind above 4 */
-    ULM_REFUSED_SESSION_BODY = 3,     /* session body above 131,068 */
-    ULM_REFUSED_MESSAGE_SHORT = 4,    /* message under 16 bytes */
-    ULM_REFUSED_SIZE = 5,             /* size rule broken */
-    ULM_REFUSED_TYPE = 6,             /* type not permitted */
-    ULM_REFUSED_SEGMENT = 7,          /* a segment rule broken (N, number, 31, 1,208) */
-    ULM_REFUSED_DATE_OR_TIME = 8,     /* date or milliseconds out of range */
-    ULM_REFUSED_NOT_DATA = 9,         /* frame of a set isn't data */
-    ULM_REFUSED_DISAGREES = 10,       /* disagrees with the set's first frame */
-    ULM_REFUSED_ALREADY_SEEN = 11,    /* segment number already seen */
-    ULM_REFUSED_ABSENT = 12,          /* a number absent at the end; also the empty set */
-    ULM_REFUSED_OUTPUT_SMALL = 13,    /* output too small for the whole answer */
-    ULM_REFUSED_RADIAL_SHORT = 14,    /* radial body under 68 bytes */
-    ULM_REFUSED_COMPRESSION = 15,     /* compression byte not 0 */
-    ULM_REFUSED_RADIAL_LENGTH = 16,   /* radial length under 68 or above the body */
-    ULM_REFUSED_BLOCK_COUNT = 17,     /* block count not 4 to 9 */
-    ULM_REFUSED_POINTER = 18,         /* pointer too early, or fewer than 6 bytes (constant) or 28 (moment) left
-                                         within the radial length */
-    ULM_REFUSED_NAME = 19,            /* wrong, unknown or repeated name */
-    ULM_REFUSED_BLOCK = 20,           /* block length under its minimum, gates, word size, or block past the
-                                         radial length */
-    ULM_REFUSED_ASKED_FOR = 21,       /* moment, gate, elevation, azimuth or kilometre asked for doesn't exist */
-    ULM_REFUSED_SCALE_OR_OFFSET = 22, /* scale not finite or not above 0, or offset not finite */
-    ULM_REFUSED_LENGTH = 23,          /* body or list 8, 9, 15 too short or too long */
-    ULM_REFUSED_FIELD = 24,           /* field of 8, 9, 15 out of range */
-    ULM_REFUSED_ODD_BODY = 25,        /* body to write has an odd length */
-    ULM_REFUSED_LONG_BODY = 26        /* body to write above 307,200 bytes, or above 131,052 for type 31 */
+    /* fewer than 12 bytes left for a frame, or its body runs past the end */
+    ULM_REFUSED_FRAME_CUT_OFF = 1,
+    /* session kind above 4 */
+    ULM_REFUSED_SESSION_KIND = 2,
+    /* session body above 131,068 bytes */
+    ULM_REFUSED_SESSION_BODY = 3,
+    /* message under 16 bytes */
+    ULM_REFUSED_MESSAGE_SHORT = 4,
+    /* size under 8 or above 65,534 halfwords, or not the message's length */
+    ULM_REFUSED_SIZE = 5,
+    /* message type that is not permitted */
+    ULM_REFUSED_TYPE = 6,
+    /* segment count not 1 to 128, segment number not 1 to the count where that is above 1, a radial in more than one
+       segment, or a segment above 1,208 halfwords */
+    ULM_REFUSED_SEGMENT = 7,
+    /* date 0, or time of day past 86,399,999 milliseconds */
+    ULM_REFUSED_DATE_OR_TIME = 8,
+    /* a frame of the set carries no data */
+    ULM_REFUSED_NOT_DATA = 9,
+    /* a frame disagrees with the set's first */
+    ULM_REFUSED_DISAGREES = 10,
+    /* a segment number occurs twice */
+    ULM_REFUSED_ALREADY_SEEN = 11,
+    /* a segment is missing, or the set is empty */
+    ULM_REFUSED_ABSENT = 12,
+    /* the output has too little room */
+    ULM_REFUSED_OUTPUT_SMALL = 13,
+    /* radial body under 68 bytes */
+    ULM_REFUSED_RADIAL_SHORT = 14,
+    /* the radial is compressed */
+    ULM_REFUSED_COMPRESSION = 15,
+    /* radial length under 68 or above the body's */
+    ULM_REFUSED_RADIAL_LENGTH = 16,
+    /* block count not 4 to 9 */
+    ULM_REFUSED_BLOCK_COUNT = 17,
+    /* a pointer too early, or too near the end of the radial for the head of a block */
+    ULM_REFUSED_POINTER = 18,
+    /* a block's name wrong, unknown or repeated */
+    ULM_REFUSED_NAME = 19,
+    /* a block shorter than its least, too many gates, a word size other than 8 or 16, or a block past the end of the
+       radial */
+    ULM_REFUSED_BLOCK = 20,
+    /* no such moment, gate, elevation, azimuth or kilometre */
+    ULM_REFUSED_ASKED_FOR = 21,
+    /* scale not finite or not above 0, or offset not finite */
+    ULM_REFUSED_SCALE_OR_OFFSET = 22,
+    /* body or list of message 8, 9 or 15 too short or too long */
+    ULM_REFUSED_LENGTH = 23,
+    /* a field of message 8, 9 or 15 out of range */
+    ULM_REFUSED_FIELD = 24,
+    /* body to write has an odd length */
+    ULM_REFUSED_ODD_BODY = 25,
+    /* body to write above 307,200 bytes, or above 131,052 for a radial */
+    ULM_REFUSED_LONG_BODY = 26
 };
 
 /* Kinds of session frames. */
@@ -108,20 +134,24 @@ ulm_frame_answer ulm_frame(const uint8_t *buf, size_t len, size_t place);
 
 /* ---- The message header ---- */
 
+/* The bytes of a message header; a message's data begins after them. */
+#define ULM_HEADER_SIZE 16
+
 typedef struct ulm_header_answer {
     uint32_t refusal;
-    uint32_t size;     /* in halfwords, with the 16 bytes of the header */
+    uint32_t size;     /* in halfwords, with the header's ULM_HEADER_SIZE bytes */
     uint32_t channel;  /* as stored */
     uint32_t type;     /* 1 to 13, 15, 18 or 31 */
     uint32_t sequence; /* as stored */
-    uint32_t date;     /* 1 up */
+    uint32_t date;     /* at least 1 */
     uint32_t ms;       /* milliseconds of the day, at most 86,399,999 */
     uint32_t segments; /* N, 1 to 128 */
     uint32_t number;   /* of this segment, 1 to N; 1 where N is 1, whatever was stored */
 } ulm_header_answer;
 
 /*
- * Reads the header of a message segment: the first 16 bytes of a data frame's body, which is lent whole.
+ * Reads the header of a message segment: the first ULM_HEADER_SIZE bytes of a data frame's body. The whole
+ * body is lent, since its length is checked.
  *
  * Size is 8 to 65,534, and the body is exactly twice that in bytes. Types permitted are 1 to 13, 15, 18 and 31.
  * N is 1 to 128 and the segment number 1 to N; where N is 1 any number is accepted and reported as 1. Type 31 has
@@ -155,7 +185,7 @@ typedef struct ulm_set_answer {
  * The answer is segment 1's header and, in the output, the data of segment 1, then 2, and so on joined, with its
  * length. At most 307,200 bytes are written (131,052 for type 31).
  *
- * Refusals, in order: for each frame in turn those of ulm_frame, 9, those of ulm_header, 10, 11; after all 12, 13.
+ * Refusals, in order: for each frame in turn those of ulm_frame, 9, those of ulm_header, 10, 11; at the end 12, 13.
  */
 ulm_set_answer ulm_set(const uint8_t *buf, size_t len, uint8_t *out, size_t out_len);
 
@@ -171,10 +201,10 @@ typedef struct ulm_salvage_answer {
 /*
  * Salvages a damaged recording: walks the buffer from its start. Where a data frame stands that ulm_frame accepts, with
  * a body that ulm_header accepts, it is copied whole to the output and the walk goes on after it; otherwise one byte is
- * skipped. A message isn't tried past its header, and nothing is looked for inside a kept frame. Frames of other kinds
- * are skipped bytes; a frame that is right by chance is kept.
+ * skipped. A message's body isn't checked, and nothing is looked for inside a kept frame. Frames of other kinds are
+ * skipped bytes. Bytes that pass as a data frame by chance are kept.
  *
- * Each longest run of skipped bytes is listed by two numbers, its place in the buffer and its length. The list has room
+ * Each unbroken run of skipped bytes is listed by two numbers, place in the buffer and length. The list has room
  * for n numbers, while `runs` of the answer counts runs. Kept frames and runs cover the buffer, each byte once.
  * Between two runs stands a frame, of 28 bytes or more: out_len = len and n = 2 * ((len + 28) / 29) always suffice.
  *
@@ -192,10 +222,10 @@ typedef struct ulm_written_answer {
 /*
  * Writes a message as data frames, each with its session header and its message header.
  *
- * A body is cut into data of 2,400 bytes each, the last one shorter or full. An empty body makes one segment, and type
- * 31 makes one frame always. The session's second number is 0; every segment repeats the given channel, type, sequence
+ * The body is cut into segments of 2,400 bytes of data; the last may be shorter. An empty body makes one segment; type
+ * 31 always makes one frame. The session's second number is 0; every segment repeats the given channel, type, sequence
  * number, date and milliseconds; N is the number of segments, and frames are written in order from number 1 to N.
- * The length is the body's and 28 more for each segment.
+ * The length written is the body's plus 28 bytes for each segment.
  *
  * Refusals, in order: 6, 8, 25, 26, 13.
  */
@@ -223,8 +253,8 @@ typedef struct ulm_radial_answer {
 } ulm_radial_answer;
 
 /*
- * Checks a radial and hands on its header's values as stored. Together with ulm_block for 1 to `blocks` and the lent
- * body this is the whole description of the radial.
+ * Checks a radial and gives its header's values as stored. These, ulm_block for 1 to `blocks` and the lent body are the
+ * whole description of the radial.
  *
  * The body has at least 68 bytes, compression 0, a radial length of 68 up to the body's length and 4 to 9 blocks.
  * The first block begins at 68 or later, each next one at or after the end of the one before, and all end within the
@@ -276,7 +306,7 @@ typedef struct ulm_gates_answer {
  * Finds the gates of a moment, by its name: the `size` bytes of the lent body from `start`, one word each, not copied.
  * A word of 16 bits is big-endian. `scale` and `offset` are what ulm_value takes with a code.
  *
- * Refusals, in order: those of ulm_radial, 21. A moment with no gates is accepted with size 0.
+ * Refusals, in order: those of ulm_radial, 21 (no moment of that name). A moment with no gates is accepted with size 0.
  */
 ulm_gates_answer ulm_gates(const uint8_t *body, size_t len, uint32_t name);
 
@@ -292,7 +322,7 @@ typedef struct ulm_gate_answer {
  * Code 0 is below threshold, code 1 range folded. Any other code N, turned to a 32-bit float, gives
  * (N - offset) / scale, one rounded subtraction and one rounded division.
  *
- * Refusals, in order: those of ulm_radial, 21, 22.
+ * Refusals, in order: those of ulm_radial, 21 (no such moment or gate), 22 (as ulm_value, whatever the code).
  */
 ulm_gate_answer ulm_gate(const uint8_t *body, size_t len, uint32_t name, uint64_t gate);
 
@@ -314,14 +344,14 @@ typedef struct ulm_request_answer {
 /*
  * Reads the body of a request: one halfword, 129, 130, 132, 136, 144 or 160.
  *
- * Refusals, in order: 23, 24.
+ * Refusals, in order: 23 (not 2 bytes), 24 (any other number).
  */
 ulm_request_answer ulm_request(const uint8_t *body, size_t len);
 
 /*
  * Writes the body of a request, 2 bytes, from a list of exactly one number.
  *
- * Refusals, in order: 23, 24, 13.
+ * Refusals, in order: 23 (not one number), 24 (a number that ulm_request refuses), 13.
  */
 ulm_written_answer ulm_write_request(const uint16_t *list, size_t n, uint8_t *out, size_t out_len);
 
@@ -353,17 +383,17 @@ ulm_written_answer ulm_write_censor(const uint16_t *list, size_t n, uint8_t *out
 
 typedef struct ulm_map_answer {
     uint32_t refusal;
-    uint32_t date;       /* 1 up */
+    uint32_t date;       /* at least 1 */
     uint32_t minutes;    /* 0 to 1,440 */
     uint32_t elevations; /* elevation segments, 1 to 5 */
 } ulm_map_answer;
 
 /*
- * Checks the body of a filter map: date (1 up), minutes (0 to 1,440), elevation segments (1 to 5); for each of these
+ * Checks the body of a filter map: date (from 1), minutes (0 to 1,440), elevation segments (1 to 5); for each of these
  * 360 azimuths; for each a zone count 1 to 20, then pairs of code (0-2) and end range (0-511). Ends rise strictly and
  * the last is 511.
  *
- * Refusals: the fields in byte order, 24 for one out of range and 23 for one that is cut off; leftovers 23 last.
+ * Refusals: fields in byte order, 24 for one out of range and 23 for one that is cut off; then 23 for bytes left over.
  */
 ulm_map_answer ulm_map(const uint8_t *body, size_t len);
 
@@ -374,9 +404,9 @@ typedef struct ulm_map_code_answer {
 
 /*
  * Gives the code of a filter map at an elevation segment (from 1), an azimuth (0-359) and a kilometre (0-511).
- * Zone k covers whole kilometres after the previous end up to its own; the first from 0.
+ * A zone covers the kilometres after the previous zone's end up to its own end; the first zone begins at 0.
  *
- * Refusals, in order: those of ulm_map, 21.
+ * Refusals, in order: those of ulm_map, 21 (no such elevation segment, azimuth or kilometre).
  */
 ulm_map_code_answer ulm_map_code(const uint8_t *body, size_t len, uint64_t elevation, uint64_t azimuth,
                                  uint64_t kilometre);
@@ -390,11 +420,11 @@ typedef struct ulm_comparison_answer {
 
 /*
  * Compares the bodies of two filter maps and lists each difference as six halfwords: elevation segment (from 1),
- * azimuth (0-359), first and last kilometre (0-511), old code, new code. The output has room for n halfwords and gets
- * the machine's own numbers, not big-endian ones.
+ * azimuth (0-359), first and last kilometre (0-511), old code, new code. The output has room for n halfwords, which are
+ * written in the machine's own byte order.
  *
- * A difference is a run of kilometres of one azimuth on which the codes differ, as long as both stay the same: the end
- * of a zone at which neither code changes ends no run. Order is by elevation segment, azimuth, kilometre. Elevation
+ * A difference is a longest run of kilometres of one azimuth on which the codes differ and both stay the same. A zone's
+ * end at which neither code changes doesn't end the run. Order is by elevation segment, azimuth, kilometre. Elevation
  * segments that only one of the maps has aren't compared, nor are date and minutes.
  * An azimuth has at most 39 differences, so at most 421,200 halfwords are written. Both maps may be the same memory.
  *

@@ -70,7 +70,7 @@ pub fn frame(buffer: &[u8], place: usize) -> Result<Option<Frame<'_>>, Refusal> 
     }))
 }
 
-/// The frames of a buffer from its start: each in turn, and a refusal as the last if there is one.
+/// The frames of a buffer, in order from its start; a refusal, if there is one, comes last.
 pub fn frames(buffer: &[u8]) -> Frames<'_> {
     Frames { buffer, place: Some(0) }
 }
@@ -95,10 +95,13 @@ impl<'a> Iterator for Frames<'a> {
     }
 }
 
+/// The bytes of a message header; a message's data begins after them.
+pub const HEADER_SIZE: usize = 16;
+
 /// The header of a message segment.
 #[derive(Clone, Copy, Debug, PartialEq, Eq)]
 pub struct Header {
-    /// Size in halfwords of 2 bytes, with the 16 bytes of the header.
+    /// Size in halfwords of 2 bytes, with the [`HEADER_SIZE`] bytes of the header.
     pub size: u32,
     /// Channel, as stored.
     pub channel: u8,
@@ -132,7 +135,7 @@ impl Header {
     }
 }
 
-/// Reads the header of a message segment: the first 16 bytes of a data frame's body, which is lent whole.
+/// Reads the header of a message segment: the first [`HEADER_SIZE`] bytes of a data frame's whole body.
 ///
 /// Refused as 4 to 8.
 pub fn header(message: &[u8]) -> Result<Header, Refusal> {
@@ -176,7 +179,7 @@ pub struct Salvaged<'o> {
     pub numbers: &'o [u64],
 }
 
-/// A longest run of skipped bytes.
+/// An unbroken run of skipped bytes.
 #[derive(Clone, Copy, Debug, PartialEq, Eq)]
 pub struct Run {
     /// Where it begins in the recording.
@@ -195,8 +198,8 @@ impl<'o> Salvaged<'o> {
 /// Salvages a damaged recording: walks it from its start, copies each data frame whose header passes whole to an output
 /// and goes on after it, and skips one byte where none stands. Runs of skipped bytes are listed.
 ///
-/// An output as long as the recording and a list of [`runs_room`] numbers are always enough. Refused as 13, for either;
-/// both stay as they were past what is written.
+/// An output as long as the recording and a list of [`runs_room`] numbers are always enough. Refused as 13 if either is
+/// too small. Past what is written both stay as they were.
 ///
 /// ```
 /// let request = ulm::Message { channel: 0, message_type: 9, sequence: 5, date: 16_000, ms: 1_000, body: &[0, 129] };
@@ -237,7 +240,7 @@ pub struct Message<'a> {
 
 /// Writes a message as data frames; gives the part of the output that was written.
 ///
-/// A body is cut into data of 2,400 bytes each, but type 31 makes one frame always. Refused as 6, 8, 25, 26, 13.
+/// The body is cut into segments of 2,400 bytes; type 31 always makes one frame. Refused as 6, 8, 25, 26, 13.
 ///
 /// ```
 /// let request = ulm::Message { channel: 0, message_type: 9, sequence: 5, date: 16_000, ms: 1_000, body: &[0, 129] };

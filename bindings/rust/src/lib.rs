@@ -12,7 +12,7 @@
 //!         if frame.kind != ulm::Kind::Data || ulm::header(frame.body)?.message_type != 31 {
 //!             continue;
 //!         }
-//!         let gates = ulm::gates(&frame.body[16..], name)?;
+//!         let gates = ulm::gates(&frame.body[ulm::HEADER_SIZE..], name)?;
 //!         total += gates.codes().map(u64::from).sum::<u64>();
 //!     }
 //!     Ok(total)
@@ -35,6 +35,7 @@ pub use clutter::{
 };
 pub use frame::{
     frame, frames, header, runs_room, salvage, set, write, Frame, Frames, Header, Kind, Message, Run, Salvaged, Set,
+    HEADER_SIZE,
 };
 pub use radial::{
     block, gate, gates, radial, value, Block, Constant, Gate, Gates, Moment, Name, Radial, DPHI, DREF, DRHO, DSW, DVEL,

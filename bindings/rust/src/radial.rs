@@ -15,7 +15,7 @@ pub const RRAD: Name = *b"RRAD";
 pub const DREF: Name = *b"DREF";
 /// Velocity.
 pub const DVEL: Name = *b"DVEL";
-/// Spectrum width, with a space.
+/// Spectrum width; the name ends in a space.
 pub const DSW: Name = *b"DSW ";
 /// Differential reflectivity.
 pub const DZDR: Name = *b"DZDR";
@@ -57,7 +57,7 @@ pub struct Radial {
     pub blocks: u32,
 }
 
-/// Checks a radial and hands on its header.
+/// Checks a radial and gives its header.
 ///
 /// With [`block`] for 1 to `blocks` this is the whole description of the radial. Refused as 14 to 20.
 pub fn radial(body: &[u8]) -> Result<Radial, Refusal> {
@@ -194,7 +194,7 @@ impl<'a> Gates<'a> {
         self.bytes.chunks_exact(wide).map(|word| word.iter().fold(0, |code, byte| code << 8 | u16::from(*byte)))
     }
 
-    /// The value of each gate; refused as 22, each time or never.
+    /// The value of each gate. A wrong scale or offset is refused as 22 at every gate.
     pub fn values(&self) -> impl Iterator<Item = Result<Gate, Refusal>> + 'a {
         let (scale, offset) = (self.scale, self.offset);
         self.codes().map(move |code| value(code, scale, offset))

@@ -1,4 +1,4 @@
-//! The library's functions and structs as `ulm.h` declares them: layouts, not promises. Use the safe wrapper.
+//! The library's functions and structs as `ulm.h` declares them. Use the safe wrapper.
 
 #![allow(missing_docs)]
 

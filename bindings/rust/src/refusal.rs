@@ -32,32 +32,32 @@ macro_rules! refusals {
 }
 
 refusals! {
-    1 FRAME_CUT_OFF "fewer than 12 bytes left, or frame body runs past the buffer";
+    1 FRAME_CUT_OFF "fewer than 12 bytes left for a frame, or its body runs past the end";
     2 SESSION_KIND "session kind above 4";
-    3 SESSION_BODY "session body above 131,068";
+    3 SESSION_BODY "session body above 131,068 bytes";
     4 MESSAGE_SHORT "message under 16 bytes";
-    5 SIZE "size rule broken";
-    6 TYPE "type not permitted";
-    7 SEGMENT "a segment rule broken (N, number, 31, 1,208)";
-    8 DATE_OR_TIME "date or milliseconds out of range";
-    9 NOT_DATA "frame of a set isn't data";
-    10 DISAGREES "disagrees with the set's first frame";
-    11 ALREADY_SEEN "segment number already seen";
-    12 ABSENT "a number absent at the end; also the empty set";
-    13 OUTPUT_SMALL "output too small for the whole answer";
+    5 SIZE "size under 8 or above 65,534 halfwords, or not the message's length";
+    6 TYPE "message type that is not permitted";
+    7 SEGMENT "segment count not 1 to 128, segment number not 1 to the count where that is above 1, a radial in more than one segment, or a segment above 1,208 halfwords";
+    8 DATE_OR_TIME "date 0, or time of day past 86,399,999 milliseconds";
+    9 NOT_DATA "a frame of the set carries no data";
+    10 DISAGREES "a frame disagrees with the set's first";
+    11 ALREADY_SEEN "a segment number occurs twice";
+    12 ABSENT "a segment is missing, or the set is empty";
+    13 OUTPUT_SMALL "the output has too little room";
     14 RADIAL_SHORT "radial body under 68 bytes";
-    15 COMPRESSION "compression byte not 0";
-    16 RADIAL_LENGTH "radial length under 68 or above the body";
+    15 COMPRESSION "the radial is compressed";
+    16 RADIAL_LENGTH "radial length under 68 or above the body's";
     17 BLOCK_COUNT "block count not 4 to 9";
-    18 POINTER "pointer too early, or fewer than 6 bytes (constant) or 28 (moment) left within the radial length";
-    19 NAME "wrong, unknown or repeated name";
-    20 BLOCK "block length under its minimum, gates, word size, or block past the radial length";
-    21 ASKED_FOR "moment, gate, elevation, azimuth or kilometre asked for doesn't exist";
+    18 POINTER "a pointer too early, or too near the end of the radial for the head of a block";
+    19 NAME "a block's name wrong, unknown or repeated";
+    20 BLOCK "a block shorter than its least, too many gates, a word size other than 8 or 16, or a block past the end of the radial";
+    21 ASKED_FOR "no such moment, gate, elevation, azimuth or kilometre";
     22 SCALE_OR_OFFSET "scale not finite or not above 0, or offset not finite";
-    23 LENGTH "body or list 8, 9, 15 too short or too long";
-    24 FIELD "field of 8, 9, 15 out of range";
+    23 LENGTH "body or list of message 8, 9 or 15 too short or too long";
+    24 FIELD "a field of message 8, 9 or 15 out of range";
     25 ODD_BODY "body to write has an odd length";
-    26 LONG_BODY "body to write above 307,200 bytes, or above 131,052 for type 31";
+    26 LONG_BODY "body to write above 307,200 bytes, or above 131,052 for a radial";
 }
 
 impl Refusal {
@@ -66,7 +66,7 @@ impl Refusal {
         self.0.get()
     }
 
-    /// The refusal of an answer's first member, where it isn't 0.
+    /// The refusal that an answer's first member holds, unless it is 0.
     pub(crate) fn check(number: u32) -> Result<(), Refusal> {
         match NonZeroU32::new(number) {
             Some(number) => Err(Refusal(number)),

@@ -1,4 +1,4 @@
-//! The numbered cases of document 01, recordings salvaged, two maps compared, and what the wrapper adds: parts with
+//! The worked cases of the rules, recordings salvaged, two maps compared, and what the wrapper adds: parts with
 //! lifetimes, refusals with words.
 
 use ulm::{Block, Gate, Kind, Message, Name, Refusal};
@@ -101,6 +101,14 @@ fn case_3_a_request() {
     assert_eq!((set.header, set.body), (header, &[0, 129][..]));
     assert_eq!(body, [0, 129, 7, 7]);
     assert_eq!(ulm::request(&[0, 129]), Ok(129));
+}
+
+#[test]
+fn the_headers_size_is_the_least_that_is_read() {
+    let message = &CASE_3[12..];
+    assert_eq!(ulm::header(&message[..ulm::HEADER_SIZE - 1]), Err(Refusal::MESSAGE_SHORT));
+    assert_eq!(ulm::header(&message[..ulm::HEADER_SIZE]), Err(Refusal::SIZE));
+    assert_eq!(&message[ulm::HEADER_SIZE..], request().body);
 }
 
 #[test]

@@ -14,7 +14,7 @@ fn totals(recording: &[u8], word: &str, name: Name) -> String {
         assert_eq!(frame.kind, Kind::Data);
         assert_eq!(ulm::header(frame.body).unwrap().message_type, 31);
         radials += 1;
-        let found = ulm::gates(&frame.body[16..], name).unwrap();
+        let found = ulm::gates(&frame.body[ulm::HEADER_SIZE..], name).unwrap();
         for (code, value) in found.codes().zip(found.values()) {
             gates += 1;
             codes += u64::from(code);
