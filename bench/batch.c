@@ -108,14 +108,29 @@ TASK(map)
     return ASK(map)(sweep.map.bytes, sweep.map.size).elevations;
 }
 
+TASK(largest_map)
+{
+    return ASK(map)(sweep.largest.bytes, sweep.largest.size).elevations;
+}
+
 enum { QUERIES = 5 };
 
-TASK(map_code)
+static inline uint64_t query(const struct map *m)
 {
     uint64_t sum = 0;
     for (uint64_t i = 0; i < QUERIES; i++)
-        sum += ASK(map_code)(sweep.map.bytes, sweep.map.size, 1 + i, 70 * i, 100 * i).code;
+        sum += ASK(map_code)(m->bytes, m->size, 1 + i, 70 * i, 100 * i).code;
     return sum;
+}
+
+TASK(map_code)
+{
+    return query(&sweep.map);
+}
+
+TASK(largest_map_code)
+{
+    return query(&sweep.largest);
 }
 
 /* The differences, and the last kilometre of the first one. */
@@ -195,6 +210,8 @@ const struct batch JOINED(SIDE, batches)[] = {
     { "write_radial", RADIALS, JOINED(SIDE, task_write_radial), NULL },
     { "map", 1, JOINED(SIDE, task_map), NULL },
     { "map_code", QUERIES, JOINED(SIDE, task_map_code), NULL },
+    { "largest_map", 1, JOINED(SIDE, task_largest_map), NULL },
+    { "largest_map_code", QUERIES, JOINED(SIDE, task_largest_map_code), NULL },
     { "compare_near", 1, JOINED(SIDE, task_compare_near), NULL },
     { "compare_apart", 1, JOINED(SIDE, task_compare_apart), NULL },
     { "compare_near_less", 1, JOINED(SIDE, task_compare_near_less), NULL },

@@ -28,7 +28,7 @@ static uint64_t nanoseconds(void)
     return (uint64_t)t.tv_sec * 1000000000 + (uint64_t)t.tv_nsec;
 }
 
-/* Short tasks are repeated, so that the clock's own time doesn't count. */
+/* Short tasks are repeated, so that the cost of reading the clock doesn't count. */
 static uint64_t time_of(const struct batch *b, uint64_t repeats)
 {
     uint64_t start = nanoseconds();

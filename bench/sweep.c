@@ -83,7 +83,7 @@ static void add_damaged(struct recording *r, uint8_t *frame, size_t n, uint64_t 
     add_bytes(r, frame + at, n - at);
 }
 
-/* What a salvage of a recording takes. */
+/* How much of both outputs a salvage of a recording needs. */
 static void set_rooms(struct recording *r)
 {
     plain_salvage_answer a = plain_salvage(r->bytes, r->size, sweep.salvaged, r->size, sweep.runs, MOST_NUMBERS);
@@ -112,6 +112,14 @@ static void make_recordings(struct chance *c)
     set_rooms(&sweep.random);
 }
 
+static void make_largest_map(struct chance *c)
+{
+    size_t n = make_map_header(sweep.largest.bytes, 5, c);
+    for (unsigned i = 0; i < 5 * 360; i++)
+        n += make_zones(sweep.largest.bytes + n, 20, c);
+    sweep.largest.size = n;
+}
+
 void make_sweep(void)
 {
     struct chance c = { 720 };
@@ -121,4 +129,5 @@ void make_sweep(void)
     sweep.near.size = make_near_map(sweep.near.bytes, sweep.map.bytes, 100, &c);
     sweep.apart.size = make_map(sweep.apart.bytes, 5, 4, &c);
     make_recordings(&c);
+    make_largest_map(&c);
 }

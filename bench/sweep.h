@@ -1,7 +1,7 @@
 /*
  * What the benchmark works on: the sample recording's shape scaled to one sweep. 720 radials of nine blocks each (REF
  * with 1,832 gates, VEL, SW, ZDR, RHO with 1,192 of 8 bits, PHI with 1,192 of 16), a set of 128 full segments, a filter
- * map of five elevation segments, and two to compare it with; recordings to salvage.
+ * map of five elevation segments, two to compare it with, and one as large as a map can be; recordings to salvage.
  */
 #ifndef SWEEP_H
 #define SWEEP_H
@@ -22,7 +22,7 @@ struct map {
 struct recording {
     uint8_t bytes[LONG_RECORDING];
     size_t size;
-    size_t length, numbers; /* what a salvage of it takes of its outputs */
+    size_t length, numbers; /* how much of both outputs a salvage of it needs */
 };
 
 struct sweep {
@@ -32,6 +32,7 @@ struct sweep {
     struct map map;
     struct map near;  /* the same but for one azimuth in 100 */
     struct map apart; /* of the same shape, its zones by chance too */
+    struct map largest; /* 20 zones in each azimuth */
     struct recording clean;   /* 720 radials of 200 to 1,840 gates, most of them 0 */
     struct recording damaged; /* the same with a few bytes altered, cut out or inserted in one frame of 100 */
     struct recording random;  /* bytes by chance, as many */
@@ -46,7 +47,7 @@ extern struct sweep sweep;
 void make_sweep(void);
 
 /* One task done by one side: `run` makes `calls` calls and gives a number that depends on their answers, the same one
- * for both sides. `bytes` is how many a call goes through, where that is to be told. A list ends with no name. */
+ * for both sides. `bytes` is how many a call goes through, where that is printed. A list ends with a null name. */
 struct batch {
     const char *name;
     uint64_t calls;

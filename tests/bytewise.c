@@ -10,7 +10,7 @@ static int frame_stands(const uint8_t *frame, size_t left)
     return left >= 12 && get(frame, 4) == 2 && get(frame + 8, 4) <= 131068 && get(frame + 8, 4) <= left - 12;
 }
 
-/* The rules of a message header, in the paper's order. */
+/* The rules of a message header, in their order. */
 static int header_passes(const uint8_t *message, size_t n)
 {
     static const uint8_t permitted[] = { 1, 2, 3, 4, 5, 6, 7, 8, 9, 10, 11, 12, 13, 15, 18, 31 };

@@ -1,6 +1,6 @@
 /*
  * A damaged recording salvaged by the words of the rule: each place in turn gets a mark, and neighbours with the same
- * mark are grouped. It is slow, and goes another way than plain.c, whose salvages are compared with these.
+ * mark are grouped. It is slow and independent of plain.c, whose salvages are compared with these.
  */
 #ifndef BYTEWISE_H
 #define BYTEWISE_H

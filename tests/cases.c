@@ -1,11 +1,11 @@
 /*
- * Asks the cases of a file (one line each: NAME ENTRY ARG... = ANSWER...) of one side, the plain implementation or
- * libulm, as SIDE says where this is compiled, and expects one word of all of them:
+ * Asks one side, the plain implementation or libulm (SIDE chooses it at compile time), the cases of a file, one line
+ * each: NAME ENTRY ARG... = ANSWER... The last argument says what must hold of all lines:
  *
  *     cases FILE same        every answer is the line's
  *     cases FILE differs     no answer is the line's
  *
- * Writes each line that came out otherwise, then the count of both.
+ * Writes each line of which it does not hold, then how many are the same and how many differ.
  */
 #define _POSIX_C_SOURCE 200809L
 #include <inttypes.h>
@@ -107,11 +107,11 @@ static struct list list(size_t i)
     return l;
 }
 
-/* Lent output: exactly the room asked for, in a pattern. */
+/* Lent output: exactly the room asked for, filled with a pattern. */
 static uint8_t *output;
 static size_t room;
 
-/* And a list of runs, which only a salvage has. */
+/* A lent list of runs, for a salvage only. */
 static uint64_t *runs;
 static size_t runs_room;
 
@@ -150,7 +150,8 @@ static int in_pattern_from(const void *bytes, size_t from, size_t n)
     return 1;
 }
 
-/* Adds the refusal, if there is one; an acceptance wrote that much of each output. Whether there is more to say. */
+/* Adds "touched" if more was written than the lengths say (on a refusal: anything), else the refusal, if there is one.
+ * Returns whether neither was added. */
 static int both_accepted(uint32_t refusal, uint64_t length, uint64_t runs_length)
 {
     int touched = !in_pattern_from(output, refusal == 0 ? length : 0, room)

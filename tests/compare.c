@@ -172,7 +172,7 @@ static const uint8_t *lend_second(void)
     return lend(&second, now.second, now.second_n, any_way(), (unsigned)below(&ways, 64));
 }
 
-/* Numbers of that many bytes each lie at places that are multiples of it, unless there are none. */
+/* Aligns numbers of that many bytes each, unless there are none. */
 static void *lend_numbers(struct lent *l, const void *bytes, size_t n, unsigned wide)
 {
     unsigned odd = (unsigned)below(&ways, 64);
@@ -185,7 +185,7 @@ static const uint16_t *lend_list(void)
     return lend_numbers(&input, now.bytes, now.n, sizeof(uint16_t));
 }
 
-/* An output's contents before a call begin at any of 256 places, so that no byte is the same each time. */
+/* What an output holds before a call is taken from one of 256 places, so that no byte is the same in all calls. */
 static void *expect(struct output *o, size_t room)
 {
     o->contents = before + below(&ways, 256 < sizeof before - room ? 256 : sizeof before - room + 1);
@@ -295,7 +295,7 @@ static int left_with(const struct output *o, const void *bytes, size_t n, size_t
     return memcmp(o->expected, bytes, n) == 0 && memcmp(o->expected + n, o->contents + n, room - n) == 0;
 }
 
-/* Whether the plain implementation's answer, and what it left in both outputs, is what single bytes give. */
+/* Whether the plain implementation's answer, and what it left in both outputs, is what bytewise.c gives. */
 static int as_bytewise(const uint8_t *buf, size_t n, size_t room, size_t numbers, plain_salvage_answer p)
 {
     static uint8_t bytes[MOST_BYTES];
@@ -459,8 +459,7 @@ void compare_map_code(const uint8_t *body, size_t n, uint64_t elevation, uint64_
     settle();
 }
 
-/* Whether the plain implementation's list, or its refusal where there is no room for one, is what single kilometres
- * give. */
+/* Whether the plain implementation's list, or its refusal where there is no room, is what kilometres.c gives. */
 static int as_by_kilometres(const uint8_t *old_map, const uint8_t *new_map, size_t room, plain_comparison_answer p)
 {
     static uint16_t list[MAP_HALFWORDS];

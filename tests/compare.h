@@ -1,6 +1,6 @@
 /*
- * One question to both sides: the library on lent memory, the plain implementation on a copy. A question that is
- * answered otherwise, or lent memory that changed where it may not, is written in full and ends the run.
+ * One question to both sides: the library on lent memory, the plain implementation on a copy. If the answers
+ * differ, or lent memory changed where it may not, the question is written in full and the run ends.
  */
 #ifndef COMPARE_H
 #define COMPARE_H
@@ -10,7 +10,7 @@
 
 enum { MOST_BYTES = 1 << 20 }; /* of an input, and of an output */
 
-/* How each slice is lent is by chance from the seed; on the heap always where valgrind watches. */
+/* The seed decides how each slice is lent; for valgrind each is a heap block. */
 void compare_open(uint64_t seed, int on_heap);
 
 void compare_frame(const uint8_t *buf, size_t n, uint64_t place);

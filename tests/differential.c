@@ -250,7 +250,7 @@ static void ask_header(void)
     compare_header(message, message_size);
 }
 
-/* Of a lone segment: half of the time as written, else any number at all. */
+/* A lone segment's number: half of the time as written, else any number. */
 static uint32_t any_number(void)
 {
     return one_in(2) ? 1 : (uint32_t)pick(65536);
@@ -523,7 +523,7 @@ static void add(const uint8_t *bytes, size_t n)
     replace(message_size, 0, bytes, n);
 }
 
-/* Bytes by chance, half of the time only ones that a kind has. */
+/* Bytes by chance, half of the time only small ones, as in a frame's kind. */
 static void fill_any(uint8_t *p, size_t n)
 {
     unsigned codes = one_in(2) ? 256 : 1 + (unsigned)pick(3);
@@ -552,7 +552,7 @@ static void add_kept(size_t data)
     add(bytes, any_kept(bytes, data));
 }
 
-/* What a salvage of the message takes of both outputs, and what it writes to the first one. */
+/* The message salvaged by bytewise.c: how much of both outputs it needs, and what it writes to the first one. */
 static uint8_t salvaged[MOST_BYTES];
 
 static struct bytewise taken(void)
@@ -567,7 +567,7 @@ static size_t most_numbers(void)
     return 2 * ((message_size + 28) / 29);
 }
 
-/* With what always suffices, with what just suffices, and with rooms near that. */
+/* Asks with room that always suffices, with room that just suffices, and with rooms near that. */
 static void ask_salvage(void)
 {
     struct bytewise r = taken();
@@ -576,7 +576,7 @@ static void ask_salvage(void)
     compare_salvage(message, message_size, room_near(r.length), room_near(2 * r.runs));
 }
 
-/* With each room around none, one run, what just suffices and what always does, for both outputs. */
+/* Asks with rooms around none, one run, what just suffices and what always suffices, for both outputs. */
 static void ask_salvage_rooms(void)
 {
     struct bytewise r = taken();
@@ -585,11 +585,11 @@ static void ask_salvage_rooms(void)
     size_t lists[] = { 0, 1, 2, 3, numbers - 2, numbers - 1, numbers, numbers + 1, most - 2, most - 1, most, most + 1 };
     for (size_t i = 0; i < COUNT(rooms); i++)
         for (size_t k = 0; k < COUNT(lists); k++)
-            if (rooms[i] <= n + 1 && lists[k] <= most + 1) /* else it would be below 0 */
+            if (rooms[i] <= n + 1 && lists[k] <= most + 1) /* a larger one has wrapped below 0 */
                 compare_salvage(message, message_size, rooms[i], lists[k]);
 }
 
-/* What was kept of the message, salvaged again: it stays whole. */
+/* Salvages again what was kept of the message: all of it must be kept. */
 static void salvage_again(void)
 {
     size_t n = taken().length;
@@ -628,8 +628,8 @@ static void stretch_edges(void)
 
 enum { INSERTED = 28 + 8 + 12 };
 
-/* What is inserted: a frame's first bytes, none to all but two; a single byte; a frame of each kind and of one that is
- * none, empty or with the body of a message. */
+/* What is inserted: the first 0 to 27 bytes of a frame; a single byte; a frame of each kind and of an unknown one,
+ * empty or with the body of a message. */
 static size_t make_inserted(size_t i, uint8_t *out)
 {
     static const uint8_t single[] = { 0, 1, 2, 3, 4, 7, 254, 255 };
@@ -1079,7 +1079,7 @@ static void ask_all_of_radial(void)
     }
 }
 
-/* Cases 9 to 11 of document 01 and around them: no gaps, no gates; the fewest and the most blocks. */
+/* Blocks that touch and blocks that overlap: no gaps, no gates; the fewest and the most blocks. */
 static void radial_edges(void)
 {
     static uint8_t bytes[MOST_BYTES];
@@ -1449,13 +1449,13 @@ static size_t ask_comparison(size_t room)
 
 enum { ELEVATION_HALFWORDS = 360 * AZIMUTH_HALFWORDS };
 
-/* With room enough, and with each room around none, around one difference and around what is needed. */
+/* Asks with room enough, and with rooms around none, around one difference and around what is needed. */
 static void ask_rooms(void)
 {
     size_t needed = 6 * ask_comparison(MAP_HALFWORDS);
     size_t rooms[] = { 0, 1, 5, 6, 7, needed - 7, needed - 6, needed - 5, needed - 1, needed, needed + 1, needed + 7 };
     for (size_t i = 0; i < COUNT(rooms); i++)
-        if (rooms[i] <= needed + 7) /* else it would be below 0 */
+        if (rooms[i] <= needed + 7) /* a larger one has wrapped below 0 */
             ask_comparison(rooms[i]);
 }
 
@@ -1516,7 +1516,7 @@ static size_t make_ends_map(uint8_t *out, uint32_t divisor, uint32_t codes)
     return n;
 }
 
-/* Each set of ends beside each: shared ones and others, with codes that change there or don't. */
+/* Every set of ends compared with every other: shared ends and others, with codes that change there or don't. */
 static void shared_end_edges(void)
 {
     for (uint32_t i = 0; i < 64; i++) {
@@ -1640,7 +1640,7 @@ static void edges(void)
     comparison_edges();
 }
 
-/* Of seventeen steps. Radials are asked four questions each; maps are long and so are few, pairs of them fewer. */
+/* One of seventeen steps. A radial is asked four questions. Maps are long, so they are few, and pairs of maps fewer. */
 static void step(void)
 {
     switch (pick(17)) {

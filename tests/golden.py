@@ -2,7 +2,7 @@
 
 It writes the files of tests/golden/, examples/sample.totals and examples/damaged.rec from examples/sample.rec,
 examples/sample.map and examples/later.map, by offsets of the interface document and with nothing checked: the sample is
-sound. Only what is salvaged is checked, by document 01.
+sound. Only what is salvaged is checked, by the rules.
 """
 import datetime
 import decimal

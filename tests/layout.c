@@ -351,7 +351,7 @@ static void check_write(void)
 static uint8_t body[512];
 static size_t body_size;
 
-/* A radial whose every number is another; its one moment has three gates of 16 bits. */
+/* A radial whose numbers all differ; its one moment has three gates of 16 bits. */
 static void make_body(void)
 {
     struct make_radial r = { .constant = { 45, 13, 29 }, .moments = 1, .gap = { 1, 2, 3, 4 } };
@@ -519,7 +519,7 @@ static void check_map(void)
     CHECK_RETURNED(no_code, { 0, 4, 21 }, { 4, 4, 0 });
 }
 
-/* One difference, at elevation 3 and azimuth 4: its six numbers are different ones. */
+/* One difference, at elevation 3 and azimuth 4: its six numbers all differ. */
 static void check_comparison(void)
 {
     static uint8_t old_map[6 + 6 * 360 * 4], new_map[6 + 6 * 360 * 3];

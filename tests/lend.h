@@ -24,7 +24,7 @@ void lent_open(struct lent *l, size_t room);
  * one that must not be read: the page's, or null where `odd` is odd. */
 uint8_t *lend(struct lent *l, const void *bytes, size_t n, enum way way, unsigned odd);
 
-/* Takes it back: whether the guard bytes are as they were. */
+/* Takes the memory back; whether the guard bytes are unchanged. */
 int taken_back(struct lent *l);
 
 #endif

@@ -109,7 +109,7 @@ size_t make_radial(uint8_t *out, const struct make_radial *r, struct chance *c)
 }
 
 /* One azimuth: ends rise by chance, and each leaves room for those after it. */
-static size_t make_zones(uint8_t *out, uint32_t zones, struct chance *c)
+size_t make_zones(uint8_t *out, uint32_t zones, struct chance *c)
 {
     uint32_t end = 0;
     put(out, 2, zones);

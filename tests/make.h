@@ -1,5 +1,5 @@
 /*
- * Messages for the tests and the benchmark, made byte by byte from document 01's tables, with contents by chance.
+ * Messages for the tests and the benchmark, made byte by byte from the rules' tables, with contents by chance.
  * Each `make_` writes to `out`, which has room enough, and gives the length.
  */
 #ifndef MAKE_H
@@ -45,8 +45,9 @@ size_t make_radial(uint8_t *out, const struct make_radial *r, struct chance *c);
 
 extern const uint32_t make_names[6]; /* of the moments */
 
-/* A map's header alone, and a whole body with at most that many zones to an azimuth. */
+/* A map's header alone, an azimuth of that many zones, and a whole body with at most that many to an azimuth. */
 size_t make_map_header(uint8_t *out, uint32_t elevations, struct chance *c);
+size_t make_zones(uint8_t *out, uint32_t zones, struct chance *c);
 size_t make_map(uint8_t *out, uint32_t elevations, uint32_t most_zones, struct chance *c);
 
 /* A map's body like another one's, at another date and time. One azimuth in so many, by chance, has a zone with another

@@ -118,7 +118,7 @@ static inline uint32_t read_header(const uint8_t *m, size_t len, plain_header_an
     h->date = get16(m + 6);
     h->ms = get32(m + 8);
     h->segments = get16(m + 12);
-    h->number = h->segments == 1 ? 1 : get16(m + 14); /* of a lone segment it means nothing (K1) */
+    h->number = h->segments == 1 ? 1 : get16(m + 14); /* a lone segment's stored number means nothing (K1) */
     if (h->size < LEAST_SIZE || h->size > MOST_SIZE || len != 2 * (size_t)h->size)
         return 5;
     if (!permitted(h->type))
@@ -202,7 +202,7 @@ plain_set_answer plain_set(const uint8_t *buf, size_t len, uint8_t *out, size_t 
             return (plain_set_answer){ .refusal = refusal };
         at += FRAME_HEADER + get32(buf + at + 8);
     }
-    /* Numbers are of 1 to N and none came twice, so none is absent when N came. */
+    /* Each number is 1 to N and none came twice, so if there are N none is absent. */
     if (s.met == 0 || s.met != s.first.segments)
         return (plain_set_answer){ .refusal = 12 };
     if (s.total > out_len)
@@ -500,7 +500,7 @@ static inline float float_of(uint32_t bits)
     return f;
 }
 
-/* An answer is put together as it is returned, 64 bits and a float: member by member gcc goes through memory. */
+/* Builds an answer as it is returned, 64 bits and a float. Built member by member, gcc would put it through memory. */
 static inline plain_gate_answer gate_answer(uint64_t refusal, uint64_t kind, float value)
 {
     struct {
@@ -625,18 +625,19 @@ plain_written_answer plain_write_censor(const uint16_t *list, size_t n, uint8_t 
 
 /* ---- The filter map ---- */
 
-/* The zones of an azimuth that are all inside: every breach is 24, so their order doesn't matter. */
+/* The zones of an azimuth that are all inside: every breach is 24, so their order doesn't matter. Code and end of a zone
+ * are fetched at once. */
 static inline int zones_broken(const uint8_t *p, uint32_t zones)
 {
-    int broken = 0;
-    int32_t before = -1;
-    for (uint32_t k = 0; k < zones; k++, p += 4) {
-        int32_t end = (int32_t)get16(p + 2);
-        broken |= (get16(p) > 2) | (end <= before);
-        before = end;
+    uint32_t least = 0;
+    for (const uint8_t *end = p + 4 * zones; p != end; p += 4) {
+        uint32_t zone = get32(p), last = zone & 0xFFFF;
+        if ((zone > 0x2FFFF) | (last < least))
+            return 1;
+        least = last + 1;
     }
-    /* Ends that rise to 511 are none above it. */
-    return broken | (before != LAST_KILOMETRE);
+    /* Ends that rise to a last one of 511 are all at most 511. */
+    return least != LAST_KILOMETRE + 1;
 }
 
 /* The zones of an azimuth that is cut off: 24 for a field that is there and out of range, else 23. */
@@ -736,11 +737,11 @@ static inline void put_difference(uint16_t *d, uint32_t elevation, uint32_t azim
 }
 
 /* The differences of an azimuth, by its zones in both maps; listed where there is an output. Each step goes to the end
- * of a zone, whichever comes first; a difference that goes on there is put once more, with its new last kilometre. */
+ * of a zone, whichever comes first; a difference that goes on there is written again, with its new last kilometre. */
 static inline uint32_t azimuth_differences(const uint8_t *p, const uint8_t *q, uint32_t elevation, uint32_t azimuth,
                                            uint16_t *out)
 {
-    uint32_t count = 0, begun = 0, before = 0; /* codes that are equal, so the first difference goes on from none */
+    uint32_t count = 0, begun = 0, before = 0; /* equal codes, so the first difference continues none */
     for (uint32_t first = 0, last; first <= LAST_KILOMETRE; first = last + 1) {
         uint32_t old_code = get16(p), old_end = get16(p + 2), new_code = get16(q), new_end = get16(q + 2);
         uint32_t codes = old_code << 16 | new_code;

@@ -1,8 +1,7 @@
 /*
- * The rules of document 01 and of its changes in plain C, written from the paper apart from the library: the other side
- * of the differential test, and the yardstick of the benchmark. Answers have the members that the paper names;
- * `refusal` is 0 or the paper's number, and a refused answer is 0 otherwise (but `next` of a frame, which is the place
- * that was given).
+ * The rules (docs/RULES.md) in plain C, written apart from the library: the other side of the differential test, and the
+ * yardstick of the benchmark. Answers have the members that the rules name; `refusal` is 0 or the number of the refusal,
+ * and a refused answer is 0 otherwise (but `next` of a frame, which is the place that was given).
  */
 #ifndef PLAIN_H
 #define PLAIN_H

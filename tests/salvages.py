@@ -36,7 +36,7 @@ def sound_up_to(size):
 
 
 def want_salvaged(scratch, recorded, *over):
-    """The account and the clean recording as computed apart; and that one comes out as it is."""
+    """The account and the clean recording are as computed apart; the clean one, salvaged, comes out unchanged."""
     damaged, clean, again = (scratch / name for name in ("damaged.rec", "clean.rec", "again.rec"))
     damaged.write_bytes(recorded)
     kept, account = golden.salvaged(recorded)
@@ -185,7 +185,7 @@ def refused(scratch):
 
 
 def not_allowed(scratch):
-    """In a folder where nothing may be made, whoever runs the tests."""
+    """In a folder where nothing may be made. For root the program runs as another user."""
     program, folder, damaged = (scratch / name for name in ("program", "closed", "any.rec"))
     program.write_bytes(PROGRAM.read_bytes())
     damaged.write_bytes(DAMAGED.read_bytes())
@@ -201,7 +201,7 @@ def not_allowed(scratch):
 
 
 def no_more_than(size):
-    """From here on a file's write past that many bytes fails."""
+    """From here on, writing a file past that many bytes fails."""
     signal.signal(signal.SIGXFSZ, signal.SIG_IGN)
     resource.setrlimit(resource.RLIMIT_FSIZE, (size, resource.RLIM_INFINITY))
 

@@ -18,7 +18,7 @@ def ended(words, program=PROGRAM, out=subprocess.PIPE, **how):
 
 
 def want_status(words, status, **how):
-    """That status; where it is 2, one line on standard error, unless that may be closed."""
+    """The command ends with that status; if it is 2, with one line on standard error, unless that may be closed."""
     done = ended(words, **how)
     if done.returncode != status:
         fail(f"{words}: status {done.returncode}, and not {status}; {done.stderr!r}")
@@ -85,13 +85,13 @@ def table(scratch, made):
 
 
 def done_words(rows):
-    """Of each command words by which it is done, and for each answer that it has."""
+    """Each command with words that give status 0, and with words that give status 1 where it has that."""
     return [(command, *words[0]) for command, status, words in rows if status < 2]
 
 
 def without_output(rows):
-    """A full device, and an output that is closed, alone or with all else: none is done, and a salvage leaves nothing, not either
-    where the input that it reads is closed."""
+    """With a full device, or with standard output closed alone or with the other streams, no command is done. A salvage then leaves
+    no file, and none where the input that it reads is closed."""
     asked = done_words(rows)
     for words in asked:
         if words[0] == "salvage":
