@@ -3,14 +3,14 @@ use Prim.Native.Nat.{ℕ, _+_, _*_, _-_, _≤_, _<_}
 use mathlib.Core.Path.{_≡_, sym, ap, subst, _∙_}
 use mathlib.Core.List.{List, [], _∷_, _++_, map, flatten}
 use native.Mathlib.Nat.{zero-add}
+use native.Mathlib.Numerals.{add-one}
 use native.Mathlib.Omega.{arith}
 use lib.ListN.{length, take, drop, set, length-drop}
-use lib.Seq.{drop-drop, length-take-le}
+use lib.Seq.{length-take-le}
 use Rattle.wire.specs.Writing.{filled, copied}
 use Rattle.wire.specs.Sheets.{Sheet, sheet, lay, onto}
 use Rattle.wire.proofs.CopyLaws.{copied-same}
-use Rattle.wire.proofs.ListLaws.{two-stored}
-use Rattle.wire.proofs.SheetLaws.{lay-room, lay-none, onto-long, onto-filled}
+use Rattle.wire.proofs.SheetLaws.{laid-sets, lay-room, lay-none, onto-long, onto-filled}
 use Rattle.salvage_spec.specs.Walk.{Run, run}
 use Rattle.salvage_spec.specs.Salvage.{twoOf}
 use Rattle.salvage_spec.proofs.RunLaws.{run-none, run-some}
@@ -62,6 +62,4 @@ module _ (runs : List ℕ) (count first next : ℕ) where
         more (set (set runs (2 * count) first) (2 * count + 1) (next - first))
         (lay-room two (2 * count) runs h
         ∙ ap (λ (l : List ℕ). sheet (2 * count + 2) l)
-        (sym
-        (two-stored (2 * count) runs first (next - first) h
-        ∙ ap (λ (l : List ℕ). take (2 * count) runs ++ (first ∷ (next - first) ∷ l)) (sym (drop-drop 2 (2 * count) runs)))))
+        (sym (ap (λ (k : ℕ). set (set runs (2 * count) first) k (next - first)) (add-one (2 * count)) ∙ laid-sets two runs (2 * count) h)))

@@ -140,9 +140,6 @@ decide-number (k ∷ ks) f ok a = go (k .broken) (decide-number ks f ok (a .1))
 abbrev pub AllNumbered : {N : Type 0} → N → List (CheckOf N) → Type 0
 AllNumbered {N} n ks = Each (λ (k : CheckOf N). k .number ≡ n) ks
 
-pub all-append : {N : Type 0} (n : N) (a b : List (CheckOf N)) → AllNumbered n a → AllNumbered n b → AllNumbered n (a ++ b)
-all-append {N} n a b = each-append (λ (k : CheckOf N). k .number ≡ n) a b
-
 -- checks of one number decide as one: is some of them broken
 pub decide-same {ℓ} : {N : Type 0} {X : Type ℓ} (n : N) (ks rest : List (CheckOf N)) (f : N → X) (ok : X) → AllNumbered n ks
     → decide (ks ++ rest) f ok ≡ pick (someBroken ks) (f n) (decide rest f ok)

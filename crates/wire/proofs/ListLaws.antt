@@ -3,8 +3,8 @@ use Prim.Native.Nat.{ℕ, zero, suc, _+_, _-_, _≤_, _<_}
 use mathlib.Core.Path.{_≡_, refl, sym, ap, _∙_}
 use mathlib.Core.List.{List, [], _∷_, _++_, append-assoc, append-nil, flatten}
 use native.Mathlib.Omega.{arith}
-use native.Mathlib.Numerals.{add-one, unary-clauses}
-use lib.ListN.{length, getD, take, drop, set, length-take, length-drop}
+use native.Mathlib.Numerals.{unary-clauses}
+use lib.ListN.{length, getD, take, drop, length-take, length-drop}
 use lib.Seq.{take-all, take-nil, ext-getD, getD-take, getD-drop}
 
 -- the part of a slice from a place on is what is left of its list
@@ -26,22 +26,6 @@ pub same-rest : (b b′ : List ℕ) (p : ℕ) → length b′ ≡ length b → (
 same-rest b b′ p e f =
     ext-getD 0 (drop p b′) (drop p b) (simp (length-drop, e))
     (λ i h. getD-drop p b′ i 0 ∙ f (p + i) (omega arith) ∙ sym (getD-drop p b i 0))
-
--- two bytes stored, one after the other
-two-at : (at : ℕ) (out : List ℕ) (a b : ℕ) → at + 2 ≤ length out
-    → set (set out at a) (suc at) b ≡ take at out ++ (a ∷ b ∷ drop (suc (suc at)) out)
-two-at at [] a b h = absurd (omega arith)
-two-at at (x ∷ []) a b h = absurd (omega arith)
-two-at zero (x ∷ y ∷ out) a b h = refl
-two-at (suc at) (x ∷ y ∷ out) a b h = ap (λ (l : List ℕ). x ∷ l) (two-at at (y ∷ out) a b (omega arith))
-
-pub two-stored : (at : ℕ) (out : List ℕ) (a b : ℕ) → at + 2 ≤ length out
-    → set (set out at a) (at + 1) b ≡ take at out ++ (a ∷ b ∷ drop (at + 2) out)
-two-stored at out a b h =
-    let e : at + 2 ≡ suc (suc at) = omega arith in
-    ap (λ (k : ℕ). set (set out at a) k b) (add-one at)
-    ∙ two-at at out a b h
-    ∙ ap (λ (k : ℕ). take at out ++ (a ∷ b ∷ drop k out)) (sym e)
 
 -- storing an empty part changes nothing
 pub none-put : (out last : List ℕ) → length last ≡ 0 → take 0 out ++ (last ++ drop 0 (drop 0 out)) ≡ out

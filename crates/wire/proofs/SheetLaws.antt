@@ -5,7 +5,7 @@ use native.Mathlib.Omega.{arith}
 use mathlib.Core.Path.{_≡_, refl, sym, ap, _∙_}
 use mathlib.Core.List.{List, [], _∷_, _++_, append-assoc, append-nil, flatten}
 use lib.ListN.{length, take, drop, length-append, length-drop}
-use lib.Seq.{drop-drop, drop-at, take-at, sets, sets-eq, length-sets}
+use lib.Seq.{drop-drop, drop-at, take-at, sets, sets-eq}
 use borrow.Author.Tests.{le-leb, lt-leb}
 use Rattle.wire.specs.Writing.{filled}
 use Rattle.wire.specs.Sheets.{laid, Sheet, sheet, lay, onto}
@@ -17,9 +17,6 @@ laid-sets vs out at h =
     sets-eq vs out at h
     ∙ append-assoc (take at out) vs (drop (at + length vs) out)
     ∙ ap (λ (l : List ℕ). take at out ++ (vs ++ l)) (sym (drop-drop (length vs) at out))
-
-pub laid-long : (out : List ℕ) (at : ℕ) (part : List ℕ) → at + length part ≤ length out → length (laid out at part) ≡ length out
-laid-long out at part h = ap length (sym (laid-sets part out at h)) ∙ length-sets out at part
 
 pub lay-room : (part : List ℕ) (long : ℕ) (out : List ℕ) → long + length part ≤ length out
     → lay part (sheet long out) ≡ sheet (long + length part) (laid out long part)
