@@ -9,7 +9,7 @@ use Rattle.wire.proofs.NumberLaws.{num-be}
 use Rattle.radial_spec.specs.Description.{momentHead, Moment, gates, gateBytes, momentBytes}
 use Rattle.radial_spec.specs.Refusal.{storedHead}
 use Rattle.wire.proofs.OnwardLaws.{shows-given, shows-refused}
-use Rattle.radial_check.specs.declared.MomentHead.{MomentHead}
+use Rattle.radial_head.specs.declared.MomentHead.{MomentHead}
 use Rattle.radial.specs.Told.{headOf, headShown}
 use Rattle.c_gates.specs.Face.{gatesBy, gatesFace}
 use Rattle.c_gates.specs.Steps.{headGates}

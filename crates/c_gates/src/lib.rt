@@ -9,8 +9,8 @@ ghost use Rattle.c_gates.specs.Face.{gatesFace, worthFace};
 ghost use Rattle.c_gates.specs.Steps.{headGates};
 use gate_value::GateAnswer;
 use radial::MomentAnswer;
-use radial_check::MOMENT_HEAD;
-use radial_check::MomentHead;
+use radial_head::MOMENT_HEAD;
+use radial_head::MomentHead;
 
 #[repr(C)]
 pub struct UlmGates {
@@ -54,7 +54,7 @@ fn gates_of(h: MomentHead) -> UlmGates
         first: h.first as u32,
         interval: h.interval as u32,
         start: h.place as u64 + MOMENT_HEAD as u64,
-        size: radial_check::moment_size(h.gates, h.word) as u64 - MOMENT_HEAD as u64,
+        size: radial_head::moment_size(h.gates, h.word) as u64 - MOMENT_HEAD as u64,
     }
 }
 

@@ -8,7 +8,7 @@ use Rattle.radial_spec.specs.Description.{Moment, Description}
 use Rattle.radial_spec.specs.Lookups.{Asked, noSuch, lies}
 use Rattle.wire.proofs.OnwardLaws.{shows-refused}
 use Rattle.radial_heading.specs.declared.Heading.{Heading}
-use Rattle.radial_check.specs.declared.MomentHead.{MomentHead}
+use Rattle.radial_head.specs.declared.MomentHead.{MomentHead}
 use Rattle.radial.specs.Told.{headOf, Told, headIfAny, toldOf, blockShown}
 use Rattle.radial_heading.specs.Told.{headingShown}
 use Rattle.radial.specs.declared.Lying.{Lying as Placed}

@@ -1,6 +1,6 @@
 -- What the private functions promise each other. No public promise cites this file.
-use Rattle.radial_check.specs.declared.MomentHead.{MomentHead}
-use Rattle.radial_check.specs.Told.{headBack}
+use Rattle.radial_head.specs.declared.MomentHead.{MomentHead}
+use Rattle.radial_head.specs.Told.{headBack}
 use Rattle.radial.specs.declared.Lying.{Lying}
 use Rattle.c_radial.specs.declared.UlmBlock.{UlmBlock}
 use Rattle.c_radial.specs.Face.{blockBy}

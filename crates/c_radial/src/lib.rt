@@ -6,7 +6,7 @@ ghost use Rattle.c_radial.specs.Face.{radialFace, noBlock, constantFace,
 ghost use Rattle.c_radial.specs.Steps.{headFace};
 use radial::BlockAnswer;
 use radial::Lying;
-use radial_check::MomentHead;
+use radial_head::MomentHead;
 
 #[repr(C)]
 pub struct UlmRadial {

@@ -13,9 +13,9 @@ use Rattle.wire.specs.Answers.{refused, given, refusal}
 use Rattle.wire.specs.Writing.{filled, wrote, roomCheck}
 use Rattle.wire.specs.Sizes.{bytes}
 use Rattle.wire.specs.Tables.{render, run}
-use Rattle.wire.specs.Forms.{outside, times, long, numbersAt, rowsOf, numbersIn, bodyChecks}
+use Rattle.form_spec.specs.Forms.{outside, times, long, numbersAt, rowsOf, numbersIn, bodyChecks}
 use Rattle.wire.proofs.NumberLaws.{nums-length}
-use Rattle.wire.proofs.FormLaws.{outside-from, times-long, times-count, fields-alone, AllWide, times-wide, numbers-wide, table-wide, form-decide}
+use Rattle.form_spec.proofs.FormLaws.{outside-from, times-long, times-count, fields-alone, AllWide, times-wide, numbers-wide, table-wide, form-decide}
 use Rattle.censor.specs.Censor.{mostRegions, counts, regionFields, region, censorForm, count, fields, censorOf, bodyOf, censorWritten}
 use Rattle.censor.specs.Told.{places, shown}
 use Rattle.censor.specs.Steps.{regionBytes, regionsBroken}

@@ -10,9 +10,9 @@ use lib.ListN.{length, replicate}
 use lib.Seq.{take-at}
 use Rattle.wire.specs.Numbers.{num, nums}
 use Rattle.wire.specs.Answers.{Answer, refused, given}
-use Rattle.wire.specs.Forms.{outside, rowsOf}
+use Rattle.form_spec.specs.Forms.{outside, rowsOf}
 use Rattle.wire.proofs.NumberLaws.{nums-length}
-use Rattle.wire.proofs.FormLaws.{table-fits, read-is-table, written-is-read as form-written, read-is-written as form-read}
+use Rattle.form_spec.proofs.FormLaws.{table-fits, read-is-table, written-is-read as form-written, read-is-written as form-read}
 use Rattle.censor.specs.Censor.{counts, regionFields, censorForm, count, censorOf, censorWritten}
 use Rattle.censor.specs.Told.{places, shown, tellCensor}
 use Rattle.censor.specs.Steps.{regionBytes, regionsBroken}

@@ -5,7 +5,7 @@ use mathlib.Core.List.{List, [], _∷_}
 use lib.ListN.{getD, drop}
 use Rattle.wire.specs.Checks.{check}
 use Rattle.wire.specs.Answers.{Answer, Outcome}
-use Rattle.wire.specs.Forms.{Range, within, outside, Row, row, times, Form, readBy, bodyBy, writtenBy}
+use Rattle.form_spec.specs.Forms.{Range, within, outside, Row, row, times, Form, readBy, bodyBy, writtenBy}
 use Rattle.wire.specs.declared.Bytes.{Bytes}
 
 -- "region count n (0 to 25)"

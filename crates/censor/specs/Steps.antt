@@ -3,7 +3,7 @@ use Prim.Native.Nat.{ℕ, _*_}
 use mathlib.Core.Bool.{Bool}
 use mathlib.Core.List.{List}
 use Rattle.wire.specs.Checks.{someBroken}
-use Rattle.wire.specs.Forms.{times, fieldChecks}
+use Rattle.form_spec.specs.Forms.{times, fieldChecks}
 use Rattle.censor.specs.Censor.{regionFields, region}
 
 -- the bytes of a region

@@ -7,7 +7,7 @@ ghost use Rattle.wire.specs.Numbers.{nums};
 ghost use Rattle.wire.specs.Tables.{run};
 ghost use Rattle.wire.specs.Answers.{refused, Promise};
 ghost use Rattle.wire.specs.Writing.{filled, tellWrite};
-ghost use Rattle.wire.specs.Forms.{within, outside};
+ghost use Rattle.form_spec.specs.Forms.{within, outside};
 ghost use Rattle.censor.specs.Censor.{mostRegions, regionFields, censorOf, censorWritten};
 ghost use Rattle.censor.specs.Steps.{regionBytes, regionBroken, regionsBroken};
 ghost use Rattle.censor.specs.Told.{places, shown};

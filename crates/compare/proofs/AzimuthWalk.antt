@@ -6,12 +6,12 @@ use mathlib.Core.Path.{_≡_, refl, sym, ap, _∙_, subst}
 use mathlib.Core.List.{List, _++_}
 use lib.ListN.{length, getD, take, drop, length-drop}
 use lib.Seq.{drop-drop}
-use Rattle.wire.specs.Parts.{runSize}
+use Rattle.form_spec.specs.Parts.{runSize}
 use Rattle.wire.specs.Numbers.{fetched}
 use Rattle.wire.specs.Checks.{AllHold}
 use Rattle.wire.specs.Sheets.{Sheet, sheet}
 use Rattle.wire.proofs.ListLaws.{part-is}
-use Rattle.wire.proofs.PartLaws.{run-none, run-more, run-next}
+use Rattle.form_spec.proofs.PartLaws.{run-none, run-more, run-next}
 use Rattle.map_spec.specs.Map.{azimuths, lastKilometre, kilometres, fieldSize, zoneSize, headSize, codeFrom}
 use Rattle.map_spec.specs.Reading.{value, azimuthPart, mapIn}
 use Rattle.map_spec.specs.Places.{placeOf, AzimuthStands}

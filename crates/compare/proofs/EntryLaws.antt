@@ -17,7 +17,7 @@ use Rattle.wire.proofs.SheetLaws.{onto-long, onto-filled}
 use Rattle.map_spec.specs.Map.{headSize}
 use Rattle.map_spec.specs.Reading.{elevationPart, segmentsIn, mapChecks, mapIn, mapOf, Summary, summary, summaryOf}
 use Rattle.map_spec.proofs.Accepted.{accepted-range}
-use Rattle.wire.proofs.PartLaws.{run-count}
+use Rattle.form_spec.proofs.PartLaws.{run-count}
 use Rattle.compare_spec.specs.Differences.{differences, presentInBoth}
 use Rattle.compare_spec.specs.Comparing.{Comparison, comparison, differenceSize, sixOf, halfwords, mostHalfwords, comparisonOf}
 use Rattle.compare_spec.proofs.Maps.{lesser-both}

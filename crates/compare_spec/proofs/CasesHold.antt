@@ -1,7 +1,7 @@
 -- The cases, computed by the definitions themselves. Assumes nothing.
 use mathlib.Core.Path.{refl}
 use mathlib.Core.List.{flatten}
-use Rattle.wire.specs.Parts.{runSize, runChecks, runIn}
+use Rattle.form_spec.specs.Parts.{runSize, runChecks, runIn}
 use Rattle.wire.specs.Numbers.{num}
 use Rattle.map_spec.specs.Map.{codeFrom}
 use Rattle.map_spec.specs.Reading.{zonesChecks, zonesIn}

@@ -3,7 +3,7 @@ use mathlib.Core.Path.{refl}
 use lib.Count.{trailingZeros}
 use lib.Ieee as Ieee
 use lib.Ieee.{ofBits}
-use Rattle.wire.specs.Parts.{runSize, runChecks, runIn}
+use Rattle.form_spec.specs.Parts.{runSize, runChecks, runIn}
 use Rattle.wire.specs.Numbers.{num}
 use Rattle.frame.specs.Session.{frameAt}
 use Rattle.header.specs.Header.{storedIn, headerIn, headerOf}

@@ -36,8 +36,8 @@ use Rattle.radial_spec.specs.Refusal.{radialOf}
 use Rattle.radial_spec.specs.Lookups.{momentNamed, momentOf}
 use Rattle.radial_spec.proofs.Accepted.{exactly}
 use Rattle.radial_spec.proofs.Finding.{found-by-name}
-use Rattle.wire.specs.Forms.{Row, times, fieldChecks, rowsOf, numbersIn, bodyChecks, readBy, listChecks, bodyBy}
-use Rattle.wire.proofs.FormLaws.{body-long, numbers-count}
+use Rattle.form_spec.specs.Forms.{Row, times, fieldChecks, rowsOf, numbersIn, bodyChecks, readBy, listChecks, bodyBy}
+use Rattle.form_spec.proofs.FormLaws.{body-long, numbers-count}
 use Rattle.request.specs.Request.{requestForm, requestWritten}
 use Rattle.censor.specs.Censor.{mostRegions, regionFields, region, censorForm, count, fields, censorOf, censorWritten}
 use Rattle.censor.specs.Told.{places}

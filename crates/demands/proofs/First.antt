@@ -4,7 +4,7 @@ use mathlib.Core.Path.{refl}
 use mathlib.Core.List.{List, _++_}
 use lib.ListN.{drop}
 use denote.Ref.{now}
-use Rattle.wire.specs.Forms.{numbersIn, bodyChecks}
+use Rattle.form_spec.specs.Forms.{numbersIn, bodyChecks}
 use Rattle.wire.specs.Numbers.{num}
 use Rattle.wire.specs.Answers.{given, numberOf}
 use Rattle.frame.specs.Session.{frameAt}

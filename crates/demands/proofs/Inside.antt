@@ -5,11 +5,11 @@ use mathlib.Core.Bool.{Bool, true, not}
 use mathlib.Core.List.{List, [], _∷_, _++_}
 use lib.Dec.{eqb, ltb}
 use lib.ListN.{length, take, drop}
-use Rattle.wire.specs.Parts.{Part, runChecks}
+use Rattle.form_spec.specs.Parts.{Part, runChecks}
 use Rattle.wire.specs.Checks.{check}
 use Rattle.radial_spec.specs.Description.{constants}
 use Rattle.radial_spec.specs.Refusal.{pointer, part, nameIn, momentSays, momentsChecks, sizeIn, countIn, endAt, radialChecks}
-use Rattle.wire.specs.Forms.{Row, long, fieldChecks, Form, rowsOf, countOf, formChecks, countIn as countBy, numbersIn, bodyChecks, listChecks}
+use Rattle.form_spec.specs.Forms.{Row, long, fieldChecks, Form, rowsOf, countOf, formChecks, countIn as countBy, numbersIn, bodyChecks, listChecks}
 use Rattle.map_spec.specs.Map.{azimuths}
 use Rattle.map_spec.specs.Reading.{value, after as afterField, zonesChecks, azimuthPart, elevationPart, headChecks, leftoverChecks, mapChecks}
 use Rattle.map_spec.specs.Reading.{segmentsIn}

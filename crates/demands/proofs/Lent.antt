@@ -4,7 +4,7 @@ use mathlib.Core.Path.{_≡_, refl}
 use mathlib.Core.Bool.{true}
 use mathlib.Core.List.{List, [], _∷_, _++_}
 use lib.ListN.{length}
-use Rattle.wire.specs.Forms.{listChecks, bodyBy}
+use Rattle.form_spec.specs.Forms.{listChecks, bodyBy}
 use Rattle.wire.specs.Checks.{Check}
 use Rattle.wire.specs.Answers.{Answer, Promise}
 use Rattle.wire.specs.Sizes.{bytes}

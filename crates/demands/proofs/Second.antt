@@ -19,7 +19,7 @@ use Rattle.header.specs.declared.Header.{Header}
 use Rattle.header.proofs.Theorems.{header-stands}
 use Rattle.request.proofs.Theorems.{body-is-table}
 use Rattle.censor.specs.declared.Censor.{Censor}
-use Rattle.wire.specs.Forms.{bodyBy}
+use Rattle.form_spec.specs.Forms.{bodyBy}
 use Rattle.censor.specs.Censor.{regionFields, censorForm, censorOf}
 use Rattle.censor.specs.Told.{shown, tellCensor}
 use Rattle.censor.proofs.Theorems.{struct-tells, body-is-table as zones-are-table}

@@ -23,7 +23,7 @@ use Rattle.salvage_spec.specs.Salvage.{Report}
 use Rattle.salvage.specs.declared.SalvageAnswer.{SalvageAnswer}
 use Rattle.salvage.specs.declared.SalvageAnswer.the-variants.{Salvaged, Refused as NoSalvage}
 use Rattle.salvage.specs.Told.{tellSalvage}
-use Rattle.radial_check.specs.declared.MomentHead.{MomentHead}
+use Rattle.radial_head.specs.declared.MomentHead.{MomentHead}
 use Rattle.radial.specs.declared.MomentAnswer.{MomentAnswer}
 use Rattle.radial.specs.declared.MomentAnswer.the-variants.{Moment as Found, Refused as NotFound}
 use Rattle.radial.specs.declared.Coded.{Coded}

@@ -9,7 +9,7 @@ use mathlib.Core.List.{List, _++_}
 use lib.ListN.{length, drop}
 use denote.Ref.{RefT, now, at-last}
 use Rattle.wire.specs.Numbers.{num, Octets}
-use Rattle.wire.specs.Forms.{bodyChecks, listChecks, bodyBy}
+use Rattle.form_spec.specs.Forms.{bodyChecks, listChecks, bodyBy}
 use Rattle.wire.specs.Answers.{refused, numberOf}
 use Rattle.wire.specs.Writing.{tellWrite, thenRoom}
 use Rattle.frame.specs.Session.{frameAt}

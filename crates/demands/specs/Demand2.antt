@@ -8,7 +8,7 @@ use mathlib.Core.Logic.{_↔_}
 use mathlib.Core.List.{List, [], _∷_}
 use lib.ListN.{length, take, drop}
 use denote.Ref.{now, at-last}
-use Rattle.wire.specs.Forms.{bodyBy}
+use Rattle.form_spec.specs.Forms.{bodyBy}
 use Rattle.wire.specs.Numbers.{Octets}
 use Rattle.wire.specs.Tables.{render, Holds}
 use Rattle.wire.specs.Sizes.{bytes}

@@ -7,13 +7,13 @@ use mathlib.Core.List.{List, [], _∷_, _++_}
 use lib.Dec.{ltb}
 use lib.ListN.{length, take, drop, length-drop}
 use borrow.Author.Tests.{lt-ltb, le-ltb, lt-leb, ltb-true, ltb-false, eq-eqb, ne-eqb}
-use Rattle.wire.specs.Parts.{runSize, runChecks}
+use Rattle.form_spec.specs.Parts.{runSize, runChecks}
 use Rattle.wire.specs.Numbers.{fetched}
 use Rattle.wire.specs.Checks.{pick, either, Check, check, decide, AllHold}
 use Rattle.wire.specs.Answers.{refused, given, rule}
 use Rattle.wire.proofs.CheckLaws.{neither, decide-append, decide-none, decide-some, all-hold}
 use Rattle.wire.proofs.ListLaws.{part-is}
-use Rattle.wire.proofs.PartLaws.{run-count, run-add}
+use Rattle.form_spec.proofs.PartLaws.{run-count, run-add}
 use Rattle.map_spec.specs.Map.{mostMinutes, azimuths, mostElevations, lastKilometre, fieldSize, headSize, codeAt}
 use Rattle.map_spec.specs.Reading.{value, azimuthPart, elevationPart, dateIn, minutesIn, segmentsIn, fieldChecks, headChecks, leftoverChecks, mapChecks, mapIn, Summary, summary, summaryOf, askedChecks, codeOf}
 use Rattle.map_spec.specs.Places.{indexOf, placeOf, AzimuthStands}

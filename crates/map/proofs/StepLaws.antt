@@ -4,10 +4,10 @@ use native.Mathlib.Omega.{arith}
 use mathlib.Core.Path.{_≡_, sym, ap, _∙_}
 use mathlib.Core.List.{List, _++_}
 use lib.ListN.{length, drop}
-use Rattle.wire.specs.Parts.{Part, runSize, runChecks}
+use Rattle.form_spec.specs.Parts.{Part, runSize, runChecks}
 use Rattle.wire.specs.Checks.{Check, decide, AllHold}
 use Rattle.wire.proofs.CheckLaws.{never, decide-none, decide-some, all-hold}
-use Rattle.wire.proofs.PartLaws.{run-add, checks-add, run-long}
+use Rattle.form_spec.proofs.PartLaws.{run-add, checks-add, run-long}
 use Rattle.map_check.specs.declared.Step.{Step}
 use Rattle.map_check.specs.declared.Step.the-variants.{Next, Stop}
 use Rattle.map_check.specs.Told.{stepBy, runStep}

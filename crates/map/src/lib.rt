@@ -7,7 +7,7 @@ use wire::refusal;
 ghost use mathlib.Core.Path.{_≡_};
 ghost use Prim.Native.Nat.{_≤_};
 ghost use lib.Dec.{ltb};
-ghost use Rattle.wire.specs.Parts.{runSize};
+ghost use Rattle.form_spec.specs.Parts.{runSize};
 ghost use Rattle.wire.specs.Checks.{pick, AllHold};
 ghost use Rattle.map_spec.specs.Map.{lastKilometre, codeFrom};
 ghost use Rattle.map_spec.specs.Reading.{azimuthPart, summaryOf, codeOf};
@@ -161,8 +161,8 @@ fn zone_code(part: &[u8], kilometre: usize) -> u16
     let mut at = FIELD_SIZE as u32;
     while 0 < left {
         let zone = wire::fetch32(part, at);
-        if kilometre <= map_check::end_of(zone) as usize {
-            return map_check::code_of(zone);
+        if kilometre <= map_zone::end_of(zone) as usize {
+            return map_zone::code_of(zone);
         }
         at += ZONE_SIZE as u32;
         left -= 1;

@@ -8,7 +8,7 @@ use mathlib.Core.List.{List, _++_}
 use lib.ListN.{length, take, drop, length-drop}
 use lib.Seq.{drop-drop}
 use borrow.Author.Tests.{lt-ltb, le-ltb}
-use Rattle.wire.specs.Parts.{Part, runSize, runChecks}
+use Rattle.form_spec.specs.Parts.{Part, runSize, runChecks}
 use Rattle.wire.specs.Numbers.{fetched}
 use Rattle.wire.proofs.ListLaws.{part-is}
 use Rattle.wire.specs.Checks.{Check, decide, first, AllHold}

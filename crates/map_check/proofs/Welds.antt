@@ -1,14 +1,10 @@
 -- What the contract of each public function says of a call, as Rattle reads it from src/ (`Learnt`): its promise, and that no two results
 -- of one call meet it. Assumes nothing.
-use Prim.Native.Nat.{_/_, _%_}
 use denote.Ref.{now}
 use mathlib.Core.Path.{_≡_, sym, _∙_}
-use Rattle.map_spec.specs.Map.{halfwordNumbers}
 use Rattle.map_spec.specs.Reading.{azimuthPart}
 use Rattle.map_check.specs.Told.{runStep}
 use Rattle.map_check.proofs.check_azimuths.Reads as check-azimuths
-use Rattle.map_check.proofs.code_of.Reads as code-of
-use Rattle.map_check.proofs.end_of.Reads as end-of
 
 pub check-azimuths-says : (κs part count r last : _) → check-azimuths.Learnt κs (part, (count, tt)) r last
     → r ≡ runStep azimuthPart count (now part)
@@ -17,15 +13,3 @@ check-azimuths-says κs part count r last l = l
 pub check-azimuths-one : (κs part count r r₂ last last₂ : _) → check-azimuths.Learnt κs (part, (count, tt)) r last
     → check-azimuths.Learnt κs (part, (count, tt)) r₂ last₂ → r ≡ r₂
 check-azimuths-one κs part count r r₂ last last₂ l l₂ = l ∙ sym l₂
-
-pub code-of-says : (κs zone r last : _) → code-of.Learnt κs (zone, tt) r last → r ≡ zone / halfwordNumbers
-code-of-says κs zone r last l = l
-
-pub code-of-one : (κs zone r r₂ last last₂ : _) → code-of.Learnt κs (zone, tt) r last → code-of.Learnt κs (zone, tt) r₂ last₂ → r ≡ r₂
-code-of-one κs zone r r₂ last last₂ l l₂ = l ∙ sym l₂
-
-pub end-of-says : (κs zone r last : _) → end-of.Learnt κs (zone, tt) r last → r ≡ zone % halfwordNumbers
-end-of-says κs zone r last l = l
-
-pub end-of-one : (κs zone r r₂ last last₂ : _) → end-of.Learnt κs (zone, tt) r last → end-of.Learnt κs (zone, tt) r₂ last₂ → r ≡ r₂
-end-of-one κs zone r r₂ last last₂ l l₂ = l ∙ sym l₂

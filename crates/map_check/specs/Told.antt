@@ -1,7 +1,7 @@
 -- What the check of a part means: the bytes that it takes, or the number of its refusal.
 use Prim.Native.Nat.{ℕ}
 use mathlib.Core.List.{List}
-use Rattle.wire.specs.Parts.{Part, runSize, runChecks}
+use Rattle.form_spec.specs.Parts.{Part, runSize, runChecks}
 use Rattle.wire.specs.Checks.{Check, decide}
 use Rattle.map_check.specs.declared.Step.{Step}
 use Rattle.map_check.specs.declared.Step.the-variants.{Next, Stop}

@@ -1,9 +1,11 @@
 // The check of a clutter filter map's azimuths: a given number of them, zone by zone.
+use map_zone::code_of;
+use map_zone::end_of;
 use wire::refusal;
 ghost use mathlib.Core.Path.{_≡_};
-ghost use Prim.Native.Nat.{_*_, _/_, _%_, _≤_};
+ghost use Prim.Native.Nat.{_*_, _/_, _≤_};
 ghost use lib.ListN.{length};
-ghost use Rattle.map_spec.specs.Map.{mostZones, halfwordNumbers, zoneSize};
+ghost use Rattle.map_spec.specs.Map.{mostZones, zoneSize};
 ghost use Rattle.map_spec.specs.Reading.{azimuthPart};
 ghost use Rattle.map_check.specs.Told.{partStep, runStep};
 ghost use Rattle.map_check.specs.Steps.{zoneBroken, nextEnd, CutOff};
@@ -19,9 +21,6 @@ pub const FIELD_SIZE: usize = 2;
 
 pub const ZONE_SIZE: usize = 2 * FIELD_SIZE;
 
-// How many values a halfword can have.
-const HALFWORD_NUMBERS: u32 = 65536;
-
 // The answer for a broken zone. It is above 512, the greatest answer for zones in range.
 const NO_END: usize = LAST_KILOMETRE + 2;
 
@@ -29,19 +28,6 @@ const NO_END: usize = LAST_KILOMETRE + 2;
 pub enum Step {
     Next(usize),
     Stop(u8),
-}
-
-// The code and the end of a zone that was fetched as one number.
-pub fn code_of(zone: u32) -> u16
-    ensures { λ r. ⌜ r ≡ zone / halfwordNumbers ⌝ }
-{
-    (zone / HALFWORD_NUMBERS) as u16
-}
-
-pub fn end_of(zone: u32) -> u16
-    ensures { λ r. ⌜ r ≡ zone % halfwordNumbers ⌝ }
-{
-    (zone % HALFWORD_NUMBERS) as u16
 }
 
 // Whether the zone's code is out of range, or its end is below `from`.

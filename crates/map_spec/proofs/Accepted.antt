@@ -6,7 +6,7 @@ use mathlib.Core.Path.{_≡_, refl, sym, ap, _∙_}
 use mathlib.Core.List.{List, _++_, append-nil}
 use lib.ListN.{length, drop, length-drop, drop-of-length-le}
 use lib.Seq.{drop-drop}
-use Rattle.wire.specs.Parts.{runSize, runIn, fieldsOf}
+use Rattle.form_spec.specs.Parts.{runSize, runIn, fieldsOf}
 use Rattle.wire.specs.Properties.{Each}
 use Rattle.wire.specs.Numbers.{num, be, Octets}
 use Rattle.wire.specs.Checks.{AllHold}
@@ -16,7 +16,7 @@ use Rattle.map_spec.specs.Map.{azimuths, zoneFields, azimuthFields, elev
 use Rattle.map_spec.specs.Reading.{value, after, zonesChecks, zonesIn, azimuthPart, elevationPart, dateIn, minutesIn, segmentsIn, mapChecks, mapIn}
 use Rattle.map_spec.proofs.FieldLaws.{field-back}
 use Rattle.map_spec.proofs.CheckFacts.{zone-facts, azimuth-facts, map-facts}
-use Rattle.wire.proofs.PartLaws.{run-count, run-range, run-back}
+use Rattle.form_spec.proofs.PartLaws.{run-count, run-range, run-back}
 use Rattle.map_spec.proofs.ZoneLaws.{Rises, rises-ends}
 
 -- ---- zones

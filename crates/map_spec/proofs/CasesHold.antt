@@ -1,6 +1,6 @@
 -- The cases, computed by the rules themselves. Assumes nothing.
 use mathlib.Core.Path.{refl}
-use Rattle.wire.specs.Parts.{runSize, runChecks, runIn}
+use Rattle.form_spec.specs.Parts.{runSize, runChecks, runIn}
 use Rattle.wire.specs.Numbers.{num}
 use Rattle.map_spec.specs.Map.{codeFrom}
 use Rattle.map_spec.specs.Reading.{zonesChecks, zonesIn}

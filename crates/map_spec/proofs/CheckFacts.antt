@@ -7,7 +7,7 @@ use mathlib.Core.List.{List}
 use lib.Dec.{ltb, eqb}
 use lib.ListN.{length, drop, length-drop}
 use borrow.Author.Tests.{ltb-false, le-ltb, eq-eqb, eqb-true, not-false}
-use Rattle.wire.specs.Parts.{runSize, runChecks}
+use Rattle.form_spec.specs.Parts.{runSize, runChecks}
 use Rattle.wire.specs.Checks.{both, AllHold}
 use Rattle.wire.proofs.CheckLaws.{all-hold-append, all-hold-join, neither}
 use Rattle.map_spec.specs.Map.{mostMinutes, mostElevations, mostZones, mostCode, lastKilometre}

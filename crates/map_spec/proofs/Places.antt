@@ -6,13 +6,13 @@ use mathlib.Core.Path.{_≡_, sym, ap, _∙_, subst}
 use mathlib.Core.List.{List, [], _++_}
 use lib.ListN.{length, getD, drop, length-drop}
 use lib.Seq.{drop-drop}
-use Rattle.wire.specs.Parts.{runSize, runChecks}
+use Rattle.form_spec.specs.Parts.{runSize, runChecks}
 use Rattle.wire.specs.Checks.{Check, AllHold}
 use Rattle.map_spec.specs.Map.{azimuths, headSize, Zone, AzimuthInRange}
 use Rattle.map_spec.specs.Reading.{azimuthPart, elevationPart, segmentsIn, mapChecks, mapIn}
 use Rattle.map_spec.specs.Places.{indexOf, placeOf, AzimuthStands}
 use Rattle.map_spec.specs.Theorems.{AzimuthsStand}
-use Rattle.wire.proofs.PartLaws.{run-none, run-more, run-add, run-next, checks-none, checks-more, checks-add, run-read, run-holds, run-there}
+use Rattle.form_spec.proofs.PartLaws.{run-none, run-more, run-add, run-next, checks-none, checks-more, checks-add, run-read, run-holds, run-there}
 use Rattle.map_spec.proofs.CheckFacts.{map-facts}
 use Rattle.map_spec.proofs.Accepted.{azimuth-long, azimuth-range}
 

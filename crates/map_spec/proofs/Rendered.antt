@@ -5,7 +5,7 @@ use mathlib.Core.Path.{_≡_, refl, sym, ap, _∙_, subst}
 use mathlib.Core.List.{List, [], _∷_, _++_, append-nil}
 use lib.ListN.{length, drop, length-drop}
 use lib.Seq.{drop-drop}
-use Rattle.wire.specs.Parts.{runSize, runChecks, runIn, fieldsOf}
+use Rattle.form_spec.specs.Parts.{runSize, runChecks, runIn, fieldsOf}
 use Rattle.wire.specs.Properties.{Each}
 use Rattle.wire.specs.Numbers.{be}
 use Rattle.wire.specs.Checks.{AllHold}
@@ -13,7 +13,7 @@ use Rattle.wire.specs.Tables.{render}
 use Rattle.map_spec.specs.Map.{lastKilometre, Zone, FilterMap, zoneFields, azimuthFields, elevationFields, mapBytes, ZoneInRange, AzimuthInRange, ElevationInRange, InRange, EndsRise}
 use Rattle.map_spec.specs.Reading.{value, after, zonesChecks, zonesIn, azimuthPart, elevationPart, dateIn, minutesIn, segmentsIn, mapChecks, mapIn}
 use Rattle.map_spec.proofs.FieldLaws.{value-of}
-use Rattle.wire.proofs.PartLaws.{PartOf, RunOf, run-of}
+use Rattle.form_spec.proofs.PartLaws.{PartOf, RunOf, run-of}
 use Rattle.map_spec.proofs.CheckFacts.{EndFacts, zone-holds, azimuth-holds, map-holds}
 use Rattle.map_spec.proofs.ZoneLaws.{Rises, ends-rise}
 

@@ -7,7 +7,7 @@ use lib.ListN.{length, getD}
 use Rattle.wire.specs.Properties.{Each}
 use Rattle.wire.specs.Checks.{pick, both}
 use Rattle.wire.specs.Tables.{Field, field, render}
-use Rattle.wire.specs.Parts.{fieldsOf}
+use Rattle.form_spec.specs.Parts.{fieldsOf}
 
 -- ---- the limits, each once
 abbrev pub mostMinutes : ℕ

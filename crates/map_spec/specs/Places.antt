@@ -3,7 +3,7 @@ use Prim.Native.Nat.{ℕ, _+_, _*_, _-_, _≤_}
 use mathlib.Core.Path.{_≡_}
 use mathlib.Core.List.{List}
 use lib.ListN.{length, drop}
-use Rattle.wire.specs.Parts.{runSize}
+use Rattle.form_spec.specs.Parts.{runSize}
 use Rattle.wire.specs.Numbers.{num}
 use Rattle.wire.specs.Checks.{AllHold}
 use Rattle.map_spec.specs.Map.{azimuths, fieldSize, headSize, Zone, AzimuthInRange, zonesAt}

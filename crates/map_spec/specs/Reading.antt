@@ -7,7 +7,7 @@ use lib.ListN.{length, drop}
 use Rattle.wire.specs.Numbers.{num}
 use Rattle.wire.specs.Checks.{either, both, Check, check}
 use Rattle.wire.specs.Answers.{Answer, rule}
-use Rattle.wire.specs.Parts.{Part, runSize, runChecks, runIn}
+use Rattle.form_spec.specs.Parts.{Part, runSize, runChecks, runIn}
 use Rattle.map_spec.specs.Map.{mostMinutes, mostElevations, azimuths, mostZones, mostCode, lastKilometre, fieldSize, zoneSize, headSize, Zone, FilterMap, codeAt}
 
 -- ---- "Body 15: fields in byte order, 23 for one that is cut off"; 24 for one out of range. Each rule is over the bytes that are left.

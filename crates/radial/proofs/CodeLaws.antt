@@ -16,7 +16,7 @@ use Rattle.radial_spec.specs.Description.{Moment, gates, momentHead}
 use Rattle.radial_spec.specs.Lookups.{momentOf, codedIn, codedOf}
 use Rattle.wire.proofs.OnwardLaws.{shows-given, shows-refused}
 use Rattle.radial_spec.proofs.Naming.{code-at, found-lies}
-use Rattle.radial_check.specs.declared.MomentHead.{MomentHead}
+use Rattle.radial_head.specs.declared.MomentHead.{MomentHead}
 use Rattle.radial.specs.Told.{headOf, headShown, codeShown}
 use Rattle.radial.specs.Steps.{WordThere, codeIn, GatesThere, codedBy}
 

@@ -14,7 +14,7 @@ use Rattle.radial_spec.specs.Refusal.{countIn, pointer, blockSays, blockAt, mom
 use Rattle.radial_spec.proofs.Accepted.{exactly, withBlocks}
 use Rattle.radial_spec.proofs.Blocks.{head-is}
 use Rattle.radial_spec.proofs.Held.{refused-above-0, accepted-is}
-use Rattle.radial_check.specs.declared.MomentHead.{MomentHead}
+use Rattle.radial_head.specs.declared.MomentHead.{MomentHead}
 use Rattle.radial.specs.declared.Radial.{Radial}
 use Rattle.radial.specs.Told.{headOf, spanOf, noHead, shown}
 use Rattle.radial.specs.Theorems.{blockFrom, momentFrom, handed, Handed, HandedExactly}

@@ -16,7 +16,7 @@ use Rattle.radial_spec.specs.Refusal.{countIn, pointer, part, blockSays, blockA
 use Rattle.radial_spec.proofs.Accepted.{moments-length}
 use Rattle.radial_heading.specs.declared.Heading.{Heading}
 use Rattle.radial.specs.declared.Span.{Span}
-use Rattle.radial_check.specs.declared.MomentHead.{MomentHead}
+use Rattle.radial_head.specs.declared.MomentHead.{MomentHead}
 use Rattle.radial.specs.Told.{spanOf, headOf, noHead, headsOf, shown}
 use Rattle.radial_heading.specs.Told.{headingShown}
 use Rattle.radial.specs.Steps.{spanAt}

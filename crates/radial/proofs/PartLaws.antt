@@ -8,9 +8,9 @@ use Rattle.wire.specs.Numbers.{fetched}
 use Rattle.radial_spec.specs.Description.{constantHead, momentHead, lengthPlace}
 use Rattle.radial_spec.specs.Refusal.{Head, pointer, nameIn, blockSays}
 use Rattle.radial_spec.proofs.Blocks.{head-is}
-use Rattle.radial_check.specs.declared.MomentHead.{MomentHead}
-use Rattle.radial_check.specs.Told.{fetchedHead, headTold}
-use Rattle.radial_check.proofs.PartLaws.{there, there-number, head-there}
+use Rattle.radial_head.specs.declared.MomentHead.{MomentHead}
+use Rattle.radial_head.specs.Told.{fetchedHead, headTold}
+use Rattle.radial_head.proofs.PartLaws.{there, there-number, head-there}
 use Rattle.radial.specs.Steps.{spanAt, headAt}
 
 -- a block's name

@@ -12,7 +12,7 @@ use Rattle.wire.proofs.NumberLaws.{fetched-whole}
 use Rattle.radial_spec.specs.Description.{constants, countPlace, firstPointer, momentPointer}
 use Rattle.radial_spec.specs.Refusal.{countIn, pointer, part, nameIn}
 use Rattle.radial_spec.proofs.Held.{Held, HeadHeld}
-use Rattle.radial_check.proofs.PartLaws.{there}
+use Rattle.radial_head.proofs.PartLaws.{there}
 use Rattle.radial.specs.Steps.{placeFrom, placeIn}
 use Rattle.radial.proofs.PartLaws.{name-cut}
 

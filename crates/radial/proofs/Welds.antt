@@ -16,7 +16,7 @@ use Rattle.radial.specs.declared.CodeAnswer.the-variants.{Code, Refused 
 use Rattle.radial.specs.declared.Lying.{Lying}
 use Rattle.radial.specs.declared.MomentAnswer.{MomentAnswer}
 use Rattle.radial.specs.declared.MomentAnswer.the-variants.{Moment as Found, Refused as NotFound}
-use Rattle.radial_check.specs.declared.MomentHead.{MomentHead}
+use Rattle.radial_head.specs.declared.MomentHead.{MomentHead}
 use Rattle.radial.proofs.read_radial.Reads as read-radial
 use Rattle.radial.proofs.moment.Reads as moment
 use Rattle.radial.proofs.code.Reads as code

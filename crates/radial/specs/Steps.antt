@@ -10,7 +10,7 @@ use Rattle.wire.specs.Answers.{Answer, refused, given, onward}
 use Rattle.radial_spec.specs.Description.{constants, mostGates, wordSizes, momentHead, momentBytes, Member, Moment, momentPointer}
 use Rattle.radial_spec.specs.Refusal.{countIn, pointer, part, nameIn, blockSays, momentAt}
 use Rattle.radial.specs.declared.Span.{Span}
-use Rattle.radial_check.specs.declared.MomentHead.{MomentHead}
+use Rattle.radial_head.specs.declared.MomentHead.{MomentHead}
 use Rattle.radial.specs.declared.Coded.{Coded}
 use Rattle.radial.specs.declared.PlaceAnswer.{PlaceAnswer}
 use Rattle.radial.specs.declared.PlaceAnswer.the-variants.{At, Refused as NoPlace}

@@ -11,8 +11,8 @@ use Rattle.wire.specs.Answers.{Answer, refused, given}
 use Rattle.radial_spec.specs.Description.{constants, constantHead, Block, Moment, Description, Agrees, Layout}
 use Rattle.radial_spec.specs.Refusal.{momentBy, radialOf}
 use Rattle.radial.specs.declared.Span.{Span}
-use Rattle.radial_check.specs.declared.MomentHead.{MomentHead}
-use Rattle.radial_check.specs.Told.{headBack}
+use Rattle.radial_head.specs.declared.MomentHead.{MomentHead}
+use Rattle.radial_head.specs.Told.{headBack}
 use Rattle.radial.specs.declared.Radial.{Radial}
 use Rattle.radial.specs.Told.{shown}
 

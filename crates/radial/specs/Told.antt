@@ -10,8 +10,8 @@ use Rattle.radial_spec.specs.Refusal.{headBy, storedHead}
 use Rattle.radial_spec.specs.Lookups.{Coded as CodedOf, Asked, noSuch, lies}
 use Rattle.radial_heading.specs.Told.{headerOf, noHeader}
 use Rattle.radial.specs.declared.Span.{Span}
-use Rattle.radial_check.specs.declared.MomentHead.{MomentHead}
-use Rattle.radial_check.specs.Told.{headTold}
+use Rattle.radial_head.specs.declared.MomentHead.{MomentHead}
+use Rattle.radial_head.specs.Told.{headTold}
 use Rattle.radial.specs.declared.Radial.{Radial}
 use Rattle.radial.specs.declared.MomentAnswer.{MomentAnswer}
 use Rattle.radial.specs.declared.MomentAnswer.the-variants.{Moment as Found, Refused as NotFound}

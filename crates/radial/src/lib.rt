@@ -17,13 +17,13 @@ use radial_check::COUNT_PLACE;
 use radial_check::ELEVATION_POINTER;
 use radial_check::FIRST_POINTER;
 use radial_check::LENGTH_PLACE;
-use radial_check::MOMENT_HEAD;
 use radial_check::MOMENT_POINTER;
 use radial_check::MOST_BLOCKS;
-use radial_check::MomentHead;
 use radial_check::RADIAL_POINTER;
 use radial_check::VOLUME_POINTER;
 use radial_check::WIDE_WORD;
+use radial_head::MOMENT_HEAD;
+use radial_head::MomentHead;
 use radial_heading::Header;
 use wire::refusal;
 
@@ -158,7 +158,7 @@ fn head_at(body: &[u8], place: u32) -> MomentHead
 {
     let begin = place as usize;
     let end = begin + MOMENT_HEAD;
-    radial_check::head_of(&body[begin..end], place)
+    radial_head::head_of(&body[begin..end], place)
 }
 
 // The moments' heads of an accepted radial.
@@ -334,7 +334,7 @@ fn moment_block(head: MomentHead) -> BlockAnswer
     let lying = Lying {
         name: head.name,
         place: head.place,
-        size: radial_check::moment_size(head.gates, head.word),
+        size: radial_head::moment_size(head.gates, head.word),
     };
     BlockAnswer::Moment(lying, head)
 }

@@ -13,7 +13,8 @@ use Rattle.wire.proofs.CheckLaws.{all-hold}
 use Rattle.wire.proofs.AnswerLaws.{rule-given}
 use Rattle.radial_spec.specs.Description.{permitted, mostMoments, momentPointer}
 use Rattle.radial_spec.specs.Refusal.{pointer, part, nameIn, headIn, momentSays, momentChecks, momentsChecks}
-use Rattle.radial_check.specs.Steps.{keyOf, bitOf, marked, momentStep, momentNext, momentsOf}
+use Rattle.radial_head.specs.Told.{keyOf}
+use Rattle.radial_check.specs.Steps.{bitOf, marked, momentStep, momentNext, momentsOf}
 use Rattle.radial_check.proofs.ChainLaws.{stops, goes, given-is}
 use Rattle.radial_check.proofs.BitLaws.{Marks, marks-none, marks-more}
 

@@ -15,7 +15,7 @@ use Rattle.wire.proofs.NumberLaws.{number-is}
 use Rattle.radial_spec.specs.Description.{headerSize, sizePlace, countPlace, fewestBlocks, mostBlocks, permitted, mostGates, wordSizes}
 use Rattle.radial_spec.specs.Description.{momentBytes, compressionPlace}
 use Rattle.radial_spec.specs.Refusal.{sizeIn, countIn, headerChecks}
-use Rattle.radial_check.specs.declared.Key.{Key}
+use Rattle.radial_head.specs.declared.Key.{Key}
 use Rattle.radial_check.specs.Steps.{bitOf, marked, startOf, momentPart, momentIn}
 use Rattle.radial_check.proofs.BitLaws.{permitted-bit}
 

@@ -9,8 +9,9 @@ use Rattle.wire.specs.Checks.{Check, check, among, pick, decide}
 use Rattle.wire.specs.Answers.{Answer, refused, given, rule}
 use Rattle.radial_spec.specs.Description.{permitted, mostGates, wordSizes, momentHead, momentPointer, radialPointer, momentBytes, lengthPlace}
 use Rattle.radial_spec.specs.Refusal.{sizeIn, countIn, pointer, part, blockSays, headerChecks, blockChecks, momentsChecks, endAt}
-use Rattle.radial_spec.specs.Refusal.{constantsChecks, Head, headIn}
-use Rattle.radial_check.specs.declared.Key.{Key}
+use Rattle.radial_spec.specs.Refusal.{constantsChecks, headIn}
+use Rattle.radial_head.specs.declared.Key.{Key}
+use Rattle.radial_head.specs.Told.{keyOf}
 use Rattle.radial_check.specs.declared.Start.{Start}
 use Rattle.radial_check.specs.declared.Start.the-variants.{Checked, Refused as NotStarted}
 use Rattle.radial_check.specs.declared.Found.{Found}
@@ -49,9 +50,6 @@ marked seen name = not (eqb (bitAnd seen (bitOf name)) 0)
 abbrev pub constantPart : ℕ → ℕ → ℕ → ℕ → ℕ → ℕ → List Check
 constantPart z p named says name least =
     check 19 (not (eqb named name)) ∷ check 20 (ltb says least) ∷ check 20 (ltb z (p + says)) ∷ []
-
-abbrev pub keyOf : Head → Key
-keyOf h = record { name = h .name; gates = h .gates; word = h .word }
 
 abbrev pub momentPart : ℕ → ℕ → Key → ℕ → List Check
 momentPart z p h seen =

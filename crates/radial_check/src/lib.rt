@@ -1,4 +1,4 @@
-// The check of a radial: a body of message 31 is accepted or refused by one number, block by block. Also reads a moment's head.
+// The check of a radial: a body of message 31 is accepted or refused by one number, block by block.
 ghost use mathlib.Core.Path.{_≡_};
 ghost use Prim.Native.Nat.{_+_, _≤_};
 ghost use lib.Dec.{eqb};
@@ -6,11 +6,12 @@ ghost use lib.ListN.{length};
 ghost use Rattle.wire.specs.Numbers.{fetched};
 ghost use Rattle.wire.specs.Checks.{among};
 ghost use Rattle.wire.specs.Answers.{numberOf};
-ghost use Rattle.radial_spec.specs.Description.{headerSize, mostMoments, wordSizes, momentBytes};
+ghost use Rattle.radial_spec.specs.Description.{headerSize, mostMoments, wordSizes};
 ghost use Rattle.radial_spec.specs.Refusal.{sizeIn, radialOf};
-ghost use Rattle.radial_check.specs.Told.{fetchedHead, headTold};
-ghost use Rattle.radial_check.specs.Steps.{tellStart, tellFound, tellGot, keyOf, bitOf, startOf, constantBy, constantAt};
+ghost use Rattle.radial_head.specs.Told.{fetchedHead, keyOf};
+ghost use Rattle.radial_check.specs.Steps.{tellStart, tellFound, tellGot, bitOf, startOf, constantBy, constantAt};
 ghost use Rattle.radial_check.specs.Steps.{constantsOf, momentIn, momentNext, momentsOf};
+use radial_head::MOMENT_HEAD;
 use wire::refusal;
 
 // "The header takes bytes 0 to 67"
@@ -56,9 +57,6 @@ const ELEVATION_LEAST: u16 = 12;
 
 const RADIAL_LEAST: u16 = 20;
 
-// Bytes before a moment's gates.
-pub const MOMENT_HEAD: usize = 28;
-
 const MOST_GATES: u16 = 1840;
 
 // "word size 19 (8 or 16 bits)"
@@ -70,31 +68,6 @@ pub const WIDE_WORD: u8 = 16;
 const NAMES: usize = 6;
 
 const PERMITTED: [[u8; 4]; NAMES] = [*b"DREF", *b"DVEL", *b"DSW ", *b"DZDR", *b"DPHI", *b"DRHO"];
-
-// A moment's first 28 bytes and its place. Scale and offset are given both as floats and as their 32 bits.
-pub struct MomentHead {
-    pub name: u32,
-    pub place: u32,
-    pub reserved: u32,
-    pub gates: u16,
-    pub first: u16,
-    pub interval: u16,
-    pub overlay: u16,
-    pub noise: u16,
-    pub flags: u8,
-    pub word: u8,
-    pub scale: f32,
-    pub offset: f32,
-    pub scale_bits: u32,
-    pub offset_bits: u32,
-}
-
-// The fields of a moment's head that are checked.
-struct Key {
-    name: u32,
-    gates: u16,
-    word: u8,
-}
 
 // The radial length and the block count.
 enum Start {
@@ -228,54 +201,11 @@ fn sized(word: u8) -> bool
     word == WIDE_WORD
 }
 
-// The size of a moment in bytes: "Then the gates, one word each."
-pub fn moment_size(gates: u16, word: u8) -> u32
-    ensures { λ r. ⌜ r ≡ momentBytes gates word ⌝ }
-{
-    MOMENT_HEAD as u32 + gates as u32 * (word as u32 / 8)
-}
-
-// Fetches only these three fields. A whole head has other callers: the compiler would not inline it and drop the fields not used.
-fn key_of(part: &[u8]) -> Key
-    ensures { λ r. ⌜ r ≡ keyOf (fetchedHead (now (part .entry))) ⌝ }
-{
-    Key {
-        name: wire::fetch32(part, 0),
-        gates: wire::fetch16(part, 8),
-        word: wire::fetch8(part, 19),
-    }
-}
-
-// The head of the moment at `place`. `part` is the body from there on; fields beyond its end are 0.
-pub fn head_of(part: &[u8], place: u32) -> MomentHead
-    ensures { λ r. ⌜ r ≡ headTold place (fetchedHead (now (part .entry))) ⌝ }
-{
-    let key = key_of(part);
-    let scale = wire::fetch32(part, 20);
-    let offset = wire::fetch32(part, 24);
-    MomentHead {
-        name: key.name,
-        place: place,
-        reserved: wire::fetch32(part, 4),
-        gates: key.gates,
-        first: wire::fetch16(part, 10),
-        interval: wire::fetch16(part, 12),
-        overlay: wire::fetch16(part, 14),
-        noise: wire::fetch16(part, 16),
-        flags: wire::fetch8(part, 18),
-        word: key.word,
-        scale: wire::float_of(scale),
-        offset: wire::float_of(offset),
-        scale_bits: scale,
-        offset_bits: offset,
-    }
-}
-
 // Checks a moment at `place` in a radial of `size` bytes, by its first 28 bytes. `seen` holds the bits of the names before it.
 fn moment_in(part: &[u8], size: usize, place: u32, seen: u32) -> Got
     ensures { λ r. ⌜ tellGot r ≡ momentIn size place (keyOf (fetchedHead (now (part .entry)))) seen ⌝ }
 {
-    let key = key_of(part);
+    let key = radial_head::key_of(part);
     let bit = bit_of(key.name);
     if bit == 0 {
         return Got::Refused(refusal::NAME);
@@ -289,7 +219,7 @@ fn moment_in(part: &[u8], size: usize, place: u32, seen: u32) -> Got
     if !sized(key.word) {
         return Got::Refused(refusal::BLOCK);
     }
-    let end = place as usize + moment_size(key.gates, key.word) as usize;
+    let end = place as usize + radial_head::moment_size(key.gates, key.word) as usize;
     if size < end {
         return Got::Refused(refusal::BLOCK);
     }

@@ -10,7 +10,7 @@ use Rattle.radial_spec.specs.Description.{momentHead, Moment, momentBytes}
 use Rattle.radial_spec.specs.Lookups.{momentOf, gatesOf}
 use Rattle.wire.proofs.OnwardLaws.{shows-given, shows-refused}
 use Rattle.radial_spec.proofs.Naming.{gate-words}
-use Rattle.radial_check.specs.declared.MomentHead.{MomentHead}
+use Rattle.radial_head.specs.declared.MomentHead.{MomentHead}
 use Rattle.radial.specs.Told.{headOf, headShown}
 use Rattle.radial_gates.specs.declared.Located.{Located}
 use Rattle.radial_gates.specs.Told.{partOf}

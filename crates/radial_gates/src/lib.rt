@@ -7,7 +7,7 @@ ghost use Rattle.radial_gates.specs.Told.{LiesAt, partOf, Lent};
 ghost use Rattle.radial_gates.specs.Steps.{Locates};
 use radial::MomentAnswer;
 use radial::Name;
-use radial_check::MOMENT_HEAD;
+use radial_head::MOMENT_HEAD;
 
 // A refusal's number or 0, the gate count, and where the gates lie.
 struct Located {
@@ -32,7 +32,7 @@ fn locate(body: &[u8], name: Name) -> Located
             number: 0,
             gates: head.gates,
             start: head.place as usize + MOMENT_HEAD,
-            size: radial_check::moment_size(head.gates, head.word) as usize - MOMENT_HEAD,
+            size: radial_head::moment_size(head.gates, head.word) as usize - MOMENT_HEAD,
         },
     }
 }

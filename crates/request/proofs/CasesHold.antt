@@ -1,7 +1,7 @@
 -- The cases of message 9, by computation of the rules. Assumes nothing.
 use mathlib.Core.Path.{refl}
 use Rattle.wire.specs.Numbers.{num}
-use Rattle.wire.specs.Forms.{outside}
+use Rattle.form_spec.specs.Forms.{outside}
 use Rattle.request.specs.Request.{requestOf, requestWritten}
 use Rattle.request.specs.Cases.{All, cases}
 

@@ -10,7 +10,7 @@ use lib.ListN.{length, getD}
 use Rattle.wire.specs.Numbers.{num, be}
 use Rattle.wire.specs.Answers.{refused, given, refusal}
 use Rattle.wire.specs.Writing.{wrote}
-use Rattle.wire.specs.Forms.{outside}
+use Rattle.form_spec.specs.Forms.{outside}
 use Rattle.wire.proofs.CheckLaws.{pick-same}
 use Rattle.request.specs.Request.{permitted, requestOf, requestWritten}
 

@@ -11,11 +11,11 @@ use Rattle.wire.specs.Properties.{Each}
 use Rattle.wire.specs.Numbers.{num}
 use Rattle.wire.specs.Checks.{pick, among}
 use Rattle.wire.specs.Answers.{refused, given}
-use Rattle.wire.specs.Forms.{outside, bodyChecks, readBy, listChecks, bodyBy}
+use Rattle.form_spec.specs.Forms.{outside, bodyChecks, readBy, listChecks, bodyBy}
 use Rattle.wire.proofs.CheckLaws.{never, decide-none}
 use Rattle.wire.proofs.AnswerLaws.{rule-given}
 use Rattle.wire.proofs.WriteLaws.{accepted}
-use Rattle.wire.proofs.FormLaws.{read-is-table, body-is-read, read-is-written as form-read-is-written}
+use Rattle.form_spec.proofs.FormLaws.{read-is-table, body-is-read, read-is-written as form-read-is-written}
 use Rattle.request.specs.Request.{permittedCodes, permitted, requestForm, requestOf, requestWritten}
 use Rattle.request.specs.Theorems.{BodyIsTable, WrittenIsRead, ReadIsWritten}
 

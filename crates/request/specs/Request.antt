@@ -3,7 +3,7 @@ use Prim.Native.Nat.{ℕ}
 use mathlib.Core.List.{List, [], _∷_}
 use Rattle.wire.specs.Numbers.{num}
 use Rattle.wire.specs.Answers.{Answer, rule, Outcome}
-use Rattle.wire.specs.Forms.{Range, oneOf, row, Form, bodyChecks, writtenBy}
+use Rattle.form_spec.specs.Forms.{Range, oneOf, row, Form, bodyChecks, writtenBy}
 use Rattle.wire.specs.declared.Bytes.{Bytes}
 
 abbrev pub permittedCodes : List ℕ

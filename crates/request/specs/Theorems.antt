@@ -4,7 +4,7 @@ use mathlib.Core.Path.{_≡_}
 use mathlib.Core.List.{List, [], _∷_}
 use lib.ListN.{length, getD, take}
 use Rattle.wire.specs.Numbers.{Octets}
-use Rattle.wire.specs.Forms.{bodyBy}
+use Rattle.form_spec.specs.Forms.{bodyBy}
 use Rattle.wire.specs.Answers.{given}
 use Rattle.wire.specs.Writing.{wrote}
 use Rattle.wire.specs.declared.Bytes.{Bytes}

@@ -2,7 +2,7 @@
 ghost use mathlib.Core.Path.{_≡_};
 ghost use Rattle.wire.specs.Answers.{Promise};
 ghost use Rattle.wire.specs.Writing.{tellWrite};
-ghost use Rattle.wire.specs.Forms.{outside};
+ghost use Rattle.form_spec.specs.Forms.{outside};
 ghost use Rattle.request.specs.Request.{permitted, requestOf, requestWritten};
 ghost use Rattle.request.specs.Told.{tellRequest};
 use wire::Bytes;

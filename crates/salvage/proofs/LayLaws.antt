@@ -7,9 +7,10 @@ use native.Mathlib.Numerals.{add-one}
 use native.Mathlib.Omega.{arith}
 use lib.ListN.{length, take, drop, set, length-drop}
 use lib.Seq.{length-take-le}
-use Rattle.wire.specs.Writing.{filled, copied}
+use Rattle.wire.specs.Writing.{filled}
+use Rattle.copy.specs.Copying.{copied}
 use Rattle.wire.specs.Sheets.{Sheet, sheet, lay, onto}
-use Rattle.wire.proofs.CopyLaws.{copied-same}
+use Rattle.copy.proofs.CopyLaws.{copied-same}
 use Rattle.wire.proofs.SheetLaws.{laid-sets, lay-room, lay-none, onto-long, onto-filled}
 use Rattle.salvage_spec.specs.Walk.{Run, run}
 use Rattle.salvage_spec.specs.Salvage.{twoOf}

@@ -76,7 +76,7 @@ fn put(bytes: &[u8], out: &mut [u8], long: usize) -> usize
     if out.len() < end {
         return end;
     }
-    wire::copy(bytes, &mut out[long..end]);
+    copy::copy(bytes, &mut out[long..end]);
     end
 }
 

@@ -187,7 +187,7 @@ fn join(
         let start = starts[k];
         let end = ends[k];
         let next = place + (end - start);
-        wire::copy(&frames[start..end], &mut out[place..next]);
+        copy::copy(&frames[start..end], &mut out[place..next]);
         place = next;
         k += 1;
     }

@@ -10,7 +10,7 @@ use map::CodeAnswer;
 use map::MapAnswer;
 use radial::BlockAnswer;
 use radial::Lying;
-use radial_check::MomentHead;
+use radial_head::MomentHead;
 use request::RequestAnswer;
 use ulmarzhe_text::part::wide8;
 use ulmarzhe_text::part::wide16;

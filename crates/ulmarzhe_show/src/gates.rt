@@ -8,7 +8,7 @@ use crate::recorded::Walk;
 use frame::FrameAnswer;
 use gate_value::GateAnswer;
 use radial::MomentAnswer;
-use radial_check::MomentHead;
+use radial_head::MomentHead;
 use ulmarzhe_text::output;
 use ulmarzhe_text::output::Output;
 use ulmarzhe_text::page;

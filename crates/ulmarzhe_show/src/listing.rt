@@ -9,7 +9,7 @@ use header::HeaderAnswer;
 use radial::ROOM;
 use radial::Radial;
 use radial_check::CONSTANTS;
-use radial_check::MomentHead;
+use radial_head::MomentHead;
 use ulmarzhe_text::output;
 use ulmarzhe_text::output::Output;
 use ulmarzhe_text::page;

@@ -10,8 +10,5 @@ pub mod AnswerLaws
 pub mod OnwardLaws
 pub mod WriteLaws
 pub mod SheetLaws
-pub mod CopyLaws
-pub mod FormLaws
-pub mod PartLaws
 pub mod FloatLaws
 pub mod Welds

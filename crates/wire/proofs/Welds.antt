@@ -5,14 +5,12 @@ use lib.Ieee.{binary32, ofBits}
 use mathlib.Core.Path.{_≡_, sym, _∙_}
 use Rattle.wire.specs.Numbers.{fetched, stored}
 use Rattle.wire.specs.Sizes.{halved}
-use Rattle.wire.specs.Writing.{copied}
 use Rattle.wire.proofs.to_halfwords.Reads as to-halfwords
 use Rattle.wire.proofs.fetch8.Reads as fetch8
 use Rattle.wire.proofs.fetch16.Reads as fetch16
 use Rattle.wire.proofs.fetch32.Reads as fetch32
 use Rattle.wire.proofs.store16.Reads as store16
 use Rattle.wire.proofs.store32.Reads as store32
-use Rattle.wire.proofs.copy.Reads as copy
 use Rattle.wire.proofs.float_of.Reads as float-of
 
 pub to-halfwords-says : (κs size r last : _) → to-halfwords.Learnt κs (size, tt) r last → r ≡ halved size
@@ -55,13 +53,6 @@ store32-says κs out at x r out′ at′ x′ l = l
 pub store32-one : (κs out at x r r₂ out′ at′ x′ out″ at″ x″ : _) → store32.Learnt κs (out, (at, (x, tt))) r (out′, (at′, (x′, tt)))
     → store32.Learnt κs (out, (at, (x, tt))) r₂ (out″, (at″, (x″, tt))) → now out′ ≡ now out″
 store32-one κs out at x r r₂ out′ at′ x′ out″ at″ x″ l l₂ = l ∙ sym l₂
-
-pub copy-says : (κs from to r from′ to′ : _) → copy.Learnt κs (from, (to, tt)) r (from′, (to′, tt)) → now to′ ≡ copied (now from) (now to)
-copy-says κs from to r from′ to′ l = l
-
-pub copy-one : (κs from to r r₂ from′ to′ from″ to″ : _) → copy.Learnt κs (from, (to, tt)) r (from′, (to′, tt))
-    → copy.Learnt κs (from, (to, tt)) r₂ (from″, (to″, tt)) → now to′ ≡ now to″
-copy-one κs from to r r₂ from′ to′ from″ to″ l l₂ = l ∙ sym l₂
 
 pub float-of-says : (κs bits r last : _) → float-of.Learnt κs (bits, tt) r last → r ≡ ofBits binary32 bits
 float-of-says κs bits r last l = l

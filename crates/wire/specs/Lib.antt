@@ -1,5 +1,4 @@
--- Bytes and numbers, tables of fields, properties, ordered checks, answers and promises, outputs written, bodies by a table of ranges,
--- counted parts: what every rule is written with.
+-- Bytes and numbers, tables of fields, properties, ordered checks, answers and promises, outputs written: what every rule is written with.
 pub mod Properties
 pub mod Numbers
 pub mod Tables
@@ -8,5 +7,3 @@ pub mod Answers
 pub mod Sizes
 pub mod Writing
 pub mod Sheets
-pub mod Forms
-pub mod Parts

@@ -1,9 +1,9 @@
 -- "An accepted call that writes fills its output from the start, reports the length and leaves the rest."
 use Prim.Native.Nat.{ℕ}
 use mathlib.Core.List.{List, [], _∷_, _++_}
-use lib.Dec.{eqb, ltb}
+use lib.Dec.{ltb}
 use lib.ListN.{length, drop}
-use Rattle.wire.specs.Checks.{pick, Check, check}
+use Rattle.wire.specs.Checks.{Check, check}
 use Rattle.wire.specs.Answers.{Answer, refused, given, Outcome, outcome}
 use Rattle.wire.specs.Sizes.{bytes}
 use Rattle.wire.specs.declared.Bytes.{Bytes}
@@ -33,14 +33,6 @@ wroteAll ks v whole out = outcome (thenRoom ks whole (length out)) out v (filled
 -- a writer reports the length of what it wrote
 abbrev pub written : List Check → List ℕ → List ℕ → Outcome (List ℕ) Bytes
 written ks body out = wroteAll ks (bytes (length body)) body out
-
--- how many bytes a copy moves at once
-abbrev pub copyBlock : ℕ
-copyBlock = 1200
-
--- copies one part onto another of the same length; does nothing if the lengths differ
-unfoldable pub copied : List ℕ → List ℕ → List ℕ
-copied from to = pick (eqb (length from) (length to)) from to
 
 -- the length that a writer reports, or the number of its refusal
 abbrev pub tellWrite : WriteAnswer → Answer Bytes

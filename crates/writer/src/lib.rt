@@ -94,6 +94,6 @@ fn write_frame(given: Given, n: u16, k: u16, part: &[u8], out: &mut [u8])
 {
     let head = writer_head::heads_of(given, n, k, Bytes(HEADER + part.len() as u32));
     let end = HEADS + part.len();
-    wire::copy(&head, &mut out[..HEADS]);
-    wire::copy(part, &mut out[HEADS..end]);
+    copy::copy(&head, &mut out[..HEADS]);
+    copy::copy(part, &mut out[HEADS..end]);
 }

@@ -1,5 +1,5 @@
 use mathlib.Core.Path.{sym}
-use Rattle.wire.proofs.FormLaws.{outside-below, outside-from}
+use Rattle.form_spec.proofs.FormLaws.{outside-below, outside-from}
 use Rattle.censor.proofs.beyond.Statement.{statement}
 use Rattle.censor.proofs.beyond.Tie as tie
 

@@ -6,7 +6,7 @@ use denote.Ref.{now}
 use borrow.Author.Needs.{needs}
 use lib.ListN.{take}
 use Rattle.wire.proofs.CheckLaws.{hit, miss, last}
-use Rattle.wire.proofs.FormLaws.{fieldsThen, fields-by-place}
+use Rattle.form_spec.proofs.FormLaws.{fieldsThen, fields-by-place}
 use Rattle.censor.specs.Censor.{region}
 use Rattle.censor.specs.Steps.{regionBroken}
 use Rattle.censor.proofs.region_broken.Statement.{statement}

@@ -7,7 +7,7 @@ use lib.ListN.{drop}
 use Rattle.wire.specs.Checks.{either}
 use Rattle.wire.proofs.ListLaws.{part-is}
 use Rattle.wire.proofs.CheckLaws.{hit, miss}
-use Rattle.wire.proofs.FormLaws.{times-next}
+use Rattle.form_spec.proofs.FormLaws.{times-next}
 use Rattle.censor.specs.Censor.{regionFields, region}
 use Rattle.censor.specs.Steps.{regionBroken, regionsBroken}
 use Rattle.censor.proofs.regions_broken.Statement.{statement}

@@ -5,8 +5,8 @@ use native.Mathlib.Omega.{arith}
 use mathlib.Core.Path.{_≡_, sym}
 use lib.ListN.{length}
 use Rattle.map_spec.specs.Reading.{azimuthPart}
-use Rattle.wire.specs.Parts.{runSize}
-use Rattle.wire.proofs.PartLaws.{run-none}
+use Rattle.form_spec.specs.Parts.{runSize}
+use Rattle.form_spec.proofs.PartLaws.{run-none}
 use Rattle.compare.proofs.AzimuthWalk.{run-on}
 use Rattle.compare.proofs.pass.Statement.{statement}
 use Rattle.compare.proofs.pass.Tie as tie

@@ -7,7 +7,7 @@ use Rattle.wire.specs.Answers.{given}
 use Rattle.radial_spec.specs.Description.{constants}
 use Rattle.radial_spec.specs.Refusal.{countIn}
 use Rattle.radial_spec.proofs.Names.{RVOL-is, RELV-is, RRAD-is}
-use Rattle.radial_check.specs.declared.MomentHead.{MomentHead}
+use Rattle.radial_head.specs.declared.MomentHead.{MomentHead}
 use Rattle.radial.specs.Steps.{momentTold}
 use Rattle.radial.proofs.BlockLaws.{all-held, counted, block-none, block-zero, block-volume, block-elevation, block-radial}
 use Rattle.radial.proofs.BlockLaws.{block-inside, block-moment}

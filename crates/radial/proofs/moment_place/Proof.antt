@@ -6,7 +6,7 @@ use denote.Ref.{now}
 use Rattle.radial_spec.specs.Description.{firstPointer}
 use Rattle.radial_spec.specs.Refusal.{pointer}
 use Rattle.radial_spec.proofs.Held.{held}
-use Rattle.radial_check.proofs.PartLaws.{pointer-there}
+use Rattle.radial_head.proofs.PartLaws.{pointer-there}
 use Rattle.radial.proofs.StepLaws.{Searching, search-begins, pointer-inside, block-held, search-found, search-on, search-ends}
 use borrow.Author.Needs.{needs}
 use Rattle.radial.proofs.moment_place.Statement.{statement}

@@ -3,7 +3,8 @@ use mathlib.Core.Path.{_≡_, _∙_}
 use denote.Ref.{now}
 use borrow.Author.Tests.{lt-ltb, le-ltb}
 use Rattle.radial_spec.specs.Refusal.{pointer}
-use Rattle.radial_check.proofs.PartLaws.{pointer-there, moment-there}
+use Rattle.radial_head.proofs.PartLaws.{pointer-there}
+use Rattle.radial_check.proofs.PartLaws.{moment-there}
 use borrow.Author.Needs.{needs}
 use Rattle.radial_check.proofs.moment_at.Statement.{statement}
 use Rattle.radial_check.proofs.moment_at.Tie as tie

@@ -1,9 +1,9 @@
 use mathlib.Core.Path.{_≡_, sym, ap, _∙_}
 use denote.Ref.{now}
 use borrow.Author.Tests.{not-true, not-false}
-use Rattle.radial_check.specs.declared.Key.{Key}
-use Rattle.radial_check.specs.Told.{fetchedHead}
-use Rattle.radial_check.specs.Steps.{keyOf, momentIn}
+use Rattle.radial_head.specs.declared.Key.{Key}
+use Rattle.radial_head.specs.Told.{fetchedHead, keyOf}
+use Rattle.radial_check.specs.Steps.{momentIn}
 use Rattle.radial_check.proofs.StepLaws.{unknown-name, repeated-name, many-gates, odd-word, past-radial, good-moment}
 use borrow.Author.Needs.{needs}
 use Rattle.radial_check.proofs.moment_in.Statement.{statement}

@@ -4,7 +4,7 @@ use lib.Dec.{eqb}
 use borrow.Author.Tests.{eq-eqb, ne-eqb}
 use Rattle.wire.proofs.CheckLaws.{either-false, hit, miss}
 use Rattle.wire.specs.Checks.{among}
-use Rattle.wire.specs.Forms.{outside}
+use Rattle.form_spec.specs.Forms.{outside}
 use Rattle.request.specs.Request.{permittedCodes}
 use Rattle.request.proofs.breaks_code.Statement.{statement}
 use Rattle.request.proofs.breaks_code.Tie as tie

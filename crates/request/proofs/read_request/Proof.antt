@@ -5,7 +5,7 @@ use borrow.Author.Needs.{needs}
 use Rattle.wire.specs.Answers.{given}
 use Rattle.wire.specs.Numbers.{num}
 use Rattle.wire.proofs.NumberLaws.{fetched-whole}
-use Rattle.wire.specs.Forms.{outside}
+use Rattle.form_spec.specs.Forms.{outside}
 use Rattle.request.specs.Request.{permitted}
 use Rattle.request.proofs.StepLaws.{body-long, body-code, body-fine}
 use Rattle.request.proofs.read_request.Statement.{statement}

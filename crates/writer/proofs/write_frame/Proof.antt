@@ -5,7 +5,7 @@ use denote.Ref.{now}
 use lib.Seq.{length-take-le}
 use lib.ListN.{length, take}
 use mathlib.Core.Path.{_≡_, sym, ap, _∙_}
-use Rattle.wire.proofs.CopyLaws.{copied-same}
+use Rattle.copy.proofs.CopyLaws.{copied-same}
 use borrow.Author.Needs.{needs}
 use Rattle.writer.proofs.write_frame.Statement.{statement}
 use Rattle.writer.proofs.write_frame.Tie as tie

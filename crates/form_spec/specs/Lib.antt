@@ -1,0 +1,3 @@
+-- Bodies by a table of ranges, and counted parts.
+pub mod Forms
+pub mod Parts

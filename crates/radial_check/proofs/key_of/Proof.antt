@@ -1,9 +1,0 @@
-use borrow.Author.Needs.{needs}
-use Rattle.radial_check.proofs.key_of.Statement.{statement}
-use Rattle.radial_check.proofs.key_of.Tie as tie
-
-returns : tie.Need-returns
-returns c = cc
-
-pub key-of-spec : {M : Type 1} → statement M
-key-of-spec = tie.close (tie.spec (λ c κs. search needs) (λ c κs. search needs) (λ c κs. search needs) returns)

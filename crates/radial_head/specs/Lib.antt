@@ -1,0 +1,2 @@
+-- What is read of a moment's head.
+pub mod Told
