@@ -15,7 +15,7 @@ use Rattle.header.specs.declared.HeaderAnswer.the-variants.{Read, Refused}
 use Rattle.header.specs.Header.{storedIn, headerIn, headerOf}
 use Rattle.header.specs.Told.{tellHeader}
 use Rattle.header.specs.Theorems.{Lone, numberPlace, ButTwoBytes, loneChecks}
-use Rattle.header.proofs.HeaderLaws.{number-lone, number-other}
+use Rattle.header_rule.proofs.RuleLaws.{number-lone, number-other}
 use Rattle.header.proofs.LoneLaws.{lone-header}
 use Rattle.header.proofs.Theorems.{lone-by-other-checks, number-outside}
 use Rattle.header.proofs.Welds.{header-apart}

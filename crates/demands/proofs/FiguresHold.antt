@@ -18,7 +18,7 @@ use Rattle.wire.proofs.AnswerLaws.{rule-given, outcome-given}
 use Rattle.wire.proofs.WriteLaws.{accepted}
 use Rattle.frame.specs.declared.Frame.{Frame}
 use Rattle.frame.specs.Session.{sessionLimit, frameChecks, Stream, end, frame, frameIn, frameAt}
-use Rattle.header.specs.Header.{radialType}
+use Rattle.header_rule.specs.Rules.{radialType}
 use Rattle.set_spec.specs.Walk.{SetSays, setOf}
 use Rattle.set_spec.specs.Theorems.{AtMost}
 use Rattle.set_spec.proofs.FrameFacts.{framed}

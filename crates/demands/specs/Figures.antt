@@ -7,7 +7,8 @@ use lib.ListN.{length}
 use denote.Ref.{now, at-last}
 use Rattle.wire.specs.Numbers.{Octets}
 use Rattle.frame.specs.Session.{headSize, sessionLimit}
-use Rattle.header.specs.Header.{headerSize, radialType}
+use Rattle.header_rule.specs.Rules.{radialType}
+use Rattle.header.specs.Header.{headerSize}
 use Rattle.salvage_spec.specs.Theorems.{leastFrame}
 use Rattle.writer.specs.Writing.{segmentData, segmentsOf, longest, longestBody}
 use Rattle.radial_spec.specs.Description.{mostBlocks, mostGates}

@@ -12,7 +12,8 @@ use Rattle.frame.specs.Session.{headSize, dataKind}
 use Rattle.frame.specs.declared.Frame.{Frame}
 use Rattle.frame.specs.declared.FrameAnswer.the-variants.{Read}
 use Rattle.frame.proofs.frame_at.Reads as frame-at
-use Rattle.header.specs.Header.{radialType, headerSize}
+use Rattle.header_rule.specs.Rules.{radialType}
+use Rattle.header.specs.Header.{headerSize}
 use Rattle.header.specs.declared.Header.{Header}
 use Rattle.header.specs.declared.HeaderAnswer.the-variants.{Read as ReadHeader}
 use Rattle.header.proofs.read_header.Reads as read-header

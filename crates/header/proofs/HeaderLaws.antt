@@ -1,103 +1,26 @@
--- Laws of the header's rules, and that a written header is read back. Assumes nothing.
-use Prim.Native.Nat.{ℕ, _*_, _/_, _%_, _≤_, _<_}
+-- Laws of the header's checks, and that a written header is read back. Assumes nothing.
+use Prim.Native.Nat.{ℕ, _≤_, _<_}
 use mathlib.Core.Path.{_≡_, refl, sym, ap, _∙_}
-use mathlib.Core.Bool.{Bool, true, false, not}
+use mathlib.Core.Bool.{Bool, true, false}
 use mathlib.Core.List.{List, [], _∷_, _++_}
 use native.Mathlib.Omega.{arith}
-use lib.Dec.{ltb, leb, eqb}
+use lib.Dec.{ltb, eqb}
 use lib.ListN.{length}
-use borrow.Author.Tests.{lt-ltb, le-ltb, eq-eqb, ne-eqb, eqb-true, eqb-false, ltb-false}
+use borrow.Author.Tests.{lt-ltb, le-ltb, ne-eqb, ltb-false}
 use Rattle.wire.specs.Numbers.{num, fetched}
 use Rattle.wire.specs.Checks.{pick, check, decide, someBroken}
 use Rattle.wire.specs.Answers.{refused, given}
 use Rattle.wire.specs.Tables.{render, Fit}
-use Rattle.wire.specs.Sizes.{bytes, halfwords, halved}
-use Rattle.wire.specs.declared.Halfwords.{Halfwords}
-use Rattle.wire.proofs.CheckLaws.{never, either-true, either-false, AllAbove0, decide-same, decide-number}
-use Rattle.wire.proofs.FiniteLaws.{below, same, same-is}
+use Rattle.wire.specs.Sizes.{bytes, halfwords}
+use Rattle.wire.proofs.CheckLaws.{never, AllAbove0, decide-same, decide-number}
 use Rattle.wire.proofs.NumberLaws.{fetched-whole}
 use Rattle.wire.proofs.TableLaws.{reads-back}
+use Rattle.header_rule.proofs.RuleLaws.{number-kept}
 use Rattle.header.specs.declared.Header.{Header}
 use Rattle.header.specs.declared.Stored.{Stored}
-use Rattle.header.specs.Header.{headerTable, headerSize, numberPlace, storedIn, reportedNumber, withNumber, asReported, headerIn, headerOf, leastSize, mostSize, sizeChecks, lastInRow, filterMapType, adaptationType, radialType, notPermitted, mostSegments, segmentSize, segmentChecks, timeChecks, valueChecks, headerChecks}
+use Rattle.header_rule.specs.Rules.{reportedNumber, sizeChecks, notPermitted, segmentChecks, timeChecks}
+use Rattle.header.specs.Header.{headerTable, headerSize, numberPlace, storedIn, withNumber, asReported, headerIn, headerOf, valueChecks, headerChecks}
 use Rattle.header.specs.Steps.{storedOr0, refusalOf, reportedFrom}
-
--- the permitted types in the order in which they are told apart
-abbrev pub typeShape : ℕ → Bool
-typeShape t =
-    pick (eqb t radialType) false (pick (leb t lastInRow) (ltb t 1) (pick (eqb t filterMapType) false (not (eqb t adaptationType))))
-
-pub type-by : (t : ℕ) (r : Bool) → t < 256 → r ≡ typeShape t → r ≡ notPermitted t
-type-by t r h e = e ∙ sym (same-is (notPermitted t) (typeShape t) (below (λ k. same (notPermitted k) (typeShape k)) 256 refl t h))
-
--- the size's checks of a message with a whole header: its bytes are more than the most; half of them is not the size; it is, and they are
--- even or not
-size-other : (size : Halfwords) (long : ℕ) → (halved (bytes long) .0 ≡ size .0 → ⊥) → someBroken (sizeChecks size long) ≡ true
-size-other size long h = simp (ne-eqb (long / 2) (size .0) h, either-true)
-
-pub size-long : (size : Halfwords) (long : ℕ) → mostSize .0 * 2 < long → true ≡ someBroken (sizeChecks size long)
-size-long size long m = sym (go (ltb (mostSize .0) (size .0)) refl (eqb (long / 2) (size .0)) refl)
-  where
-    go : (t : Bool) → ltb (mostSize .0) (size .0) ≡ t → (u : Bool) → eqb (long / 2) (size .0) ≡ u
-        → someBroken (sizeChecks size long) ≡ true
-    go true p u q = simp (p, either-true)
-    go false p false q = size-other size long (eqb-false (long / 2) (size .0) q)
-    go false p true q =
-        let half : long / 2 ≡ size .0 = eqb-true (long / 2) (size .0) q in
-        let low : size .0 ≤ mostSize .0 = ltb-false (mostSize .0) (size .0) p in
-        let odd : long % 2 ≡ 0 → ⊥ = λ e. omega (arith, half, e) in
-        simp (ne-eqb (long % 2) 0 odd, either-true)
-
-module _ (size : Halfwords) (long : ℕ) (half : Halfwords) (is : half ≡ halved (bytes long)) where
-  pub size-not-half : (half .0 ≡ size .0 → ⊥) → true ≡ someBroken (sizeChecks size long)
-  size-not-half h = sym (size-other size long (λ e. h (simp is e)))
-
-  pub size-half : headerSize ≤ long → long ≤ mostSize .0 * 2 → half .0 ≡ size .0
-      → not (eqb (long % 2) 0) ≡ someBroken (sizeChecks size long)
-  size-half l m e =
-      let same : long / 2 ≡ size .0 = simp is at e in
-      let low : leastSize .0 ≤ size .0 = omega (arith, same) in
-      let high : size .0 ≤ mostSize .0 = omega (arith, same) in
-      simp (le-ltb (size .0) (leastSize .0) low, le-ltb (mostSize .0) (size .0) high, eq-eqb (long / 2) (size .0) same, either-false)
-
--- the number reported: 1 if N is 1, else the one stored; a number from 1 to N is not changed
-pub number-lone : (n k : ℕ) → n ≡ 1 → reportedNumber n k ≡ 1
-number-lone n k e = simp (eq-eqb n 1 e)
-
-pub number-other : (n k : ℕ) → (n ≡ 1 → ⊥) → reportedNumber n k ≡ k
-number-other n k e = simp (ne-eqb n 1 e)
-
-pub number-kept : (n k : ℕ) → 1 ≤ k → k ≤ n → reportedNumber n k ≡ k
-number-kept n k low high = go (eqb n 1) refl
-  where
-    go : (t : Bool) → eqb n 1 ≡ t → reportedNumber n k ≡ k
-    go true q = let one : n ≡ 1 = eqb-true n 1 q in number-lone n k one ∙ omega (arith, one)
-    go false q = simp q
-
--- the segment's checks of a radial: it is the one segment there is
-pub radial-alone : (size : Halfwords) (kind n k : ℕ) → kind ≡ radialType
-    → someBroken (segmentChecks size kind n (reportedNumber n k)) ≡ not (eqb n 1)
-radial-alone size kind n k r = go (eqb n 1) refl
-  where
-    go : (t : Bool) → eqb n 1 ≡ t → someBroken (segmentChecks size kind n (reportedNumber n k)) ≡ not (eqb n 1)
-    go false q = simp (eq-eqb kind radialType r, q, either-true)
-    go true q =
-        let one : n ≡ 1 = eqb-true n 1 q in
-        let few : n ≤ mostSegments = omega (arith, one) in
-        simp (le-ltb n 1 (omega (arith, one)), le-ltb mostSegments n few, eq-eqb kind radialType r, q)
-
--- and of another message that is not too large and is one segment
-pub small-alone : (size : Halfwords) (kind n k : ℕ) → (kind ≡ radialType → ⊥) → size .0 ≤ segmentSize .0 → n ≡ 1
-    → someBroken (segmentChecks size kind n (reportedNumber n k)) ≡ false
-small-alone size kind n k r s e =
-    let few : n ≤ mostSegments = omega (arith, e) in
-    simp (
-      le-ltb n 1 (omega (arith, e)),
-      le-ltb mostSegments n few,
-      eq-eqb n 1 e,
-      ne-eqb kind radialType r,
-      le-ltb (segmentSize .0) (size .0) s,
-    )
 
 -- the checks of a message of `long` bytes with the header h, one test for each number
 pub header-decides {ℓ} : {X : Type ℓ} (h : Header) (long : ℕ) (f : ℕ → X) (ok : X)

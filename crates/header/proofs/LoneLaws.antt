@@ -10,9 +10,10 @@ use Rattle.wire.specs.Checks.{check}
 use Rattle.wire.specs.Answers.{rule}
 use Rattle.wire.specs.Sizes.{halfwords}
 use Rattle.wire.proofs.NumberLaws.{num-same}
-use Rattle.header.specs.Header.{headerSize, numberPlace, storedIn, reportedNumber, headerIn, valueChecks, headerChecks, headerOf}
+use Rattle.header_rule.specs.Rules.{reportedNumber}
+use Rattle.header.specs.Header.{headerSize, numberPlace, storedIn, headerIn, valueChecks, headerChecks, headerOf}
 use Rattle.header.specs.Theorems.{Lone, LoneHeader}
-use Rattle.header.proofs.HeaderLaws.{number-lone}
+use Rattle.header_rule.proofs.RuleLaws.{number-lone}
 
 -- two messages that are the same up to the number, of one segment
 module _ (b b′ : List ℕ) (lone : Lone b) (before : (i : ℕ) → i < numberPlace → getD b′ i 0 ≡ getD b i 0) where

@@ -16,9 +16,10 @@ use Rattle.wire.proofs.CheckLaws.{either-true, decide-none, decide-append, deci
 use Rattle.wire.proofs.AnswerLaws.{rule-given}
 use Rattle.wire.proofs.TableLaws.{spelt}
 use Rattle.header.specs.declared.Header.{Header}
-use Rattle.header.specs.Header.{headerTable, headerSize, numberPlace, storedIn, withNumber, reportedNumber, headerIn, radialType, mostSegments, countChecks, numberChecks, radialCut, segmentTooLarge, kindChecks, timeChecks, headerChecks, headerOf}
+use Rattle.header_rule.specs.Rules.{reportedNumber, radialType, mostSegments, countChecks, numberChecks, radialCut, segmentTooLarge, kindChecks, timeChecks}
+use Rattle.header.specs.Header.{headerTable, headerSize, numberPlace, storedIn, withNumber, headerIn, headerChecks, headerOf}
 use Rattle.header.specs.Theorems.{Stands, HeaderStands, Lone, beforeSegment, loneChecks, LoneByOtherChecks, NumberOutside}
-use Rattle.header.proofs.HeaderLaws.{number-lone, number-other}
+use Rattle.header_rule.proofs.RuleLaws.{number-lone, number-other}
 
 -- a message with a whole header begins with the table of its values
 module _ (b : List ℕ) (o : Octets b) (long : headerSize ≤ length b) where

@@ -5,8 +5,7 @@ use mathlib.Core.List.{[]}
 use mathlib.Core.Path.{_≡_, sym, _∙_}
 use Rattle.wire.proofs.AnswerLaws.{only-answer}
 use Rattle.wire.proofs.CheckLaws.{never}
-use Rattle.wire.specs.Checks.{someBroken}
-use Rattle.header.specs.Header.{headerIn, headerOf, notPermitted, timeChecks}
+use Rattle.header.specs.Header.{headerIn, headerOf}
 use Rattle.header.specs.Steps.{refusalOf, reportedFrom, storedOr0}
 use Rattle.header.specs.Told.{tellHeader}
 use Rattle.header.specs.declared.HeaderAnswer.{HeaderAnswer}
@@ -16,8 +15,6 @@ use Rattle.header.proofs.stored_in.Reads as stored-in
 use Rattle.header.proofs.no_header.Reads as no-header
 use Rattle.header.proofs.reported.Reads as reported
 use Rattle.header.proofs.check_header.Reads as check-header
-use Rattle.header.proofs.breaks_type.Reads as breaks-type
-use Rattle.header.proofs.breaks_time.Reads as breaks-time
 
 pub header-apart : (a b : HeaderAnswer) → tellHeader a ≡ tellHeader b → a ≡ b
 header-apart (Read g) (Read h) e = cc e
@@ -60,18 +57,3 @@ check-header-says κs s long r last l = l
 pub check-header-one : (κs s long r r₂ last last₂ : _) → check-header.Learnt κs (s, (long, tt)) r last
     → check-header.Learnt κs (s, (long, tt)) r₂ last₂ → r ≡ r₂
 check-header-one κs s long r r₂ last last₂ l l₂ = l ∙ sym l₂
-
-pub breaks-type-says : (κs kind r last : _) → breaks-type.Learnt κs (kind, tt) r last → r ≡ notPermitted kind
-breaks-type-says κs kind r last l = l
-
-pub breaks-type-one : (κs kind r r₂ last last₂ : _) → breaks-type.Learnt κs (kind, tt) r last
-    → breaks-type.Learnt κs (kind, tt) r₂ last₂ → r ≡ r₂
-breaks-type-one κs kind r r₂ last last₂ l l₂ = l ∙ sym l₂
-
-pub breaks-time-says : (κs date milliseconds r last : _) → breaks-time.Learnt κs (date, (milliseconds, tt)) r last
-    → r ≡ someBroken (timeChecks date milliseconds)
-breaks-time-says κs date milliseconds r last l = l
-
-pub breaks-time-one : (κs date milliseconds r r₂ last last₂ : _) → breaks-time.Learnt κs (date, (milliseconds, tt)) r last
-    → breaks-time.Learnt κs (date, (milliseconds, tt)) r₂ last₂ → r ≡ r₂
-breaks-time-one κs date milliseconds r r₂ last last₂ l l₂ = l ∙ sym l₂

@@ -7,7 +7,8 @@ use Rattle.wire.specs.Numbers.{fetched}
 use Rattle.wire.specs.Checks.{pick, check, decide}
 use Rattle.header.specs.declared.Header.{Header}
 use Rattle.header.specs.declared.Stored.{Stored}
-use Rattle.header.specs.Header.{headerSize, numberPlace, storedIn, reportedNumber, withNumber, asReported, valueChecks}
+use Rattle.header_rule.specs.Rules.{reportedNumber}
+use Rattle.header.specs.Header.{headerSize, numberPlace, storedIn, withNumber, asReported, valueChecks}
 
 -- the stored values of a message before the checks, or all 0 where it is too short for a header
 unfoldable pub storedOr0 : List ℕ → Stored

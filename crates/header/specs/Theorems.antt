@@ -12,7 +12,8 @@ use Rattle.wire.specs.Answers.{refused, given}
 use Rattle.header.specs.declared.Header.{Header}
 use Rattle.header.specs.declared.Stored.{Stored}
 pub use Rattle.header.specs.Header.{numberPlace}
-use Rattle.header.specs.Header.{headerTable, headerSize, numberPlace, storedIn, withNumber, headerIn, sizeChecks, notPermitted, segmentTooLarge, timeChecks, headerOf}
+use Rattle.header_rule.specs.Rules.{sizeChecks, notPermitted, segmentTooLarge, timeChecks}
+use Rattle.header.specs.Header.{headerTable, headerSize, numberPlace, storedIn, withNumber, headerIn, headerOf}
 
 -- "What is read .. is what the interface document .. defines": the table of the header h stands at the start of b
 pub record Stands (b : List ℕ) (h : Header) : Type 0 where

@@ -1,13 +1,11 @@
 // The message header: the 16 bytes that a data frame's body begins with.
 ghost use mathlib.Core.Path.{_≡_};
 ghost use mathlib.Core.List.{[]};
-ghost use Prim.Native.Nat.{_≤_};
 ghost use Rattle.wire.specs.Numbers.{fetched};
-ghost use Rattle.wire.specs.Checks.{someBroken};
-ghost use Rattle.header.specs.Header.{headerSize, numberPlace, storedIn, headerIn, headerOf, reportedNumber, notPermitted, sizeChecks, segmentChecks, timeChecks};
+ghost use Rattle.header_rule.specs.Rules.{reportedNumber};
+ghost use Rattle.header.specs.Header.{numberPlace, storedIn, headerIn, headerOf};
 ghost use Rattle.header.specs.Steps.{storedOr0, reportedFrom, refusalOf};
 ghost use Rattle.header.specs.Told.{tellHeader};
-use wire::Bytes;
 use wire::Halfwords;
 use wire::refusal;
 
@@ -44,26 +42,6 @@ pub const HEADER: usize = 16;
 
 // Where the two bytes of the segment number begin.
 const NUMBER_PLACE: u32 = 14;
-
-// The greatest size in halfwords, and the same in bytes.
-const MOST_SIZE: u32 = 65534;
-
-const MOST_BYTES: usize = MOST_SIZE as usize * 2;
-
-// The permitted types: 1 to 13, and three more.
-const LAST_IN_ROW: u8 = 13;
-
-const FILTER_MAP: u8 = 15;
-
-const ADAPTATION: u8 = 18;
-
-pub const RADIAL: u8 = 31;
-
-pub const MOST_SEGMENTS: u16 = 128;
-
-const SEGMENT_SIZE: u32 = 1208;
-
-const LAST_MILLISECOND: u32 = 86399999;
 
 // The header of a message, which is a data frame's whole body.
 pub fn read_header(message: &[u8]) -> HeaderAnswer
@@ -175,83 +153,17 @@ pub fn check_header(s: Stored, long: usize) -> u8
     if long < HEADER {
         return refusal::MESSAGE_SHORT;
     }
-    if breaks_size(s.size, long) {
+    if header_rule::breaks_size(s.size, long) {
         return refusal::SIZE;
     }
-    if breaks_type(s.kind) {
+    if header_rule::breaks_type(s.kind) {
         return refusal::TYPE;
     }
-    if breaks_segment(s.size, s.kind, s.segments, s.number) {
+    if header_rule::breaks_segment(s.size, s.kind, s.segments, s.number) {
         return refusal::SEGMENT;
     }
-    if breaks_time(s.date, s.milliseconds) {
+    if header_rule::breaks_time(s.date, s.milliseconds) {
         return refusal::DATE_OR_TIME;
     }
     0
-}
-
-// `long` is at least a header, so a size of half of `long` is never too small. It is not too large where `long` is at most MOST_BYTES.
-fn breaks_size(size: Halfwords, long: usize) -> bool
-    requires { ⌜ headerSize ≤ long ⌝ }
-    ensures { λ r. ⌜ r ≡ someBroken (sizeChecks size long) ⌝ }
-{
-    if MOST_BYTES < long {
-        return true;
-    }
-    let half = wire::to_halfwords(Bytes(long as u32));
-    if half.0 != size.0 {
-        return true;
-    }
-    long % 2 != 0
-}
-
-// Whether a type is not permitted. Radials are tested first because most messages are radials.
-pub fn breaks_type(kind: u8) -> bool
-    ensures { λ r. ⌜ r ≡ notPermitted kind ⌝ }
-{
-    if kind == RADIAL {
-        return false;
-    }
-    if kind <= LAST_IN_ROW {
-        return kind < 1;
-    }
-    if kind == FILTER_MAP {
-        return false;
-    }
-    kind != ADAPTATION
-}
-
-// Where N is 1 the segment number is not checked.
-fn breaks_segment(size: Halfwords, kind: u8, segments: u16, number: u16) -> bool
-    ensures { λ r. ⌜ r ≡ someBroken (segmentChecks size kind segments (reportedNumber segments number)) ⌝ }
-{
-    if kind == RADIAL {
-        return segments != 1;
-    }
-    if SEGMENT_SIZE < size.0 {
-        return true;
-    }
-    if segments < 1 {
-        return true;
-    }
-    if MOST_SEGMENTS < segments {
-        return true;
-    }
-    if segments == 1 {
-        return false;
-    }
-    if number < 1 {
-        return true;
-    }
-    segments < number
-}
-
-// Whether a date or a time of day is out of range.
-pub fn breaks_time(date: u16, milliseconds: u32) -> bool
-    ensures { λ r. ⌜ r ≡ someBroken (timeChecks date milliseconds) ⌝ }
-{
-    if date < 1 {
-        return true;
-    }
-    LAST_MILLISECOND < milliseconds
 }

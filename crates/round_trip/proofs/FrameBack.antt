@@ -15,7 +15,8 @@ use Rattle.wire.specs.declared.Bytes.{Bytes}
 use Rattle.frame.specs.Session.{headTable, headSize, lastKind, dataKind, sessionLimit, kindIn, sizeIn, bodyIn, after, headCut, kindUnknown, bodyTooLong, bodyCut}
 use Rattle.wire.proofs.CheckLaws.{all-hold-join}
 use Rattle.wire.proofs.TableLaws.{reads-back}
-use Rattle.header.specs.Header.{headerTable, headerSize, headerIn, dataIn, leastSize, mostSize, tooSmall, tooLarge, notTheBody, sizeChecks, notPermitted, mostSegments, countChecks, numberChecks, kindChecks, segmentChecks, timeChecks, radialCut, segmentTooLarge, dateTooLow, timeTooHigh, valueChecks, headerChecks}
+use Rattle.header_rule.specs.Rules.{leastSize, mostSize, tooSmall, tooLarge, notTheBody, sizeChecks, notPermitted, mostSegments, countChecks, numberChecks, kindChecks, segmentChecks, timeChecks, radialCut, segmentTooLarge, dateTooLow, timeTooHigh}
+use Rattle.header.specs.Header.{headerTable, headerSize, headerIn, dataIn, valueChecks, headerChecks}
 use Rattle.header.specs.declared.Header.{Header}
 use Rattle.header.proofs.HeaderLaws.{header-is}
 use Rattle.set_spec.specs.Segment.{segmentIn, ownChecks}

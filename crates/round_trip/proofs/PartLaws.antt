@@ -11,7 +11,8 @@ use borrow.Author.Tests.{le-ltb}
 use Rattle.wire.specs.Properties.{Each}
 use Rattle.wire.specs.Checks.{pick, both}
 use Rattle.wire.proofs.CheckLaws.{both-false}
-use Rattle.header.specs.Header.{headerSize, radialType, radialCut, segmentSize}
+use Rattle.header_rule.specs.Rules.{radialType, radialCut, segmentSize}
+use Rattle.header.specs.Header.{headerSize}
 use Rattle.writer.specs.Writing.{segmentData, cut, segmentsOf, longest, longestRadial, longestBody}
 use Rattle.writer.proofs.CutLaws.{cutOff, leftOver, by-cuts}
 use Rattle.round_trip.proofs.FrameBack.{PartFits}

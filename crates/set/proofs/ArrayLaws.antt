@@ -9,7 +9,7 @@ use lib.ListN.{length, getD, take, drop, length-append, length-drop}
 use lib.Seq.{take-at, drop-at, drop-drop, length-take-le}
 use Rattle.wire.specs.Writing.{filled}
 use Rattle.copy.specs.Copying.{copied}
-use Rattle.header.specs.Header.{mostSegments}
+use Rattle.header_rule.specs.Rules.{mostSegments}
 use Rattle.wire.proofs.CheckLaws.{both-false, by-eq}
 use Rattle.copy.proofs.CopyLaws.{copied-same}
 use Rattle.set.specs.Steps.{Parts, Within, allSet, partsLong, parts, Joinable}

@@ -12,7 +12,8 @@ use Rattle.frame.specs.Walk.{answers}
 use Rattle.frame.proofs.WalkLaws.{walked-end, walk-stops, walk-goes}
 use Rattle.frame.proofs.FrontLaws.{frames-take}
 use Rattle.header.specs.declared.Header.{Header}
-use Rattle.header.specs.Header.{storedIn, headerIn, mostSegments}
+use Rattle.header_rule.specs.Rules.{mostSegments}
+use Rattle.header.specs.Header.{storedIn, headerIn}
 use Rattle.set_spec.specs.Segment.{Segment, segmentIn, numbered}
 use Rattle.set_spec.specs.Walk.{eachFrame, walk}
 use Rattle.set.specs.declared.Heads.{Heads}

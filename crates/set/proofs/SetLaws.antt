@@ -13,7 +13,7 @@ use Rattle.wire.specs.Sizes.{bytes}
 use Rattle.wire.specs.Writing.{filled}
 use Rattle.wire.proofs.CheckLaws.{decide-none, decide-some}
 use Rattle.wire.proofs.AnswerLaws.{kept}
-use Rattle.header.specs.Header.{mostSegments}
+use Rattle.header_rule.specs.Rules.{mostSegments}
 use Rattle.set_spec.specs.Segment.{Segment, headerNumbered}
 use Rattle.set_spec.specs.Walk.{seen, allSeen, joined, bodyOf, endChecks, SetSays, finish, setOf, count}
 use Rattle.set.specs.declared.Heads.{Heads}

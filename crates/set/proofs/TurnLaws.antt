@@ -13,7 +13,7 @@ use Rattle.wire.specs.Checks.{pick, check, first, someBroken}
 use Rattle.wire.proofs.CheckLaws.{all-hold, first-append-none, first-append-some, first-same-some, first-none, by-eq}
 use Rattle.frame.specs.Session.{sessionLimit, bodyIn, after}
 use Rattle.header.specs.declared.Header.{Header}
-use Rattle.header.specs.Header.{mostSegments}
+use Rattle.header_rule.specs.Rules.{mostSegments}
 use Rattle.set_spec.specs.Segment.{Segment, segmentIn, ownChecks, agreeChecks, numbered, found, orNothing, headerNumbered, dataNumbered}
 use Rattle.set_spec.specs.Walk.{firstOr, seen, metChecks, turnChecks, count}
 use Rattle.set_spec.proofs.FrameFacts.{HeaderFits, header-fits}

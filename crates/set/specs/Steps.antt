@@ -10,7 +10,7 @@ use Rattle.wire.specs.Checks.{pick, both, first}
 use Rattle.wire.specs.Answers.{refused, given}
 use Rattle.frame.specs.Session.{sessionLimit, after}
 use Rattle.header.specs.declared.Header.{Header}
-use Rattle.header.specs.Header.{mostSegments}
+use Rattle.header_rule.specs.Rules.{mostSegments}
 use Rattle.set_spec.specs.Segment.{Segment, segmentIn, ownChecks, numbered, found, headerNumbered, dataNumbered}
 use Rattle.set_spec.specs.Walk.{firstOr, turnChecks, walk, count}
 use Rattle.set.specs.declared.Heads.{Heads}

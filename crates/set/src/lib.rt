@@ -8,7 +8,7 @@ ghost use Rattle.wire.specs.Checks.{pick, someBroken};
 ghost use Rattle.wire.specs.Answers.{Promise};
 ghost use Rattle.wire.specs.Writing.{filled};
 ghost use Rattle.frame.specs.Session.{sessionLimit};
-ghost use Rattle.header.specs.Header.{mostSegments};
+ghost use Rattle.header_rule.specs.Rules.{mostSegments};
 ghost use Rattle.set_spec.specs.Segment.{agreeChecks};
 ghost use Rattle.set_spec.specs.Walk.{setOf};
 ghost use Rattle.set.specs.Told.{tellSet};
@@ -24,7 +24,7 @@ pub enum SetAnswer {
     Refused(u8),
 }
 
-const MOST_SEGMENTS: usize = header::MOST_SEGMENTS as usize;
+const MOST_SEGMENTS: usize = header_rule::MOST_SEGMENTS as usize;
 
 // The header of the set's first frame, and that of segment 1.
 struct Heads {

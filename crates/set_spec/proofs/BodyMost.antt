@@ -16,7 +16,8 @@ use Rattle.wire.proofs.CheckLaws.{never, by-eq}
 use Rattle.wire.proofs.AnswerLaws.{rule-refused}
 use Rattle.frame.specs.Session.{headSize, sessionLimit, sizeIn, bodyIn}
 use Rattle.header.specs.declared.Header.{Header}
-use Rattle.header.specs.Header.{headerSize, radialType, mostSegments, segmentSize}
+use Rattle.header_rule.specs.Rules.{radialType, mostSegments, segmentSize}
+use Rattle.header.specs.Header.{headerSize}
 use Rattle.set_spec.specs.Segment.{Segment}
 use Rattle.set_spec.specs.Walk.{seen, count, allSeen, bodyOf, endChecks, finish, walk, setOf}
 use Rattle.set_spec.specs.Whole.{headerFrom, dataFrom, Passes, Joined, start, next, Whole}

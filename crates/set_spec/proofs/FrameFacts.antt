@@ -20,7 +20,8 @@ use Rattle.frame.specs.declared.FrameAnswer.the-variants.{End, Read, Refused}
 use Rattle.frame.specs.Told.{tellFrame}
 use Rattle.frame.proofs.Welds.{frame-apart}
 use Rattle.header.specs.declared.Header.{Header}
-use Rattle.header.specs.Header.{headerSize, headerIn, mostSegments, headerChecks, headerOf}
+use Rattle.header_rule.specs.Rules.{mostSegments}
+use Rattle.header.specs.Header.{headerSize, headerIn, headerChecks, headerOf}
 use Rattle.set_spec.specs.Segment.{notData, ownChecks}
 
 -- ---- a frame

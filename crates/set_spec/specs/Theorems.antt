@@ -9,7 +9,8 @@ use Rattle.wire.specs.Sizes.{bytes}
 use Rattle.wire.specs.Writing.{filled}
 use Rattle.frame.specs.Session.{headSize, sessionLimit, sizeIn, bodyIn, wholeLong}
 use Rattle.header.specs.declared.Header.{Header}
-use Rattle.header.specs.Header.{headerSize, radialType, mostSegments, segmentSize}
+use Rattle.header_rule.specs.Rules.{radialType, mostSegments, segmentSize}
+use Rattle.header.specs.Header.{headerSize}
 use Rattle.header.specs.Theorems.{Lone, numberPlace, ButTwoBytes}
 use Rattle.set_spec.specs.Walk.{SetSays, setOf}
 use Rattle.set_spec.specs.Whole.{Whole}

@@ -80,7 +80,7 @@ fn put_header(sheet: &mut [u8; SHEET], at: usize, h: Header) -> usize {
 
 // No rule checks a radial's date and time. Values that no clock shows are written as stored.
 fn put_stamp(sheet: &mut [u8; SHEET], at: usize, date: u16, milliseconds: u32) -> usize {
-    if header::breaks_time(date, milliseconds) {
+    if header_rule::breaks_time(date, milliseconds) {
         let stored = [wide16(date), wide32(milliseconds)];
         return page::fill_in(sheet, at, b"day # and # ms", &stored);
     }

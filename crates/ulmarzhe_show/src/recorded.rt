@@ -7,7 +7,7 @@ use frame::Frame;
 use frame::FrameAnswer;
 use header::HEADER;
 use header::HeaderAnswer;
-use header::RADIAL;
+use header_rule::RADIAL;
 use ulmarzhe_text::output;
 use ulmarzhe_text::output::Output;
 use ulmarzhe_text::page;

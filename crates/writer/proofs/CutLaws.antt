@@ -9,7 +9,7 @@ use lib.Dec.{ltb, eqb}
 use lib.ListN.{length, take, drop, length-drop, take-append-drop}
 use borrow.Author.Tests.{ltb-true, ltb-false, eq-eqb, ne-eqb}
 use Rattle.wire.specs.Checks.{pick}
-use Rattle.header.specs.Header.{radialType, mostSegments}
+use Rattle.header_rule.specs.Rules.{radialType, mostSegments}
 use Rattle.writer.specs.Writing.{segmentData, cut, segmentsOf, longest, longestRadial, longestBody}
 
 -- what one cut takes off a body, and what it leaves

@@ -16,7 +16,7 @@ use Rattle.wire.specs.declared.WriteAnswer.{WriteAnswer}
 use Rattle.wire.specs.declared.WriteAnswer.the-variants.{Written, Refused}
 use Rattle.wire.proofs.AnswerLaws.{kept}
 use Rattle.wire.proofs.CheckLaws.{decide-same}
-use Rattle.header.specs.Header.{notPermitted, mostSegments, timeChecks}
+use Rattle.header_rule.specs.Rules.{notPermitted, mostSegments, timeChecks}
 use Rattle.writer_head.specs.declared.Given.{Given}
 use Rattle.writer_head.specs.Head.{headsSize}
 use Rattle.writer.specs.Writing.{segmentsOf, framesOf, longest, writeOf}

@@ -11,7 +11,7 @@ use Rattle.wire.specs.Writing.{filled}
 use Rattle.wire.specs.Sheets.{laid}
 use Rattle.wire.proofs.ListLaws.{part-is}
 use Rattle.wire.proofs.SheetLaws.{laid-more}
-use Rattle.header.specs.Header.{radialType}
+use Rattle.header_rule.specs.Rules.{radialType}
 use Rattle.writer_head.specs.declared.Given.{Given}
 use Rattle.writer_head.specs.Head.{headsSize}
 use Rattle.writer.specs.Writing.{segmentData, cut, segmentsOf, frameOf, framesFrom, framesOf}

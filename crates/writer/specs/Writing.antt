@@ -9,7 +9,8 @@ use Rattle.wire.specs.Writing.{written}
 use Rattle.wire.specs.Sizes.{bytes, odd}
 use Rattle.wire.specs.declared.Bytes.{Bytes}
 use Rattle.frame.specs.Session.{sessionLimit}
-use Rattle.header.specs.Header.{headerSize, notPermitted, radialType, timeChecks}
+use Rattle.header_rule.specs.Rules.{notPermitted, radialType, timeChecks}
+use Rattle.header.specs.Header.{headerSize}
 use Rattle.writer_head.specs.declared.Given.{Given}
 use Rattle.writer_head.specs.Head.{heads}
 

@@ -6,7 +6,7 @@ ghost use Rattle.wire.specs.Answers.{Promise};
 ghost use Rattle.wire.specs.Writing.{filled, tellWrite};
 ghost use Rattle.writer_head.specs.Head.{headsSize};
 ghost use Rattle.writer.specs.Writing.{segmentsOf, frameOf, framesOf, longest, writeOf};
-use header::RADIAL;
+use header_rule::RADIAL;
 use wire::Bytes;
 use wire::WriteAnswer;
 use wire::refusal;
@@ -26,10 +26,10 @@ const LONGEST_RADIAL: usize = frame::SESSION_LIMIT as usize - header::HEADER;
 pub fn write_message(given: Given, body: &[u8], out: &mut [u8]) -> WriteAnswer
     ensures { λ r. ⌜ Promise tellWrite (writeOf given (now (body .entry)) (now (out .entry))) r (now (out .exit)) ⌝ }
 {
-    if header::breaks_type(given.kind) {
+    if header_rule::breaks_type(given.kind) {
         return WriteAnswer::Refused(refusal::TYPE);
     }
-    if header::breaks_time(given.date, given.milliseconds) {
+    if header_rule::breaks_time(given.date, given.milliseconds) {
         return WriteAnswer::Refused(refusal::DATE_OR_TIME);
     }
     if body.len() % 2 != 0 {

@@ -3,7 +3,7 @@ use Prim.Native.Nat.{_^_, _≤_, _<_}
 use lib.ListN.{length}
 use denote.Ref.{now}
 use native.Mathlib.Omega.{arith}
-use Rattle.header.specs.Header.{mostSegments}
+use Rattle.header_rule.specs.Rules.{mostSegments}
 use Rattle.writer.proofs.EntryLaws.{body-small, few-segments, has-room, type-refused, time-refused, odd-refused, long-refused, room-refused, wrote-frames}
 use borrow.Author.Needs.{needs}
 use Rattle.writer.proofs.write_message.Statement.{statement}

@@ -1,11 +1,11 @@
 use mathlib.Core.Path.{sym}
 use Rattle.wire.proofs.CheckLaws.{either-true, either-false}
-use Rattle.header.proofs.HeaderLaws.{radial-alone, small-alone}
+use Rattle.header_rule.proofs.RuleLaws.{radial-alone, small-alone}
 use Rattle.wire.proofs.TestLaws.{tests, either-way}
 use borrow.Author.Tests.{lt-ltb, le-ltb, ne-eqb}
 use borrow.Author.Needs.{needs}
-use Rattle.header.proofs.breaks_segment.Statement.{statement}
-use Rattle.header.proofs.breaks_segment.Tie as tie
+use Rattle.header_rule.proofs.breaks_segment.Statement.{statement}
+use Rattle.header_rule.proofs.breaks_segment.Tie as tie
 
 pub breaks-segment-spec : {M : Type 1} → statement M
 breaks-segment-spec =

@@ -1,8 +1,8 @@
-use Rattle.header.proofs.HeaderLaws.{type-by}
+use Rattle.header_rule.proofs.RuleLaws.{type-by}
 use Rattle.wire.proofs.TestLaws.{tests}
 use borrow.Author.Needs.{needs}
-use Rattle.header.proofs.breaks_type.Statement.{statement}
-use Rattle.header.proofs.breaks_type.Tie as tie
+use Rattle.header_rule.proofs.breaks_type.Statement.{statement}
+use Rattle.header_rule.proofs.breaks_type.Tie as tie
 
 returns : tie.Need-returns
 returns c = type-by (c .before .args .kind) _ (search needs) (search (needs, tests))

@@ -1,0 +1,2 @@
+-- What the values of a header may be.
+pub mod Rules
