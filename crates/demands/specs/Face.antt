@@ -66,8 +66,7 @@ OnlyNumber [] n = ⊥
 OnlyNumber (x ∷ xs) n = (x ≡ n) × Each (λ (y : ℕ). y ≡ 0) xs
 
 -- ---- a function by the property P of a struct that its contract is: `Blank r n` is what a refusal's struct holds, `Shows r v` names each
--- member of
--- one that shows v
+-- member of one that shows v
 pub record Shown {R A : Type 0} (P : R → Type 0) (Blank : R → ℕ → Type 0) (Shows : R → A → Type 0) (right : Answer A) : Type 0 where
   pub one : One P
   pub refuses : (r : R) (n : ℕ) → P r → right ≡ refused n → Blank r n × OfTheTable n

@@ -29,7 +29,7 @@ use Rattle.ulm.proofs.ulm_write_censor.Reads as ulm-write-censor
 use Rattle.ulm.proofs.ulm_map.Reads as ulm-map
 use Rattle.ulm.proofs.ulm_compare_maps.Reads as ulm-compare-maps
 
--- the bytes that a message is written as: "The length is the body's and 28 more for each segment"
+-- the bytes that a message is written as: "The length written is the body's plus 28 bytes for each segment"
 abbrev pub bytesOf : ℕ → List ℕ → ℕ
 bytesOf kind body = length body + (headSize + headerSize) * length (segmentsOf kind body)
 
@@ -47,7 +47,7 @@ pub record Figures : Type 1 where
       → length (now buf) ≤ length (now out)
       → 2 * ((length (now buf) + leastFrame) / suc leastFrame) ≤ length (now runs)
       → r .refusal ≡ 0
-  -- "type 31 makes one frame always"; another type makes one for each 2,400 bytes, the last shorter or full, and an empty body one
+  -- "type 31 always makes one frame"; another type makes one for each 2,400 bytes, the last shorter or full, and an empty body one
   pub radialSegments : (kind : ℕ) (body : List ℕ) → kind ≡ radialType → length (segmentsOf kind body) ≡ 1
   pub segments : (kind : ℕ) (body : List ℕ) → (kind ≡ radialType → ⊥)
       → length (segmentsOf kind body) ≡ (length body - 1) / segmentData .0 + 1
