@@ -19,7 +19,7 @@ use Rattle.header_rule.proofs.RuleLaws.{number-kept}
 use Rattle.header.specs.declared.Header.{Header}
 use Rattle.header.specs.declared.Stored.{Stored}
 use Rattle.header_rule.specs.Rules.{reportedNumber, sizeChecks, notPermitted, segmentChecks, timeChecks}
-use Rattle.header.specs.Header.{headerTable, headerSize, numberPlace, storedIn, withNumber, asReported, headerIn, headerOf, valueChecks, headerChecks}
+use Rattle.header.specs.Header.{headerTable, headerSize, channelPlace, sequencePlace, numberPlace, storedIn, withNumber, asReported, headerIn, headerOf, valueChecks, headerChecks}
 use Rattle.header.specs.Steps.{storedOr0, refusalOf, reportedFrom}
 
 -- the checks of a message of `long` bytes with the header h, one test for each number
@@ -97,7 +97,16 @@ module _ (b : List ℕ) (s : Stored) (n : ℕ) (looked : s ≡ storedOr0 b) (tol
       let is : s ≡ storedIn b = looked ∙ stored-whole b e in
       let long : headerSize ≤ length b = ltb-false (length b) headerSize e in (
         rw (told, is) (decide-number (headerChecks b) refused (given (headerIn b)) (checks-above-0 (headerIn b) (length b))),
-        rw is (ap (λ (k : ℕ). withNumber (headerIn b) (reportedNumber (num 2 b 12) k)) (fetched-whole 2 b numberPlace (omega arith))),
+        rw is (λ i. record {
+          size = halfwords (num 2 b 0);
+          channel = fetched-whole 1 b channelPlace (omega arith) i;
+          kind = num 1 b 3;
+          sequence = fetched-whole 2 b sequencePlace (omega arith) i;
+          date = num 2 b 6;
+          milliseconds = num 4 b 8;
+          segments = num 2 b 12;
+          number = reportedNumber (num 2 b 12) (fetched-whole 2 b numberPlace (omega arith) i);
+        }),
       )
 
   pub header-read : (r : Header) → r ≡ reportedFrom b s → n ≡ 0 → headerOf b ≡ given r

@@ -29,7 +29,13 @@ headerTable h =
 abbrev pub headerSize : ℕ
 headerSize = 16
 
--- where the two bytes of the segment number begin
+-- where the channel, the sequence number and the segment number begin
+abbrev pub channelPlace : ℕ
+channelPlace = 2
+
+abbrev pub sequencePlace : ℕ
+sequencePlace = 4
+
 abbrev pub numberPlace : ℕ
 numberPlace = 14
 
@@ -37,9 +43,9 @@ numberPlace = 14
 unfoldable pub storedIn : List ℕ → Stored
 storedIn b = record {
   size = halfwords (num 2 b 0);
-  channel = num 1 b 2;
+  channel = num 1 b channelPlace;
   kind = num 1 b 3;
-  sequence = num 2 b 4;
+  sequence = num 2 b sequencePlace;
   date = num 2 b 6;
   milliseconds = num 4 b 8;
   segments = num 2 b 12;

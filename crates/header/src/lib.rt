@@ -40,7 +40,11 @@ pub enum HeaderAnswer {
 
 pub const HEADER: usize = 16;
 
-// Where the two bytes of the segment number begin.
+// Where the channel, the sequence number and the segment number begin.
+const CHANNEL_PLACE: u32 = 2;
+
+const SEQUENCE_PLACE: u32 = 4;
+
 const NUMBER_PLACE: u32 = 14;
 
 // The header of a message, which is a data frame's whole body.
@@ -63,9 +67,9 @@ pub fn stored_in(message: &[u8]) -> Stored
         return nothing_stored();
     }
     let size = wire::fetch16(message, 0) as u32;
-    let channel = wire::fetch8(message, 2);
+    let channel = wire::fetch8(message, CHANNEL_PLACE);
     let kind = wire::fetch8(message, 3);
-    let sequence = wire::fetch16(message, 4);
+    let sequence = wire::fetch16(message, SEQUENCE_PLACE);
     let date = wire::fetch16(message, 6);
     let milliseconds = wire::fetch32(message, 8);
     let segments = wire::fetch16(message, 12);
@@ -116,7 +120,8 @@ pub fn no_header() -> Header
     }
 }
 
-// The reported header: the stored values s, with the segment number as reported.
+// The reported header: the stored values s, with the segment number as reported. Channel and sequence number, which no rule is about, are
+// fetched here: so the compiler loads them once all checks have passed, and has fewer registers to save.
 pub fn reported(message: &[u8], s: Stored) -> Header
     ensures { λ r. ⌜ r ≡ reportedFrom (now (message .entry)) s ⌝ }
 {
@@ -124,9 +129,9 @@ pub fn reported(message: &[u8], s: Stored) -> Header
     let number = number_in(message, s.segments);
     Header {
         size,
-        channel: s.channel,
+        channel: wire::fetch8(message, CHANNEL_PLACE),
         kind: s.kind,
-        sequence: s.sequence,
+        sequence: wire::fetch16(message, SEQUENCE_PLACE),
         date: s.date,
         milliseconds: s.milliseconds,
         segments: s.segments,
