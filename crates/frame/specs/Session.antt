@@ -8,7 +8,7 @@ use Rattle.wire.specs.Numbers.{num}
 use Rattle.wire.specs.Tables.{Field, field}
 use Rattle.wire.specs.Checks.{pick, Check, check}
 use Rattle.wire.specs.Answers.{Answer, given, rule}
-use Rattle.wire.specs.Sizes.{bytes}
+use Rattle.wire.specs.Sizes.{bytes, longestMessage}
 use Rattle.wire.specs.declared.Bytes.{Bytes}
 use Rattle.frame.specs.declared.Frame.{Frame}
 
@@ -26,9 +26,9 @@ lastKind = 4
 abbrev pub dataKind : ℕ
 dataKind = 2
 
--- "House limit on the body: 131,068 bytes."
+-- "House limit on the body"; "The session limit and number 3 rise to 1,048,576" (K11)
 abbrev pub sessionLimit : Bytes
-sessionLimit = bytes 131068
+sessionLimit = longestMessage
 
 -- the three numbers at the start of what is left of a stream
 abbrev pub kindIn : List ℕ → ℕ
@@ -59,7 +59,7 @@ headCut rest = ltb (length rest) headSize
 abbrev pub kindUnknown : List ℕ → Bool
 kindUnknown rest = ltb lastKind (kindIn rest)
 
--- 3: "session body above 131,068"
+-- 3: "session body above" the session limit
 abbrev pub bodyTooLong : List ℕ → Bool
 bodyTooLong rest = ltb (sessionLimit .0) (sizeIn rest .0)
 

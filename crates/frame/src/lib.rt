@@ -32,7 +32,7 @@ const LAST_KIND: u32 = 4;
 pub const DATA: u32 = 2;
 
 // The most bytes of a frame's body.
-pub const SESSION_LIMIT: u32 = 131068;
+pub const SESSION_LIMIT: u32 = wire::LONGEST_MESSAGE;
 
 // The bytes of the longest frame.
 pub const LONGEST: usize = HEAD + SESSION_LIMIT as usize;

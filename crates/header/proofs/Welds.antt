@@ -5,15 +5,18 @@ use mathlib.Core.List.{[]}
 use mathlib.Core.Path.{_≡_, sym, _∙_}
 use Rattle.wire.proofs.AnswerLaws.{only-answer}
 use Rattle.wire.proofs.CheckLaws.{never}
-use Rattle.header.specs.Header.{headerIn, headerOf}
-use Rattle.header.specs.Steps.{refusalOf, reportedFrom, storedOr0}
+use Rattle.header.specs.Header.{asReported, headerIn, headerOf}
+use Rattle.header.specs.Steps.{acceptedShort, refusalOf, reportedShort, storedOr0}
 use Rattle.header.specs.Told.{tellHeader}
 use Rattle.header.specs.declared.HeaderAnswer.{HeaderAnswer}
 use Rattle.header.specs.declared.HeaderAnswer.the-variants.{Read, Refused}
 use Rattle.header.proofs.read_header.Reads as read-header
 use Rattle.header.proofs.stored_in.Reads as stored-in
 use Rattle.header.proofs.no_header.Reads as no-header
-use Rattle.header.proofs.reported.Reads as reported
+use Rattle.header.proofs.read_either.Reads as read-either
+use Rattle.header.proofs.accepts_short.Reads as accepts-short
+use Rattle.header.proofs.report_short.Reads as report-short
+use Rattle.header.proofs.report.Reads as report
 use Rattle.header.proofs.check_header.Reads as check-header
 
 pub header-apart : (a b : HeaderAnswer) → tellHeader a ≡ tellHeader b → a ≡ b
@@ -43,13 +46,34 @@ no-header-says κs r last l = l
 pub no-header-one : (κs r r₂ last last₂ : _) → no-header.Learnt κs tt r last → no-header.Learnt κs tt r₂ last₂ → r ≡ r₂
 no-header-one κs r r₂ last last₂ l l₂ = l ∙ sym l₂
 
-pub reported-says : (κs message s r last : _) → reported.Learnt κs (message, (s, tt)) r last → r ≡ reportedFrom (now message) s
-reported-says κs message s r last l = l
+pub read-either-says : (κs message r last : _) → read-either.Learnt κs (message, tt) r last → tellHeader r ≡ headerOf (now message)
+read-either-says κs message r last l = l
 
-pub reported-one : (κs message s r r₂ last last₂ : _) → reported.Learnt κs (message, (s, tt)) r last
-    → reported.Learnt κs (message, (s, tt)) r₂ last₂
+pub read-either-one : (κs message r r₂ last last₂ : _) → read-either.Learnt κs (message, tt) r last
+    → read-either.Learnt κs (message, tt) r₂ last₂
     → r ≡ r₂
-reported-one κs message s r r₂ last last₂ l l₂ = l ∙ sym l₂
+read-either-one κs message r r₂ last last₂ l l₂ = only-answer tellHeader header-apart (headerOf (now message)) r r₂ l l₂
+
+pub accepts-short-says : (κs s long r last : _) → accepts-short.Learnt κs (s, (long, tt)) r last → r ≡ acceptedShort s long
+accepts-short-says κs s long r last l = l
+
+pub accepts-short-one : (κs s long r r₂ last last₂ : _) → accepts-short.Learnt κs (s, (long, tt)) r last
+    → accepts-short.Learnt κs (s, (long, tt)) r₂ last₂ → r ≡ r₂
+accepts-short-one κs s long r r₂ last last₂ l l₂ = l ∙ sym l₂
+
+pub report-short-says : (κs message s r last : _) → report-short.Learnt κs (message, (s, tt)) r last → r ≡ reportedShort (now message) s
+report-short-says κs message s r last l = l
+
+pub report-short-one : (κs message s r r₂ last last₂ : _) → report-short.Learnt κs (message, (s, tt)) r last
+    → report-short.Learnt κs (message, (s, tt)) r₂ last₂
+    → r ≡ r₂
+report-short-one κs message s r r₂ last last₂ l l₂ = l ∙ sym l₂
+
+pub report-says : (κs s r last : _) → report.Learnt κs (s, tt) r last → r ≡ asReported s
+report-says κs s r last l = l
+
+pub report-one : (κs s r r₂ last last₂ : _) → report.Learnt κs (s, tt) r last → report.Learnt κs (s, tt) r₂ last₂ → r ≡ r₂
+report-one κs s r r₂ last last₂ l l₂ = l ∙ sym l₂
 
 pub check-header-says : (κs s long r last : _) → check-header.Learnt κs (s, (long, tt)) r last → r ≡ refusalOf s long
 check-header-says κs s long r last l = l

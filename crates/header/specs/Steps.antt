@@ -1,14 +1,15 @@
--- What each step of reading a header answers: the stored values, the number of refusal, the number reported.
+-- What each step of reading a header answers: the stored values, the number of refusal, the header reported.
 use Prim.Native.Nat.{ℕ}
-use mathlib.Core.List.{List, [], _∷_}
-use lib.Dec.{ltb}
+use mathlib.Core.Bool.{Bool, not}
+use mathlib.Core.List.{List, [], _∷_, _++_}
+use lib.Dec.{ltb, eqb}
 use lib.ListN.{length}
 use Rattle.wire.specs.Numbers.{fetched}
-use Rattle.wire.specs.Checks.{pick, check, decide}
+use Rattle.wire.specs.Checks.{pick, both, check, decide}
 use Rattle.header.specs.declared.Header.{Header}
 use Rattle.header.specs.declared.Stored.{Stored}
-use Rattle.header_rule.specs.Rules.{reportedNumber}
-use Rattle.header.specs.Header.{headerSize, channelPlace, sequencePlace, numberPlace, storedIn, asReported, valueChecks}
+use Rattle.header_rule.specs.Rules.{marked, reportedNumber}
+use Rattle.header.specs.Header.{headerSize, channelPlace, sequencePlace, numberPlace, storedIn, asReported, formChecksOf, laterChecks}
 
 -- the stored values of a message before the checks, or all 0 where it is too short for a header
 unfoldable pub storedOr0 : List ℕ → Stored
@@ -16,12 +17,17 @@ storedOr0 b = pick (ltb (length b) headerSize) (storedIn []) (storedIn b)
 
 -- the number of refusal of a message of `long` bytes with the stored values s, or 0
 unfoldable pub refusalOf : Stored → ℕ → ℕ
-refusalOf s long = decide (check 4 (ltb long headerSize) ∷ valueChecks (asReported s) long) (λ (n : ℕ). n) 0
+refusalOf s long =
+    decide (check 4 (ltb long headerSize) ∷ formChecksOf s long ++ laterChecks (asReported s)) (λ (n : ℕ). n) 0
 
--- the reported header: the stored values s that are checked, and from the message what is not: channel, sequence number and, where N is not
--- 1, the segment number
-abbrev pub reportedFrom : List ℕ → Stored → Header
-reportedFrom b s = record {
+-- such a message is accepted, and its size is not 65,535
+unfoldable pub acceptedShort : Stored → ℕ → Bool
+acceptedShort s long = both (not (marked (s .size))) (eqb (refusalOf s long) 0)
+
+-- the reported header of the short form: the stored values s that are checked, and from the message what is not: channel, sequence number
+-- and, where N is not 1, the segment number
+abbrev pub reportedShort : List ℕ → Stored → Header
+reportedShort b s = record {
   size = s .size;
   channel = fetched 1 b channelPlace;
   kind = s .kind;

@@ -3,8 +3,8 @@ ghost use mathlib.Core.Path.{_≡_};
 ghost use mathlib.Core.List.{[]};
 ghost use Rattle.wire.specs.Numbers.{fetched};
 ghost use Rattle.header_rule.specs.Rules.{reportedNumber};
-ghost use Rattle.header.specs.Header.{numberPlace, storedIn, headerIn, headerOf};
-ghost use Rattle.header.specs.Steps.{storedOr0, reportedFrom, refusalOf};
+ghost use Rattle.header.specs.Header.{numberPlace, storedIn, asReported, headerIn, headerOf};
+ghost use Rattle.header.specs.Steps.{storedOr0, acceptedShort, reportedShort, refusalOf};
 ghost use Rattle.header.specs.Told.{tellHeader};
 use wire::Halfwords;
 use wire::refusal;
@@ -21,7 +21,8 @@ pub struct Header {
     pub number: u16,
 }
 
-// The values at the start of a message as stored: not yet checked. Where N is 1 the segment number has no meaning.
+// The values at the start of a message as stored: not yet checked. Where N is 1 the segment number has no meaning; in the long form
+// `segments` and `number` are the two halves of the length.
 pub struct Stored {
     size: Halfwords,
     channel: u8,
@@ -47,8 +48,20 @@ const SEQUENCE_PLACE: u32 = 4;
 
 const NUMBER_PLACE: u32 = 14;
 
-// The header of a message, which is a data frame's whole body.
+// The header of a message, which is a data frame's whole body. Nearly all are accepted in the short form, so that is put in line where a
+// header is read; the long form and the refusals are a call away.
 pub fn read_header(message: &[u8]) -> HeaderAnswer
+    ensures { λ r. ⌜ tellHeader r ≡ headerOf (now (message .entry)) ⌝ }
+{
+    let s = stored_in(message);
+    if accepts_short(s, message.len()) {
+        return HeaderAnswer::Read(report_short(message, s));
+    }
+    read_either(message)
+}
+
+// The header of a message of either form.
+pub fn read_either(message: &[u8]) -> HeaderAnswer
     ensures { λ r. ⌜ tellHeader r ≡ headerOf (now (message .entry)) ⌝ }
 {
     let s = stored_in(message);
@@ -56,7 +69,7 @@ pub fn read_header(message: &[u8]) -> HeaderAnswer
     if number != 0 {
         return HeaderAnswer::Refused(number);
     }
-    HeaderAnswer::Read(reported(message, s))
+    HeaderAnswer::Read(report(s))
 }
 
 // The values at the start of a message, or all 0 where the message is too short for a header.
@@ -120,10 +133,33 @@ pub fn no_header() -> Header
     }
 }
 
-// The reported header: the stored values s, with the segment number as reported. Channel and sequence number, which no rule is about, are
-// fetched here: so the compiler loads them once all checks have passed, and has fewer registers to save.
-pub fn reported(message: &[u8], s: Stored) -> Header
-    ensures { λ r. ⌜ r ≡ reportedFrom (now (message .entry)) s ⌝ }
+// Whether a message of `long` bytes with these stored values is accepted in the short form. It takes the values, not the bytes, so that
+// it is small enough to be inlined wherever a header is read. The size's rule refuses 65,535, so there is no test for it.
+pub fn accepts_short(s: Stored, long: usize) -> bool
+    ensures { λ r. ⌜ r ≡ acceptedShort s long ⌝ }
+{
+    if long < HEADER {
+        return false;
+    }
+    if header_rule::breaks_size(s.size, long) {
+        return false;
+    }
+    if header_rule::breaks_type(s.kind) {
+        return false;
+    }
+    if header_rule::breaks_segment(s.size, s.kind, s.segments, s.number) {
+        return false;
+    }
+    if header_rule::breaks_time(s.date, s.milliseconds) {
+        return false;
+    }
+    true
+}
+
+// The header reported of the short form: the stored values s, with the segment number as reported. Channel and sequence number, which no
+// rule is about, are fetched here: so the compiler loads them once all checks have passed, and has fewer registers to save.
+pub fn report_short(message: &[u8], s: Stored) -> Header
+    ensures { λ r. ⌜ r ≡ reportedShort (now (message .entry)) s ⌝ }
 {
     let size = s.size;
     let number = number_in(message, s.segments);
@@ -150,25 +186,54 @@ fn number_in(message: &[u8], segments: u16) -> u16
     1
 }
 
-// The number of refusal of a message of `long` bytes with these stored values, or 0. It takes the values, not the bytes, so that
-// it is small enough to be inlined wherever a header is read.
+// The number of refusal of a message of `long` bytes with these stored values, or 0, in either form.
 pub fn check_header(s: Stored, long: usize) -> u8
     ensures { λ r. ⌜ r ≡ refusalOf s long ⌝ }
 {
     if long < HEADER {
         return refusal::MESSAGE_SHORT;
     }
-    if header_rule::breaks_size(s.size, long) {
+    if header_rule::breaks_form(s.size, s.kind, s.segments, s.number, long) {
         return refusal::SIZE;
     }
     if header_rule::breaks_type(s.kind) {
         return refusal::TYPE;
     }
-    if header_rule::breaks_segment(s.size, s.kind, s.segments, s.number) {
+    let size = header_rule::size_of(s.size, s.kind, s.segments, s.number);
+    let count = header_rule::count_of(s.size, s.kind, s.segments);
+    if header_rule::breaks_segment(size, s.kind, count, s.number) {
         return refusal::SEGMENT;
     }
     if header_rule::breaks_time(s.date, s.milliseconds) {
         return refusal::DATE_OR_TIME;
     }
     0
+}
+
+// The header reported of these stored values, in either form.
+pub fn report(s: Stored) -> Header
+    ensures { λ r. ⌜ r ≡ asReported s ⌝ }
+{
+    let size = header_rule::size_of(s.size, s.kind, s.segments, s.number);
+    let segments = header_rule::count_of(s.size, s.kind, s.segments);
+    let number = number_of(segments, s.number);
+    Header {
+        size,
+        channel: s.channel,
+        kind: s.kind,
+        sequence: s.sequence,
+        date: s.date,
+        milliseconds: s.milliseconds,
+        segments,
+        number,
+    }
+}
+
+fn number_of(segments: u16, number: u16) -> u16
+    ensures { λ r. ⌜ r ≡ reportedNumber segments number ⌝ }
+{
+    if segments != 1 {
+        return number;
+    }
+    1
 }

@@ -1,17 +1,19 @@
 -- Laws of the header's rules: what the code's tests come to. Assumes nothing.
 use Prim.Native.Nat.{ℕ, _*_, _/_, _%_, _≤_, _<_}
-use mathlib.Core.Path.{_≡_, refl, sym, _∙_}
+use mathlib.Core.Path.{_≡_, refl, sym, ap, _∙_}
 use mathlib.Core.Bool.{Bool, true, false, not}
+use mathlib.Core.List.{List, []}
 use native.Mathlib.Omega.{arith}
 use lib.Dec.{ltb, leb, eqb}
 use borrow.Author.Tests.{lt-ltb, le-ltb, eq-eqb, ne-eqb, eqb-true, eqb-false, ltb-false}
-use Rattle.wire.specs.Checks.{pick, someBroken}
-use Rattle.wire.specs.Sizes.{bytes, halved}
+use Rattle.wire.specs.Checks.{pick, both, Check, someBroken}
+use Rattle.wire.specs.Sizes.{bytes, halved, odd}
 use Rattle.wire.specs.declared.Halfwords.{Halfwords}
-use Rattle.wire.proofs.CheckLaws.{either-true, either-false}
+use Rattle.wire.proofs.CheckLaws.{never, either-true, either-false, both-true}
 use Rattle.wire.proofs.FiniteLaws.{below, same, same-is}
 use Rattle.header_rule.specs.Rules.{leastSize, mostSize, sizeChecks, lastInRow, filterMapType, adaptationType, radialType, notPermitted}
 use Rattle.header_rule.specs.Rules.{reportedNumber, mostSegments, segmentSize, segmentChecks}
+use Rattle.header_rule.specs.Rules.{longMark, marked, lengthIn, lengthChecks, longForm, formChecks}
 
 -- the permitted types in the order in which they are told apart
 abbrev pub typeShape : ℕ → Bool
@@ -98,3 +100,58 @@ small-alone size kind n k r s e =
       ne-eqb kind radialType r,
       le-ltb (segmentSize .0) (size .0) s,
     )
+
+-- ---- the forms: whatever holds of each form's checks of the size holds of those of a message
+pub by-form {ℓ} : (C : List Check → Type ℓ) (size : Halfwords) (kind high low long : ℕ) → C (lengthChecks (lengthIn high low) long) → C []
+    → C (sizeChecks size long) → C (formChecks size kind high low long)
+by-form C size kind high low long inLong other inShort = go (marked size) (eqb kind radialType)
+  where
+    go : (t u : Bool) → C (pick t (pick u (lengthChecks (lengthIn high low) long) []) (sizeChecks size long))
+    go true true = inLong
+    go true false = other
+    go false u = inShort
+
+-- of a size that is not 65,535 they are the short form's, whatever the type; of 65,535 they are the length's for a radial, else none
+pub form-short : (size : Halfwords) (kind high low long : ℕ) → marked size ≡ false → formChecks size kind high low long ≡ sizeChecks size long
+form-short size kind high low long e = rw e
+
+pub form-long : (size : Halfwords) (kind high low long : ℕ) → longForm size kind ≡ true
+    → formChecks size kind high low long ≡ lengthChecks (lengthIn high low) long
+form-long size kind high low long e = let p = both-true (marked size) (eqb kind radialType) e in rw (p .0, p .1)
+
+pub form-other : (size : Halfwords) (kind high low long : ℕ) → longForm size kind ≡ false
+    → formChecks size kind high low long ≡ pick (marked size) [] (sizeChecks size long)
+form-other size kind high low long e = go (marked size) (eqb kind radialType) e
+  where
+    go : (t u : Bool) → both t u ≡ false
+        → pick t (pick u (lengthChecks (lengthIn high low) long) []) (sizeChecks size long) ≡ pick t [] (sizeChecks size long)
+    go true true q = never (cc q)
+    go true false q = refl
+    go false u q = refl
+
+-- the answer for the length is the one for the size in the long form
+pub by-length : (size : Halfwords) (kind high low long : ℕ) (r : Bool) → size .0 ≡ longMark .0 → kind ≡ radialType
+    → r ≡ someBroken (lengthChecks (lengthIn high low) long) → r ≡ someBroken (formChecks size kind high low long)
+by-length size kind high low long r m k e =
+    e ∙ sym (ap (λ (ks : List Check). someBroken ks)
+    (form-long size kind high low long (rw (eq-eqb (size .0) (longMark .0) m, eq-eqb kind radialType k))))
+
+-- the short form's own rule refuses 65,535
+pub marked-large : (size : Halfwords) (long : ℕ) → marked size ≡ true → someBroken (sizeChecks size long) ≡ true
+marked-large size long e =
+    let is : size .0 ≡ longMark .0 = eqb-true (size .0) (longMark .0) e in
+    simp (lt-ltb (mostSize .0) (size .0) (omega (arith, is)), either-true)
+
+-- a length that is odd, and one that is not
+pub odd-broken : (n : ℕ) → (n % 2 ≡ 0 → ⊥) → odd n ≡ true
+odd-broken n h = simp (ne-eqb (n % 2) 0 h)
+
+pub even-holds : (n : ℕ) → n % 2 ≡ 0 → odd n ≡ false
+even-holds n h = simp (eq-eqb (n % 2) 0 h)
+
+pub even-from : (n : ℕ) → odd n ≡ false → n % 2 ≡ 0
+even-from n h = go (eqb (n % 2) 0) refl h
+  where
+    go : (t : Bool) → eqb (n % 2) 0 ≡ t → not t ≡ false → n % 2 ≡ 0
+    go true e q = eqb-true (n % 2) 0 e
+    go false e q = never (cc q)

@@ -1,10 +1,11 @@
 -- "The message header": the rules of its values, 5 to 8.
-use Prim.Native.Nat.{ℕ}
+use Prim.Native.Nat.{ℕ, _+_, _*_}
 use mathlib.Core.Bool.{Bool, not}
 use mathlib.Core.List.{List, [], _∷_, _++_}
 use lib.Dec.{ltb, eqb}
 use Rattle.wire.specs.Checks.{pick, both, among, Check, check}
-use Rattle.wire.specs.Sizes.{bytes, halfwords, halved, odd}
+use Rattle.wire.specs.Sizes.{bytes, halfwords, halved, longestMessage, odd}
+use Rattle.wire.specs.declared.Bytes.{Bytes}
 use Rattle.wire.specs.declared.Halfwords.{Halfwords}
 
 -- "Size is 8 to 65,534,"
@@ -27,6 +28,37 @@ notTheBody size long = not (eqb (halved (bytes long) .0) (size .0))
 abbrev pub sizeChecks : Halfwords → ℕ → List Check
 sizeChecks size long = check 5 (tooSmall size) ∷ check 5 (tooLarge size) ∷ check 5 (odd long) ∷ check 5 (notTheBody size long) ∷ []
 
+-- "Size 65,535 now means that the two segment fields together, high half first, hold the length in bytes with the 16-byte header:" (K11)
+abbrev pub longMark : Halfwords
+longMark = halfwords 65535
+
+abbrev pub marked : Halfwords → Bool
+marked size = eqb (size .0) (longMark .0)
+
+abbrev pub lengthIn : ℕ → ℕ → Bytes
+lengthIn high low = bytes (high * 65536 + low)
+
+-- "even, 131,070 to 1,048,576, equal to the frame's body, otherwise 5."
+abbrev pub leastLength : Bytes
+leastLength = bytes 131070
+
+abbrev pub lengthTooSmall : Bytes → Bool
+lengthTooSmall length = ltb (length .0) (leastLength .0)
+
+abbrev pub lengthTooLarge : Bytes → Bool
+lengthTooLarge length = ltb (longestMessage .0) (length .0)
+
+abbrev pub lengthNotTheBody : Bytes → ℕ → Bool
+lengthNotTheBody length long = not (eqb (length .0) long)
+
+abbrev pub lengthChecks : Bytes → ℕ → List Check
+lengthChecks length long =
+    check 5 (odd (length .0))
+    ∷ check 5 (lengthTooSmall length)
+    ∷ check 5 (lengthTooLarge length)
+    ∷ check 5 (lengthNotTheBody length long)
+    ∷ []
+
 -- "Types permitted: 1 to 13, 15, 18, 31.": the last of those in a row, the filter map's, the adaptation data's and the radial's
 abbrev pub lastInRow : ℕ
 lastInRow = 13
@@ -45,6 +77,23 @@ permittedTypes = 1 ∷ 2 ∷ 3 ∷ 4 ∷ 5 ∷ 6 ∷ 7 ∷ 8 ∷ 9 ∷ 10 ∷ 11
 
 abbrev pub notPermitted : ℕ → Bool
 notPermitted kind = not (among kind permittedTypes)
+
+-- "Only type 31 may use it: .. any other type .., and 5 isn't tested for them." (K11): the checks of the size, by the form. The message has
+-- `long` bytes, `high` and `low` in its two segment fields
+abbrev pub longForm : Halfwords → ℕ → Bool
+longForm size kind = both (marked size) (eqb kind radialType)
+
+abbrev pub formChecks : Halfwords → ℕ → ℕ → ℕ → ℕ → List Check
+formChecks size kind high low long =
+    pick (marked size) (pick (eqb kind radialType) (lengthChecks (lengthIn high low) long) []) (sizeChecks size long)
+
+-- "It counts as N = 1, number 1, without K1's freedom, and its size is reported as the true length in halfwords." (K11): the size and the N
+-- that the rules below are asked of, and that are reported. The number is then 1 as of every N of 1
+abbrev pub reportedSize : Halfwords → ℕ → ℕ → ℕ → Halfwords
+reportedSize size kind high low = pick (longForm size kind) (halved (lengthIn high low)) size
+
+abbrev pub reportedCount : Halfwords → ℕ → ℕ → ℕ
+reportedCount size kind n = pick (longForm size kind) 1 n
 
 -- "N is 1 to 128;"
 abbrev pub mostSegments : ℕ
@@ -77,7 +126,7 @@ numberChecks n k = check 7 (numberTooLow k) ∷ check 7 (numberTooHigh n k) ∷ 
 abbrev pub radialCut : ℕ → ℕ → Bool
 radialCut kind n = both (eqb kind radialType) (not (eqb n 1))
 
--- "For any other type the size is at most 1,208."
+-- "For any other type the size is at most 1,208."; "any other type with size 65,535 gets 7" (K11) by the same rule
 abbrev pub segmentSize : Halfwords
 segmentSize = halfwords 1208
 

@@ -1,18 +1,25 @@
 // The rules of a message header's values, 5 to 8: each takes the values that it is about, and says whether they break it.
 ghost use mathlib.Core.Path.{_≡_};
 ghost use Rattle.wire.specs.Checks.{someBroken};
-ghost use Rattle.header_rule.specs.Rules.{reportedNumber, notPermitted, sizeChecks, segmentChecks, timeChecks};
+ghost use Rattle.header_rule.specs.Rules.{sizeChecks, lengthIn, lengthChecks, longForm, formChecks, notPermitted};
+ghost use Rattle.header_rule.specs.Rules.{reportedSize, reportedCount, reportedNumber, segmentChecks, timeChecks};
 use wire::Bytes;
 use wire::Halfwords;
+use wire::LONGEST_MESSAGE;
 
-// The least and the greatest size in halfwords, and the same in bytes.
+// The least and the greatest size of the short form in halfwords, and the same in bytes.
 const LEAST_SIZE: u32 = 8;
 
-const MOST_SIZE: u32 = 65534;
+pub const MOST_SIZE: u32 = 65534;
 
 const LEAST_BYTES: usize = LEAST_SIZE as usize * 2;
 
 const MOST_BYTES: usize = MOST_SIZE as usize * 2;
+
+// The size that marks the long form, and the least length there.
+pub const LONG_MARK: u32 = 65535;
+
+const LEAST_LENGTH: u32 = 131070;
 
 // The permitted types: 1 to 13, and three more.
 const LAST_IN_ROW: u8 = 13;
@@ -45,6 +52,69 @@ pub fn breaks_size(size: Halfwords, long: usize) -> bool
         return true;
     }
     long % 2 != 0
+}
+
+// Whether the size breaks its rule: in the short form by the size, in the long form by the length in the two segment fields.
+pub fn breaks_form(size: Halfwords, kind: u8, high: u16, low: u16, long: usize) -> bool
+    ensures { λ r. ⌜ r ≡ someBroken (formChecks size kind high low long) ⌝ }
+{
+    if size.0 != LONG_MARK {
+        return breaks_size(size, long);
+    }
+    if kind != RADIAL {
+        return false;
+    }
+    breaks_length(length_in(high, low), long)
+}
+
+fn length_in(high: u16, low: u16) -> Bytes
+    ensures { λ r. ⌜ r ≡ lengthIn high low ⌝ }
+{
+    Bytes(high as u32 * 65536 + low as u32)
+}
+
+fn breaks_length(length: Bytes, long: usize) -> bool
+    ensures { λ r. ⌜ r ≡ someBroken (lengthChecks length long) ⌝ }
+{
+    if length.0 % 2 != 0 {
+        return true;
+    }
+    if length.0 < LEAST_LENGTH {
+        return true;
+    }
+    if LONGEST_MESSAGE < length.0 {
+        return true;
+    }
+    length.0 as usize != long
+}
+
+// The size as it is reported: in the long form half of the length.
+pub fn size_of(size: Halfwords, kind: u8, high: u16, low: u16) -> Halfwords
+    ensures { λ r. ⌜ r ≡ reportedSize size kind high low ⌝ }
+{
+    if is_long(size, kind) {
+        return wire::to_halfwords(length_in(high, low));
+    }
+    size
+}
+
+// N as it counts: the long form is one segment.
+pub fn count_of(size: Halfwords, kind: u8, segments: u16) -> u16
+    ensures { λ r. ⌜ r ≡ reportedCount size kind segments ⌝ }
+{
+    if is_long(size, kind) {
+        return 1;
+    }
+    segments
+}
+
+fn is_long(size: Halfwords, kind: u8) -> bool
+    ensures { λ r. ⌜ r ≡ longForm size kind ⌝ }
+{
+    if size.0 != LONG_MARK {
+        return false;
+    }
+    kind == RADIAL
 }
 
 // Whether a type is not permitted. Radials are tested first because most messages are radials.

@@ -14,6 +14,9 @@ pub struct Bytes(pub u32);
 
 pub struct Halfwords(pub u32);
 
+// The most bytes of a message, which are also the most of a session's body.
+pub const LONGEST_MESSAGE: u32 = 1048576;
+
 pub fn to_halfwords(size: Bytes) -> Halfwords
     ensures { λ r. ⌜ r ≡ halved size ⌝ }
 {

@@ -6,19 +6,19 @@ pub const FRAME_CUT_OFF: u8 = 1;
 // session kind above 4
 pub const SESSION_KIND: u8 = 2;
 
-// session body above 131,068 bytes
+// session body above 1,048,576 bytes
 pub const SESSION_BODY: u8 = 3;
 
 // message under 16 bytes
 pub const MESSAGE_SHORT: u8 = 4;
 
-// size under 8 or above 65,534 halfwords, or not the message's length
+// size under 8 halfwords or not half of the message's bytes, or, at size 65,535 of type 31, a length in the segment fields that is odd, not 131,070 to 1,048,576 or not the message's
 pub const SIZE: u8 = 5;
 
 // message type that is not permitted
 pub const TYPE: u8 = 6;
 
-// segment count not 1 to 128, segment number not 1 to the count where that is above 1, a radial in more than one segment, or a segment above 1,208 halfwords
+// segment count not 1 to 128, segment number not 1 to the count where that is above 1, a radial in more than one segment, or a size above 1,208 halfwords of another type, 65,535 included
 pub const SEGMENT: u8 = 7;
 
 // date 0, or time of day past 86,399,999 milliseconds
@@ -75,5 +75,5 @@ pub const FIELD: u8 = 24;
 // body to write has an odd length
 pub const ODD_BODY: u8 = 25;
 
-// body to write above 307,200 bytes, or above 131,052 for a radial
+// body to write above 307,200 bytes, or above 1,048,560 for a radial
 pub const LONG_BODY: u8 = 26;

@@ -1,10 +1,8 @@
 use mathlib.Core.Path.{sym}
-use Rattle.header.proofs.HeaderLaws.{header-read, header-refused}
+use Rattle.header.proofs.HeaderLaws.{short-read}
 use borrow.Author.Needs.{needs}
 use Rattle.header.proofs.read_header.Statement.{statement}
 use Rattle.header.proofs.read_header.Tie as tie
 
 pub read-header-spec : {M : Type 1} → statement M
-read-header-spec =
-    tie.close (tie.spec (λ c κs. search needs) (λ c κs. search needs) (λ c. sym (search (needs, header-refused)))
-    (λ c κs. search needs) (λ c. sym (search (needs, header-read))))
+read-header-spec = tie.close (tie.spec (λ c κs. search needs) (λ c κs. search needs) (λ c κs. search needs) (λ c. sym (search (needs, short-read))) (λ c κs. search needs) (λ c. search needs))
