@@ -7,7 +7,7 @@ use mathlib.Core.List.{List, [], _∷_, _++_}
 use lib.Dec.{ltb, leb, eqb}
 use lib.ListN.{length, getD, take, drop}
 use lib.Seq.{getD-take, getD-drop}
-use borrow.Author.Tests.{lt-ltb, le-ltb, ltb-true, ltb-false, eq-eqb, ne-eqb, eqb-true}
+use borrow.Author.Tests.{lt-ltb, le-ltb, ltb-true, ltb-false, eq-eqb, ne-eqb, eqb-true, not-false}
 use Rattle.wire.specs.Numbers.{num, Octets, be}
 use Rattle.wire.specs.Checks.{pick, Check, check, AllHold, someBroken}
 use Rattle.wire.specs.Answers.{Answer, refused, given}
@@ -83,17 +83,13 @@ module _ (b : List ℕ) (l : Long b) where
   length-from : someBroken lengths ≡ false → LengthHolds b
   length-from e =
       let h = all-hold lengths (first-none lengths e) in
-      let is : z .0 ≡ length b = not-other (eqb (z .0) (length b)) refl (h .1 .1 .1 .0) in
+      let is : z .0 ≡ length b = eqb-true (z .0) (length b) (not-false _ (h .1 .1 .1 .0)) in
       record {
         told = sym length-told ∙ is;
         even = omega (arith, is, even-from (z .0) (h .0));
         least = omega (arith, is, ltb-false (z .0) (leastLength .0) (h .1 .0));
         most = omega (arith, is, ltb-false (longestMessage .0) (z .0) (h .1 .1 .0));
       }
-    where
-      not-other : (t : Bool) → eqb (z .0) (length b) ≡ t → not t ≡ false → z .0 ≡ length b
-      not-other true e q = eqb-true (z .0) (length b) e
-      not-other false e q = never (cc q)
 
   length-to : LengthHolds b → someBroken lengths ≡ false
   length-to h =

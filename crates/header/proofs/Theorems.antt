@@ -8,7 +8,7 @@ use mathlib.Core.Bool.{Bool, true, false, not}
 use mathlib.Core.List.{List, [], _∷_, _++_}
 use lib.Dec.{ltb, eqb}
 use lib.ListN.{length}
-use borrow.Author.Tests.{lt-ltb, le-ltb, ltb-false, eq-eqb, eqb-true}
+use borrow.Author.Tests.{lt-ltb, le-ltb, ltb-false, eq-eqb, eqb-true, not-false}
 use Rattle.wire.specs.Numbers.{num, Octets}
 use Rattle.wire.specs.Tables.{render, Holds}
 use Rattle.wire.specs.Checks.{pick, either, both, Check, check, AllHold, someBroken, decide}
@@ -25,6 +25,7 @@ use Rattle.header_rule.specs.Rules.{mostSize, tooLarge, sizeChecks, longMark, m
 use Rattle.header.specs.Header.{shortTable, longTable, headerTable, headerSize, countPlace, numberPlace, storedIn, isLong, countOf, withNumber}
 use Rattle.header.specs.Header.{headerIn, formChecksOf, laterChecks, headerChecks, headerOf}
 use Rattle.header.specs.Theorems.{Stands, HeaderStands, Lone, beforeSegment, loneChecks, LoneByOtherChecks, NumberOutside, FormBySize}
+use Rattle.header.specs.Theorems.{SizeIsTrue}
 use Rattle.header_rule.proofs.RuleLaws.{number-lone, number-other, form-long, form-other, even-from}
 use Rattle.header.proofs.HeaderLaws.{short-shape, long-shape}
 use Rattle.header.proofs.WrittenLaws.{halves}
@@ -37,7 +38,7 @@ module _ (b : List ℕ) (a : AllHold (headerChecks b)) where
   form-holds : AllHold (formChecksOf s (length b))
   form-holds = all-hold-append (formChecksOf s (length b)) (laterChecks (headerIn b)) (a .1) .0
 
-  later-hold : AllHold (laterChecks (headerIn b))
+  pub later-hold : AllHold (laterChecks (headerIn b))
   later-hold = all-hold-append (formChecksOf s (length b)) (laterChecks (headerIn b)) (a .1) .1
 
   -- in the long form the length's
@@ -79,6 +80,23 @@ module _ (b : List ℕ) (a : AllHold (headerChecks b)) where
           let above : mostSize .0 < z .0 / 2 = omega (arith, least) in
           ap (λ (h : Header). tooLarge (h .size)) (long-shape s e) ∙ lt-ltb (mostSize .0) (z .0 / 2) above ∙ sym e
       go false e = ap (λ (h : Header). tooLarge (h .size)) (short-shape s e) ∙ size-holds e .1 .0 ∙ sym e
+
+  -- and that size is the true one
+  pub true-size : headerIn b .size .0 * 2 ≡ length b
+  unfolding headerIn
+  true-size = go (isLong s) refl
+    where
+      go : (t : Bool) → isLong s ≡ t → headerIn b .size .0 * 2 ≡ length b
+      go true e =
+          let z = lengthIn (s .segments) (s .number) in
+          let size : headerIn b .size .0 ≡ z .0 / 2 = ap (λ (h : Header). h .size .0) (long-shape s e) in
+          let is : z .0 ≡ length b = eqb-true (z .0) (length b) (not-false _ (length-holds e .1 .1 .1 .0)) in
+          omega (arith, size, is, even-from (z .0) (length-holds e .0))
+      go false e =
+          let h = size-holds e in
+          let size : headerIn b .size .0 ≡ s .size .0 = ap (λ (h : Header). h .size .0) (short-shape s e) in
+          let half : length b / 2 ≡ s .size .0 = eqb-true (length b / 2) (s .size .0) (not-false _ (h .1 .1 .1 .0)) in
+          omega (arith, size, half, even-from (length b) (h .1 .1 .0))
 
   -- a message with a whole header begins with the table of its values
   module _ (o : Octets b) where
@@ -139,6 +157,12 @@ unfolding headerOf
 by-size b h e =
     let p = rule-given (headerChecks b) (headerIn b) h e in
     sym (ap (λ (x : Header). tooLarge (x .size)) (p .1)) ∙ form-by-size b (all-hold (headerChecks b) (p .0))
+
+pub size-is-true : SizeIsTrue
+unfolding headerOf
+size-is-true b h e =
+    let p = rule-given (headerChecks b) (headerIn b) h e in
+    subst (λ (x : Header). x .size .0 * 2 ≡ length b) (p .1) (true-size b (all-hold (headerChecks b) (p .0)))
 
 -- ---- the checks of segments, among the others
 module _ (b : List ℕ) where

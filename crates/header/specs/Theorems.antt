@@ -115,3 +115,7 @@ MarkedOther = (b : List ℕ) → headerSize ≤ length b → num 2 b 0 ≡ longM
 -- an accepted header is of the long form exactly if its size is above the most that the short form holds
 abbrev pub FormBySize : Type 0
 FormBySize = (b : List ℕ) (h : Header) → headerOf b ≡ given h → tooLarge (h .size) ≡ isLong (storedIn b)
+
+-- "its size is reported as the true length in halfwords": so it is in both forms
+abbrev pub SizeIsTrue : Type 0
+SizeIsTrue = (b : List ℕ) (h : Header) → headerOf b ≡ given h → h .size .0 * 2 ≡ length b

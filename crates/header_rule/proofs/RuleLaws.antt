@@ -5,7 +5,7 @@ use mathlib.Core.Bool.{Bool, true, false, not}
 use mathlib.Core.List.{List, []}
 use native.Mathlib.Omega.{arith}
 use lib.Dec.{ltb, leb, eqb}
-use borrow.Author.Tests.{lt-ltb, le-ltb, eq-eqb, ne-eqb, eqb-true, eqb-false, ltb-false}
+use borrow.Author.Tests.{lt-ltb, le-ltb, eq-eqb, ne-eqb, eqb-true, eqb-false, ltb-false, not-false}
 use Rattle.wire.specs.Checks.{pick, both, Check, someBroken}
 use Rattle.wire.specs.Sizes.{bytes, halved, odd}
 use Rattle.wire.specs.declared.Halfwords.{Halfwords}
@@ -150,8 +150,4 @@ pub even-holds : (n : ℕ) → n % 2 ≡ 0 → odd n ≡ false
 even-holds n h = simp (eq-eqb (n % 2) 0 h)
 
 pub even-from : (n : ℕ) → odd n ≡ false → n % 2 ≡ 0
-even-from n h = go (eqb (n % 2) 0) refl h
-  where
-    go : (t : Bool) → eqb (n % 2) 0 ≡ t → not t ≡ false → n % 2 ≡ 0
-    go true e q = eqb-true (n % 2) 0 e
-    go false e q = never (cc q)
+even-from n h = eqb-true (n % 2) 0 (not-false _ h)

@@ -9,16 +9,19 @@ use native.Mathlib.Omega.{arith}
 use lib.Dec.{ltb}
 use lib.ListN.{length}
 use borrow.Author.Tests.{ltb-true}
-use Rattle.wire.specs.Checks.{pick, both, Check, first, AllHold}
+use Rattle.wire.specs.Checks.{pick, both, Check, check, first, AllHold}
 use Rattle.wire.specs.Answers.{Answer, refused, given, rule}
 use Rattle.wire.specs.Sizes.{bytes}
 use Rattle.wire.specs.Writing.{filled}
 use Rattle.wire.proofs.CheckLaws.{never}
 use Rattle.frame.proofs.WalkLaws.{walk-refused}
 use Rattle.frame.proofs.FrontLaws.{frames-take}
+use Rattle.frame.specs.Session.{bodyIn, frameChecks}
+use Rattle.header_rule.proofs.RuleLaws.{by-form}
 use Rattle.header.specs.declared.Header.{Header}
-use Rattle.set_spec.specs.Segment.{Segment, segmentIn, numbered, orNothing, headerNumbered}
-use Rattle.set_spec.specs.Walk.{turnChecks, eachFrame, walk, count, allSeen, joined, bodyOf, endChecks, finish, setOf}
+use Rattle.header.specs.Header.{headerSize, storedIn, headerIn, laterChecks}
+use Rattle.set_spec.specs.Segment.{Segment, segmentIn, notData, numbered, orNothing, headerNumbered}
+use Rattle.set_spec.specs.Walk.{metChecks, turnChecks, eachFrame, walk, count, allSeen, joined, bodyOf, endChecks, finish, setOf}
 use Rattle.set_spec.specs.Whole.{headerFrom, numberFrom, Agree, Distinct, Orderly}
 use Rattle.set_spec.specs.Theorems.{accepted, WholeFrames, AnyOrder}
 use Rattle.set_spec.proofs.FrameLists.{Ended, ended}
@@ -120,9 +123,16 @@ low-first (k ∷ ks) n l e = go (k .broken) (ltb (k .number) 12) refl l e (λ m 
     go true true p q r later = subst (λ (m : ℕ). m < 12) (cc r) (ltb-true (k .number) 12 p)
     go false true p q r later = later q r
 
+low-turn : (gs : List Segment) (rest : List ℕ) → low (turnChecks gs rest) ≡ true
+low-turn gs rest =
+    let s = storedIn (bodyIn rest) in
+    by-form (λ (ks : List Check). low ((frameChecks rest ++ (check 9 (notData rest) ∷ check 4 (ltb (length (bodyIn rest)) headerSize)
+    ∷ ks ++ laterChecks (headerIn (bodyIn rest)))) ++ metChecks gs (segmentIn rest .header)) ≡ true) (s .size) (s .kind) (s .segments)
+    (s .number) (length (bodyIn rest)) refl refl refl
+
 pub walk-low : (frames : List ℕ) (n : ℕ) → walk [] frames ≡ refused n → n < 12
 walk-low frames n e =
-    walk-refused eachFrame frames-take (λ m. m < 12) (λ gs rest m q. low-first (turnChecks gs rest) m refl q) [] frames n e
+    walk-refused eachFrame frames-take (λ m. m < 12) (λ gs rest m q. low-first (turnChecks gs rest) m (low-turn gs rest) q) [] frames n e
 
 -- ---- a walk that goes to the end goes to the end in every rearrangement, with segments that say the same
 record Again (each′ : List (List ℕ)) (gs : List Segment) : Type 0 where

@@ -22,6 +22,7 @@ use Rattle.frame.proofs.Welds.{frame-apart}
 use Rattle.header.specs.declared.Header.{Header}
 use Rattle.header_rule.specs.Rules.{mostSegments}
 use Rattle.header.specs.Header.{headerSize, headerIn, headerChecks, headerOf}
+use Rattle.header.proofs.Theorems.{later-hold}
 use Rattle.set_spec.specs.Segment.{notData, ownChecks}
 
 -- ---- a frame
@@ -99,12 +100,14 @@ pub record HeaderFits (b : List ℕ) : Type 0 where
   pub most : headerIn b .segments ≤ mostSegments
 
 pub header-fits : (b : List ℕ) → AllHold (headerChecks b) → HeaderFits b
-header-fits b a = record {
-  long = ltb-false (length b) headerSize (a .0);
-  most = ltb-false mostSegments (headerIn b .segments) (a .1 .1 .1 .1 .1 .1 .1 .0);
-  low = ltb-false (headerIn b .number) 1 (a .1 .1 .1 .1 .1 .1 .1 .1 .0);
-  high = ltb-false (headerIn b .segments) (headerIn b .number) (a .1 .1 .1 .1 .1 .1 .1 .1 .1 .0);
-}
+header-fits b a =
+    let later = later-hold b a in
+    record {
+      long = ltb-false (length b) headerSize (a .0);
+      most = ltb-false mostSegments (headerIn b .segments) (later .1 .1 .0);
+      low = ltb-false (headerIn b .number) 1 (later .1 .1 .1 .0);
+      high = ltb-false (headerIn b .segments) (headerIn b .number) (later .1 .1 .1 .1 .0);
+    }
 
 pub header-given : (b : List ℕ) (h : Header) → headerOf b ≡ given h → (first (headerChecks b) ≡ none) × (headerIn b ≡ h)
 unfolding headerOf

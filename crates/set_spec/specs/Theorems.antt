@@ -29,16 +29,19 @@ AcceptedExactlyIfWhole = (frames out : List ℕ) (h : Header) (body : List ℕ)
 abbrev pub mostJoined : ℕ
 mostJoined = mostSegments * (2 * segmentSize .0 - headerSize)
 
+abbrev pub mostRadial : ℕ
+mostRadial = sessionLimit .0 - headerSize
+
 pub record AtMost (s : SetSays) : Type 0 where
-  pub body : s .long .0 ≤ mostJoined
-  pub radial : s .header .kind ≡ radialType → s .long .0 ≤ sessionLimit .0 - headerSize
+  pub radial : s .header .kind ≡ radialType → s .long .0 ≤ mostRadial
+  pub other : (s .header .kind ≡ radialType → ⊥) → s .long .0 ≤ mostJoined
 
 abbrev pub BodyMost : Type 0
 BodyMost = (frames out : List ℕ) (s : SetSays) → setOf frames out .answer ≡ given s → AtMost s
 
--- an output with room for that many bytes is never too small
+-- an output with room for the longest radial, which is the more, is never too small
 abbrev pub RoomForAny : Type 0
-RoomForAny = (frames out : List ℕ) → setOf frames out .answer ≡ refused 13 → length out < mostJoined
+RoomForAny = (frames out : List ℕ) → setOf frames out .answer ≡ refused 13 → length out < mostRadial
 
 -- the answer, and the body that is written, do not depend on what the output held before, only on its length
 abbrev pub AnswerApartFromOutput : Type 0

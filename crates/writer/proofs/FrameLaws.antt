@@ -8,14 +8,19 @@ use lib.Seq.{take-at, drop-at, drop-drop}
 use Rattle.wire.specs.Sizes.{bytes}
 use Rattle.wire.specs.Writing.{filled}
 use Rattle.wire.specs.declared.Bytes.{Bytes}
-use Rattle.header.specs.Header.{headerSize}
+use Rattle.wire.specs.Tables.{render}
+use Rattle.frame.specs.Session.{headTable, headSize, dataKind}
+use Rattle.header.specs.Header.{headerSize, headerTable}
+use Rattle.header.proofs.WrittenLaws.{header-long}
 use Rattle.writer_head.specs.declared.Given.{Given}
-use Rattle.writer_head.specs.Head.{headsSize, heads}
+use Rattle.writer_head.specs.Head.{headerFor, headsSize, heads}
 use Rattle.writer.specs.Writing.{frameOf, framesFrom}
 
 pub heads-length : (given : Given) (n k : ℕ) (size : Bytes) → length (heads given n k size) ≡ headsSize
 unfolding heads
-heads-length given n k size = refl
+heads-length given n k size =
+    let h = headerFor given n k size in
+    length-append (render (headTable dataKind 0 size)) (render (headerTable h)) ∙ ap (λ (l : ℕ). headSize + l) (header-long h)
 
 pub frame-length : (given : Given) (n k : ℕ) (part : List ℕ) → length (frameOf given n k part) ≡ headsSize + length part
 unfolding frameOf

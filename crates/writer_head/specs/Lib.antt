@@ -1,2 +1,3 @@
 -- What stands before a written segment's data.
 pub mod Head
+pub mod Steps

@@ -1,0 +1,7 @@
+use Rattle.wire.proofs.TestLaws.{tests}
+use borrow.Author.Needs.{needs}
+use Rattle.writer_head.proofs.high_field.Statement.{statement}
+use Rattle.writer_head.proofs.high_field.Tie as tie
+
+pub high-field-spec : {M : Type 1} → statement M
+high-field-spec = tie.close (tie.spec (λ c. search needs) (λ c. search needs) (λ c. search (needs, tests)) (λ c. search (needs, tests)))
