@@ -1,24 +1,26 @@
 -- One written frame, read: it passes every check, and gives its header, its data and what follows. Assumes nothing.
-use Prim.Native.Nat.{ℕ, _+_, _/_, _%_, _≤_}
+use Prim.Native.Nat.{ℕ, _+_, _/_, _%_, _≤_, _<_}
 use native.Mathlib.Omega.{arith}
-use mathlib.Core.Path.{_≡_, refl, ap, _∙_}
-use mathlib.Core.Bool.{false}
+use mathlib.Core.Path.{_≡_, refl, sym, ap, subst, _∙_}
+use mathlib.Core.Bool.{Bool, true, false, not}
 use mathlib.Core.List.{List, _∷_, _++_}
+use lib.Dec.{ltb, eqb}
 use lib.ListN.{length, take, drop, length-append}
 use lib.Seq.{take-at, drop-at}
-use borrow.Author.Tests.{le-ltb, eq-eqb}
-use Rattle.wire.specs.Checks.{check, AllHold}
+use borrow.Author.Tests.{lt-ltb, le-ltb, ltb-true, ltb-false, eq-eqb, eqb-true}
+use Rattle.wire.specs.Checks.{pick, both, AllHold}
 use Rattle.wire.specs.Numbers.{num}
 use Rattle.wire.specs.Tables.{render, Fit}
 use Rattle.wire.specs.Sizes.{bytes, halved}
 use Rattle.wire.specs.declared.Bytes.{Bytes}
 use Rattle.frame.specs.Session.{headTable, headSize, lastKind, dataKind, sessionLimit, kindIn, sizeIn, bodyIn, after, headCut, kindUnknown, bodyTooLong, bodyCut}
-use Rattle.wire.proofs.CheckLaws.{all-hold-join}
+use Rattle.wire.proofs.CheckLaws.{never, all-hold-join}
 use Rattle.wire.proofs.TableLaws.{reads-back}
-use Rattle.header_rule.specs.Rules.{leastSize, mostSize, tooSmall, tooLarge, notTheBody, sizeChecks, notPermitted, mostSegments, countChecks, numberChecks, kindChecks, segmentChecks, timeChecks, radialCut, segmentTooLarge, dateTooLow, timeTooHigh}
-use Rattle.header.specs.Header.{headerTable, headerSize, headerIn, dataIn, valueChecks, headerChecks}
+use Rattle.header_rule.specs.Rules.{mostSize, tooLarge, notPermitted, radialType, mostSegments, countChecks, numberChecks, kindChecks, segmentChecks}
+use Rattle.header_rule.specs.Rules.{timeChecks, radialCut, segmentSize, segmentTooLarge, dateTooLow, timeTooHigh}
+use Rattle.header.specs.Header.{shortTable, longTable, headerTable, headerSize, storedIn, headerIn, dataIn, formChecksOf, laterChecks, headerChecks}
 use Rattle.header.specs.declared.Header.{Header}
-use Rattle.header.proofs.HeaderLaws.{header-is}
+use Rattle.header.proofs.WrittenLaws.{Fitting, header-long, header-is, form-back}
 use Rattle.set_spec.specs.Segment.{segmentIn, ownChecks}
 use Rattle.writer_head.specs.Head.{headerFor, headsSize, heads}
 use Rattle.writer.specs.Writing.{frameOf, longestRadial}
@@ -68,24 +70,49 @@ module _ (g : Given) (n k : ℕ) (part rest : List ℕ) (s : Sound g n) (p : Par
   size-is : sizeIn frames .0 ≡ size .0
   size-is = ap (λ (x : List ℕ). num 4 x 8) begins ∙ reads-back (headTable dataKind 0 size) (message ++ rest) head-fit .1 .1 .0
 
+  message-long : length message ≡ size .0
+  message-long = length-append (render (headerTable header)) part ∙ ap (λ (l : ℕ). l + length part) (header-long header)
+
   body-is : bodyIn frames ≡ message
   body-is =
       ap (λ (x : List ℕ). take (sizeIn frames .0) (drop headSize x)) begins
       ∙ ap (λ (z : ℕ). take z (message ++ rest)) size-is
-      ∙ take-at message rest (size .0) (omega arith)
+      ∙ take-at message rest (size .0) message-long
 
-  header-fit : Fit (headerTable header)
-  header-fit =
-      let f = s .fits in
-      let most = s .most in
-      (omega (arith, p .most), (f .channel, (f .kind, (f .sequence, (f .date, (f .milliseconds, (omega arith, (omega arith, tt))))))))
+  -- what the short form cannot hold is a radial, and the one segment there is
+  radial-alone : tooLarge (halved size) ≡ true → (g .kind ≡ radialType) × (n ≡ 1)
+  radial-alone e =
+      let above : mostSize .0 < size .0 / 2 = ltb-true (mostSize .0) (size .0 / 2) e in
+      let large : ltb (segmentSize .0) (size .0 / 2) ≡ true = lt-ltb (segmentSize .0) (size .0 / 2) (omega (arith, above)) in
+      go (eqb (g .kind) radialType) refl (eqb n 1) refl (rw large at (p .small)) (s .radial)
+    where
+      go : (t : Bool) → eqb (g .kind) radialType ≡ t → (u : Bool) → eqb n 1 ≡ u → both (not t) true ≡ false → both t (not u) ≡ false
+          → (g .kind ≡ radialType) × (n ≡ 1)
+      go true q true r small cut = (eqb-true (g .kind) radialType q, eqb-true n 1 r)
+      go true q false r small cut = never (cc cut)
+      go false q u r small cut = never (cc small)
 
-  header-back : headerIn (bodyIn frames) ≡ header
-  header-back = ap headerIn body-is ∙ header-is header part header-fit low high
+  fitting : Fitting header
+  fitting = record { fit = go (tooLarge (halved size)) refl; low = low; high = high; long = radial-alone }
+    where
+      go : (t : Bool) → tooLarge (halved size) ≡ t → Fit (pick t (longTable header) (shortTable header))
+      go true e =
+          let f = s .fits in
+          (omega arith, (f .channel, (f .kind, (f .sequence, (f .date, (f .milliseconds, (omega (arith, p .most), tt)))))))
+      go false e =
+          let f = s .fits in
+          let most = s .most in
+          let small : size .0 / 2 ≤ mostSize .0 = ltb-false (mostSize .0) (size .0 / 2) e in
+          (omega (arith, small), (f .channel, (f .kind, (f .sequence, (f .date, (f .milliseconds, (omega arith, (omega arith, tt))))))))
+
+  message-back : headerIn message ≡ header
+  message-back = header-is header part fitting
 
   -- the segment that was written is the one that is read
   pub segment-back : segmentIn frames ≡ record { header = header; content = part }
-  segment-back = λ i. record { header = header-back i; content = ap dataIn body-is i }
+  segment-back =
+      let content = ap dataIn body-is ∙ drop-at (render (headerTable header)) part headerSize (header-long header) in
+      λ i. record { header = (ap headerIn body-is ∙ message-back) i; content = content i }
 
   whole : length frames ≡ headsSize + length part + length rest
   whole = length-append (frameOf g n k part) rest ∙ ap (λ (l : ℕ). l + length rest) (frame-length g n k part)
@@ -95,14 +122,11 @@ module _ (g : Given) (n k : ℕ) (part rest : List ℕ) (s : Sound g n) (p : Par
       ap (λ (z : ℕ). drop (headSize + z) frames) size-is
       ∙ drop-at (frameOf g n k part) rest (headSize + size .0) (omega (arith, frame-length g n k part))
 
-  values : AllHold (valueChecks header (size .0))
-  values =
-      let e = p .even in
-      let even : size .0 % 2 ≡ 0 = omega arith in
-      let low′ : tooSmall (halved size) ≡ false = le-ltb (size .0 / 2) (leastSize .0) (omega arith) in
-      let high′ : tooLarge (halved size) ≡ false = le-ltb (mostSize .0) (size .0 / 2) (omega (arith, p .most)) in
-      let body : notTheBody (halved size) (size .0) ≡ false = simp (eq-eqb (size .0 / 2) (size .0 / 2) refl) in
-      let sizes : AllHold (sizeChecks (halved size) (size .0)) = (low′, (high′, (simp (eq-eqb (size .0 % 2) 0 even), (body, tt)))) in
+  even-size : size .0 % 2 ≡ 0
+  even-size = omega (arith, p .even)
+
+  later : AllHold (laterChecks header)
+  later =
       let counts : AllHold (countChecks n) = (le-ltb n 1 (omega arith), (le-ltb mostSegments n (s .most), tt)) in
       let numbers : AllHold (numberChecks n k) = (le-ltb k 1 low, (le-ltb n k high, tt)) in
       let kinds : AllHold (kindChecks (halved size) (g .kind) n) = (s .radial, (p .small, tt)) in
@@ -111,16 +135,19 @@ module _ (g : Given) (n k : ℕ) (part rest : List ℕ) (s : Sound g n) (p : Par
       all-hold-join (countChecks n) (numberChecks n k ++ kindChecks (halved size) (g .kind) n) counts
       (all-hold-join (numberChecks n k) (kindChecks (halved size) (g .kind) n) numbers kinds)
       in
-      let later : AllHold (segmentChecks (halved size) (g .kind) n k ++ timeChecks (g .date) (g .milliseconds)) =
-      all-hold-join (segmentChecks (halved size) (g .kind) n k) (timeChecks (g .date) (g .milliseconds)) segments times
-      in
-      all-hold-join (sizeChecks (halved size) (size .0)) (check 6 (notPermitted (g .kind))
-      ∷ segmentChecks (halved size) (g .kind) n k ++ timeChecks (g .date) (g .milliseconds)) sizes (s .permitted, later)
+      (s .permitted, all-hold-join (segmentChecks (halved size) (g .kind) n k) (timeChecks (g .date) (g .milliseconds)) segments times)
+
+  message-holds : AllHold (headerChecks message)
+  message-holds =
+      let forms = form-back header part fitting (size .0) (omega arith) (omega (arith, p .most)) even-size refl in (
+        le-ltb (length message) headerSize (omega (arith, message-long)),
+        all-hold-join (formChecksOf (storedIn message) (length message)) (laterChecks (headerIn message))
+        (subst (λ (l : ℕ). AllHold (formChecksOf (storedIn message) l)) (sym message-long) forms)
+        (subst (λ (h : Header). AllHold (laterChecks h)) (sym message-back) later),
+      )
 
   header-holds : AllHold (headerChecks (bodyIn frames))
-  header-holds =
-      let l : length (bodyIn frames) ≡ size .0 = ap length body-is ∙ omega arith in
-      (le-ltb (length (bodyIn frames)) headerSize (omega arith), rw (header-back, l) values)
+  header-holds = subst (λ (b : List ℕ). AllHold (headerChecks b)) (sym body-is) message-holds
 
   -- every check of its own holds
   pub frame-holds : AllHold (ownChecks frames)
