@@ -2,9 +2,11 @@
 ghost use mathlib.Core.Path.{_≡_};
 ghost use Rattle.wire.specs.Answers.{refused, given};
 ghost use Rattle.frame.specs.Session.{frameAt};
+ghost use Rattle.header.specs.Header.{headerOf};
 ghost use Rattle.c_frame.specs.Face.{noFrame, frameFace, headerShown, headerFace};
 use frame::FrameAnswer;
 use header::Header;
+use header::HeaderAnswer;
 
 #[repr(C)]
 pub struct UlmFrame {
@@ -59,6 +61,16 @@ fn no_frame(number: u8, place: usize) -> UlmFrame
         start: 0,
         size: 0,
         next: place as u64,
+    }
+}
+
+// The header of a message of either form.
+pub fn header(message: &[u8]) -> UlmHeader
+    ensures { λ r. ⌜ r ≡ headerFace (headerOf (now (message .entry))) ⌝ }
+{
+    match header::read_either(message) {
+        HeaderAnswer::Read(h) => header_face(h),
+        HeaderAnswer::Refused(number) => no_header(number),
     }
 }
 

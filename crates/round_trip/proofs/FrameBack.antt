@@ -142,8 +142,8 @@ module _ (g : Given) (n k : ℕ) (part rest : List ℕ) (s : Sound g n) (p : Par
       let forms = form-back header part fitting (size .0) (omega arith) (omega (arith, p .most)) even-size refl in (
         le-ltb (length message) headerSize (omega (arith, message-long)),
         all-hold-join (formChecksOf (storedIn message) (length message)) (laterChecks (headerIn message))
-        (subst (λ (l : ℕ). AllHold (formChecksOf (storedIn message) l)) (sym message-long) forms)
-        (subst (λ (h : Header). AllHold (laterChecks h)) (sym message-back) later),
+            (subst (λ (l : ℕ). AllHold (formChecksOf (storedIn message) l)) (sym message-long) forms)
+            (subst (λ (h : Header). AllHold (laterChecks h)) (sym message-back) later),
       )
 
   header-holds : AllHold (headerChecks (bodyIn frames))

@@ -50,11 +50,10 @@ pub extern "C" fn ulm_header(msg: &[u8]) -> UlmHeader
     ensures { λ r. ⌜ r ≡ headerFace (headerOf (now (msg .entry))) ⌝ }
 {
     let s = header::stored_in(msg);
-    let number = header::check_header(s, msg.len());
-    if number != 0 {
-        return c_frame::no_header(number);
+    if header::accepts_short(s, msg.len()) {
+        return c_frame::header_face(header::report_short(msg, s));
     }
-    c_frame::header_face(header::reported(msg, s))
+    c_frame::header(msg)
 }
 
 #[no_mangle]
