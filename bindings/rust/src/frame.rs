@@ -101,7 +101,7 @@ pub const HEADER_SIZE: usize = 16;
 /// The header of a message segment.
 #[derive(Clone, Copy, Debug, PartialEq, Eq)]
 pub struct Header {
-    /// Size in halfwords of 2 bytes, with the [`HEADER_SIZE`] bytes of the header: half of the message's, in both forms.
+    /// Size in halfwords of 2 bytes, with the header's [`HEADER_SIZE`] bytes: half of the message's, in both forms.
     pub size: u32,
     /// Channel, as stored.
     pub channel: u8,
