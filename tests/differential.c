@@ -366,11 +366,10 @@ static void lone_number_edges(void)
             }
 }
 
-/* A message, up to 16 bytes longer than the longest, whose size says that it has the long form and whose segment fields
- * hold some length. */
+/* A message of up to MOST_BYTES whose size says that it has the long form and whose segment fields hold some length. */
 static const uint8_t *long_message(uint32_t type, uint32_t date, uint32_t ms, uint32_t length)
 {
-    static uint8_t bytes[MOST_LONG + 16];
+    static uint8_t bytes[MOST_BYTES];
     put(bytes, 2, LONG_SIZE);
     put(bytes + 2, 1, pick(256));
     put(bytes + 3, 1, type);
@@ -390,17 +389,20 @@ static const uint32_t long_lengths[] = { 0,          1,          16,         17,
                                          1048578,    2097152,    8388737,    0x7FFFFFFF, 0x80000000, 0x8001FFFE,
                                          0x8101FFFE, 0xFFFE0001, 0xFFFFFFFE, UINT32_MAX };
 
-/* Each of these, in messages that are as long, nearly so, and otherwise. */
+/* Each of these, in messages that are as long, nearly so, longer by a high bit, and otherwise. */
 static void long_length_edges(uint32_t type)
 {
     static const size_t sizes[] = { 15, 16, 17, 18, 131068, 131070, 131072, 1048574, 1048576, 1048578 };
+    static const size_t bits[] = { 65536, 131072, 1048576 };
     for (size_t i = 0; i < COUNT(long_lengths); i++) {
         size_t length = long_lengths[i];
         const uint8_t *bytes = long_message(type, 1, 0, long_lengths[i]);
         for (size_t k = 0; k < COUNT(sizes); k++)
             compare_header(bytes, sizes[k]);
-        for (size_t n = length < 18 ? 16 : length - 2; n <= length + 2 && n <= MOST_LONG + 16; n++)
+        for (size_t n = length < 18 ? 16 : length - 2; n <= length + 2 && n <= MOST_BYTES; n++)
             compare_header(bytes, n);
+        for (size_t k = 0; k < COUNT(bits) && length + bits[k] <= MOST_BYTES; k++)
+            compare_header(bytes, length + bits[k]);
     }
 }
 
