@@ -114,7 +114,7 @@ static inline int segment_rule_broken(const plain_header_answer *h)
 
 static inline int time_broken(uint32_t date, uint32_t ms)
 {
-    return date == 0 || ms > MOST_MS;
+    return ms > MOST_MS || date == 0;
 }
 
 /* The short form: any size but LONG_SIZE. */
