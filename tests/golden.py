@@ -62,7 +62,7 @@ def frames(recording):
 
 
 def size_fields(size):
-    """Size, N and number in the header of a radial of that many bytes: in the long form where the short one cannot hold it."""
+    """Size, N and number in the header of a radial of that many bytes: the long form where the short one cannot hold it."""
     return (LONG_SIZE, *divmod(size, 65536)) if size >= LEAST_LONG else (size // 2, 1, 1)
 
 
