@@ -198,6 +198,25 @@ TASK(salvage_random_less)
     return salvage(&sweep.random, sweep.random.length, sweep.random.numbers);
 }
 
+/* The longest radial, from one place to another by each of three entries. */
+TASK(longest_set)
+{
+    return ASK(set)(sweep.longest.bytes, sweep.longest.size, sweep.salvaged, LONG_RECORDING).length
+           + sweep.salvaged[LONG_RADIAL - 1];
+}
+
+TASK(longest_write)
+{
+    const uint8_t *body = sweep.longest.bytes + 28;
+    return ASK(write)(8, 31, 7, 16000, 43200000, body, LONG_RADIAL, sweep.salvaged, LONG_RECORDING).length
+           + sweep.salvaged[28 + LONG_RADIAL - 1];
+}
+
+TASK(longest_salvage)
+{
+    return salvage(&sweep.longest, LONG_RECORDING, MOST_NUMBERS);
+}
+
 const struct batch JOINED(SIDE, batches)[] = {
     { "frame_walk", RADIALS + 1, JOINED(SIDE, task_frame_walk), NULL },
     { "header", RADIALS, JOINED(SIDE, task_header), NULL },
@@ -222,5 +241,8 @@ const struct batch JOINED(SIDE, batches)[] = {
     { "salvage_clean_less", 1, JOINED(SIDE, task_salvage_clean_less), &sweep.clean.size },
     { "salvage_damaged_less", 1, JOINED(SIDE, task_salvage_damaged_less), &sweep.damaged.size },
     { "salvage_random_less", 1, JOINED(SIDE, task_salvage_random_less), &sweep.random.size },
+    { "longest_set", 1, JOINED(SIDE, task_longest_set), &sweep.longest.size },
+    { "longest_write", 1, JOINED(SIDE, task_longest_write), &sweep.longest.size },
+    { "longest_salvage", 1, JOINED(SIDE, task_longest_salvage), &sweep.longest.size },
     { NULL, 0, NULL, NULL },
 };

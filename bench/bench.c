@@ -5,7 +5,8 @@
  *     bench count SIDE TASK   the task once, for callgrind to count instructions in; writes the number of calls
  *
  * Each round runs each task by both sides in turn, the other side first in every second round, so that a change of the
- * machine's speed meets both; the best of all rounds is kept. `memcpy` is the joined data of the set copied at once.
+ * machine's speed meets both; the best of all rounds is kept. `memcpy` is the joined data of the set copied at once,
+ * and `longest_memcpy` the body of the longest radial.
  */
 #define _POSIX_C_SOURCE 200809L
 #include <inttypes.h>
@@ -57,7 +58,18 @@ static uint64_t copy(void)
     return 0;
 }
 
-static const struct batch copied = { "memcpy", 1, copy, NULL };
+/* The same of the longest radial, between the places that it is joined, written and salvaged from and to. */
+static uint64_t copy_longest(void)
+{
+    memcpy(sweep.salvaged, sweep.longest.bytes + 28, LONG_RADIAL);
+    __asm__ volatile("" : : "r"(sweep.salvaged) : "memory");
+    return 0;
+}
+
+enum { COPIES = 2 };
+
+static const struct batch copies[COPIES]
+    = { { "memcpy", 1, copy, NULL }, { "longest_memcpy", 1, copy_longest, NULL } };
 
 static void check_same(const struct batch *a, const struct batch *b)
 {
@@ -69,7 +81,7 @@ static void check_same(const struct batch *a, const struct batch *b)
 
 static void time_all(unsigned rounds)
 {
-    uint64_t best[MOST_TASKS][SIDES] = { 0 }, repeats[MOST_TASKS], best_memcpy = 0;
+    uint64_t best[MOST_TASKS][SIDES] = { 0 }, repeats[MOST_TASKS], best_copy[COPIES] = { 0 };
     for (size_t i = 0; plain_batches[i].name != NULL; i++) {
         check_same(&plain_batches[i], &ulm_batches[i]);
         repeats[i] = repeats_of(&plain_batches[i]);
@@ -80,14 +92,16 @@ static void time_all(unsigned rounds)
                 unsigned side = (round + k) % SIDES;
                 keep_best(&best[i][side], time_of(&sides[side][i], repeats[i]));
             }
-        keep_best(&best_memcpy, time_of(&copied, repeats_of(&copied)));
+        for (size_t i = 0; i < COPIES; i++)
+            keep_best(&best_copy[i], time_of(&copies[i], repeats_of(&copies[i])));
     }
     for (size_t i = 0; plain_batches[i].name != NULL; i++) {
         const struct batch *b = &plain_batches[i];
         printf("%s %.2f %.2f %zu\n", b->name, (double)best[i][0] / (double)b->calls,
                (double)best[i][1] / (double)b->calls, b->bytes == NULL ? 0 : *b->bytes);
     }
-    printf("memcpy %.2f %.2f 0\n", (double)best_memcpy, (double)best_memcpy);
+    for (size_t i = 0; i < COPIES; i++)
+        printf("%s %.2f %.2f 0\n", copies[i].name, (double)best_copy[i], (double)best_copy[i]);
 }
 
 static int count_one(const char *side, const char *task)

@@ -112,6 +112,16 @@ static void make_recordings(struct chance *c)
     set_rooms(&sweep.random);
 }
 
+/* Its body is bytes by chance: nothing that is timed looks into it. */
+static void make_longest_radial(struct chance *c)
+{
+    struct make_segment s = { 8, 31, 7, 16000, 43200000, 1, 1 };
+    uint8_t *body = sweep.longest.bytes + 28;
+    fill(c, body, LONG_RADIAL);
+    sweep.longest.size = make_long(sweep.longest.bytes, &s, body, LONG_RADIAL);
+    set_rooms(&sweep.longest);
+}
+
 static void make_largest_map(struct chance *c)
 {
     size_t n = make_map_header(sweep.largest.bytes, 5, c);
@@ -130,4 +140,5 @@ void make_sweep(void)
     sweep.apart.size = make_map(sweep.apart.bytes, 5, 4, &c);
     make_recordings(&c);
     make_largest_map(&c);
+    make_longest_radial(&c);
 }

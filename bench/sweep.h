@@ -1,7 +1,8 @@
 /*
  * What the benchmark works on: the sample recording's shape scaled to one sweep. 720 radials of nine blocks each (REF
  * with 1,832 gates, VEL, SW, ZDR, RHO with 1,192 of 8 bits, PHI with 1,192 of 16), a set of 128 full segments, a filter
- * map of five elevation segments, two to compare it with, and one as large as a map can be; recordings to salvage.
+ * map of five elevation segments, two to compare it with, and one as large as a map can be; recordings to salvage; one
+ * radial as long as there can be.
  */
 #ifndef SWEEP_H
 #define SWEEP_H
@@ -11,6 +12,8 @@
 
 enum { RADIALS = 720, BODY = 9304, FRAME = BODY + 28, LONG_BODY = 307200, SEGMENTS = 128, LONG_MAP = 147606 };
 enum { MOST_HALFWORDS = 421200 }; /* of a list of differences */
+
+enum { LONG_RADIAL = 1048560 }; /* its body */
 
 enum { LONG_RECORDING = 6100000, MOST_NUMBERS = 2 * ((LONG_RECORDING + 28) / 29) };
 
@@ -36,6 +39,7 @@ struct sweep {
     struct recording clean;   /* 720 radials of 200 to 1,840 gates, most of them 0 */
     struct recording damaged; /* the same with a few bytes altered, cut out or inserted in one frame of 100 */
     struct recording random;  /* bytes by chance, as many */
+    struct recording longest; /* one radial, in a header's long form */
     uint8_t salvaged[LONG_RECORDING];
     uint64_t runs[MOST_NUMBERS];
     uint16_t list[MOST_HALFWORDS];

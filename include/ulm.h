@@ -29,16 +29,17 @@ enum ulm_refusal {
     ULM_REFUSED_FRAME_CUT_OFF = 1,
     /* session kind above 4 */
     ULM_REFUSED_SESSION_KIND = 2,
-    /* session body above 131,068 bytes */
+    /* session body above 1,048,576 bytes */
     ULM_REFUSED_SESSION_BODY = 3,
     /* message under 16 bytes */
     ULM_REFUSED_MESSAGE_SHORT = 4,
-    /* size under 8 or above 65,534 halfwords, or not the message's length */
+    /* size under 8 halfwords or not half of the message's bytes, or, at size 65,535 of type 31, a length in the segment
+       fields that is odd, not 131,070 to 1,048,576 or not the message's */
     ULM_REFUSED_SIZE = 5,
     /* message type that is not permitted */
     ULM_REFUSED_TYPE = 6,
     /* segment count not 1 to 128, segment number not 1 to the count where that is above 1, a radial in more than one
-       segment, or a segment above 1,208 halfwords */
+       segment, or a size above 1,208 halfwords of another type, 65,535 included */
     ULM_REFUSED_SEGMENT = 7,
     /* date 0, or time of day past 86,399,999 milliseconds */
     ULM_REFUSED_DATE_OR_TIME = 8,
@@ -77,7 +78,7 @@ enum ulm_refusal {
     ULM_REFUSED_FIELD = 24,
     /* body to write has an odd length */
     ULM_REFUSED_ODD_BODY = 25,
-    /* body to write above 307,200 bytes, or above 131,052 for a radial */
+    /* body to write above 307,200 bytes, or above 1,048,560 for a radial */
     ULM_REFUSED_LONG_BODY = 26
 };
 
@@ -124,8 +125,8 @@ typedef struct ulm_frame_answer {
 /*
  * Reads the session frame at a place of a buffer.
  *
- * A frame is 12 bytes (kind, a second number, body size in bytes, each 32 bits) and its body of at most 131,068 bytes.
- * A place equal to the length answers the end; a place past it is refusal 1. The body isn't looked into.
+ * A frame is 12 bytes (kind, a second number, body size in bytes, each 32 bits) and its body of at most 1,048,576
+ * bytes. A place equal to the length answers the end; a place past it is refusal 1. The body isn't looked into.
  * At the end and on a refusal `next` is the place that was given and the rest is 0.
  *
  * Refusals, in order: 1 (fewer than 12 bytes left), 2, 3, 1 (the body runs past the buffer).
@@ -139,13 +140,13 @@ ulm_frame_answer ulm_frame(const uint8_t *buf, size_t len, size_t place);
 
 typedef struct ulm_header_answer {
     uint32_t refusal;
-    uint32_t size;     /* in halfwords, with the header's ULM_HEADER_SIZE bytes */
+    uint32_t size;     /* in halfwords, with the header's ULM_HEADER_SIZE bytes: half of the body's, in both forms */
     uint32_t channel;  /* as stored */
     uint32_t type;     /* 1 to 13, 15, 18 or 31 */
     uint32_t sequence; /* as stored */
     uint32_t date;     /* at least 1 */
     uint32_t ms;       /* milliseconds of the day, at most 86,399,999 */
-    uint32_t segments; /* N, 1 to 128 */
+    uint32_t segments; /* N, 1 to 128; 1 in the long form */
     uint32_t number;   /* of this segment, 1 to N; 1 where N is 1, whatever was stored */
 } ulm_header_answer;
 
@@ -158,7 +159,11 @@ typedef struct ulm_header_answer {
  * N = 1; for any other type the size is at most 1,208.
  * Date is at least 1, milliseconds at most 86,399,999.
  *
- * Refusals, in order: 4, 5, 6, 7, 8.
+ * A stored size of 65,535 says that the header has the long form, which type 31 alone may have. The fields of N and of
+ * the segment number together are then one number of 32 bits, the body's length in bytes with the header: even, 131,070
+ * to 1,048,576, and the length that was lent. Half of it is reported as `size`; `segments` and `number` are 1.
+ *
+ * Refusals, in order: 4, 5, 6, 7, 8. With the size 65,535: 4, 6, 7 (any other type than 31), 5, 8.
  */
 ulm_header_answer ulm_header(const uint8_t *msg, size_t len);
 
@@ -183,7 +188,7 @@ typedef struct ulm_set_answer {
  * All are data frames whose headers pass. They agree with the first in channel, type, date, milliseconds and N;
  * sequence numbers aren't compared. Each of 1 to N appears once.
  * The answer is segment 1's header and, in the output, the data of segment 1, then 2, and so on joined, with its
- * length. At most 307,200 bytes are written (131,052 for type 31).
+ * length. At most 307,200 bytes are written (1,048,560 for type 31).
  *
  * Refusals, in order: for each frame in turn those of ulm_frame, 9, those of ulm_header, 10, 11; at the end 12, 13.
  */
@@ -225,7 +230,8 @@ typedef struct ulm_written_answer {
  * The body is cut into segments of 2,400 bytes of data; the last may be shorter. An empty body makes one segment; type
  * 31 always makes one frame. The session's second number is 0; every segment repeats the given channel, type, sequence
  * number, date and milliseconds; N is the number of segments, and frames are written in order from number 1 to N.
- * The length written is the body's plus 28 bytes for each segment.
+ * The length written is the body's plus 28 bytes for each segment. A body has at most 307,200 bytes, of type 31 at most
+ * 1,048,560. From 131,054 bytes on, which the size cannot hold, the header of type 31 has its long form (ulm_header).
  *
  * Refusals, in order: 6, 8, 25, 26, 13.
  */
@@ -256,7 +262,8 @@ typedef struct ulm_radial_answer {
  * Checks a radial and gives its header's values as stored. These, ulm_block for 1 to `blocks` and the lent body are the
  * whole description of the radial.
  *
- * The body has at least 68 bytes, compression 0, a radial length of 68 up to the body's length and 4 to 9 blocks.
+ * The body has at least 68 bytes, compression 0, a radial length of 68 up to the body's length and 4 to 9 blocks. The
+ * radial length has 16 bits, so the blocks of a longer body lie within its first 65,535 bytes.
  * The first block begins at 68 or later, each next one at or after the end of the one before, and all end within the
  * radial length. The first three are RVOL, RELV, RRAD, with a length of at least 44, 12 and 20. Every later block is a
  * moment, no name twice, with at most 1,840 gates of 8 or 16 bits.

@@ -8,11 +8,14 @@
 #include <stddef.h>
 #include <stdint.h>
 
+enum { BYTEWISE_MOST = 1 << 22 };
+
 struct bytewise {
     size_t kept, length, runs;
 };
 
-/* Salvages n bytes, at most 1 MiB. The output has room for n bytes, the list for 2 * ((n + 28) / 29) numbers. */
+/* Salvages n bytes, at most BYTEWISE_MOST. The output has room for n bytes, the list for 2 * ((n + 28) / 29)
+ * numbers. */
 struct bytewise salvage_bytewise(const uint8_t *buf, size_t n, uint8_t *out, uint64_t *list);
 
 #endif

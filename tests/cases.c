@@ -25,7 +25,8 @@
 #define JOINED(a, b) JOIN(a, b)
 #define ASK(entry) JOINED(SIDE, entry)
 
-enum { MOST_WORDS = 9, MOST_ROOM = 1 << 20, MOST_RUNS = 1 << 16, MOST_TEXT = 4 << 20 };
+/* No more room is lent than the longest frame needs. A line has at most as many letters as a text. */
+enum { MOST_WORDS = 9, MOST_ROOM = 1048588, MOST_RUNS = 1 << 16, MOST_TEXT = 4718592 };
 
 /* The answer's text. */
 static char text[MOST_TEXT];

@@ -325,8 +325,8 @@ void compare_salvage(const uint8_t *buf, size_t n, size_t room, size_t numbers)
     settle();
 }
 
-void compare_write(uint8_t channel, uint8_t type, uint16_t sequence, uint16_t date, uint32_t ms, const uint8_t *body,
-                   size_t n, size_t room)
+size_t compare_write(uint8_t channel, uint8_t type, uint16_t sequence, uint16_t date, uint32_t ms, const uint8_t *body,
+                     size_t n, size_t room)
 {
     ask(WRITE, body, n, channel, type, sequence);
     now.numbers[3] = date;
@@ -338,6 +338,7 @@ void compare_write(uint8_t channel, uint8_t type, uint16_t sequence, uint16_t da
     SAME(refusal), SAME(length);
     settle_output(&output, u.refusal, u.length);
     settle();
+    return p.length;
 }
 
 void compare_radial(const uint8_t *body, size_t n)
@@ -489,6 +490,11 @@ size_t compare_comparison(const uint8_t *old_map, size_t old_n, const uint8_t *n
 }
 
 /* ---- What was reached ---- */
+
+const uint8_t *compared_output(void)
+{
+    return output.expected;
+}
 
 uint64_t compared(void)
 {

@@ -134,6 +134,28 @@ static void damage(void)
         message_size = pick(message_size + 1);
 }
 
+/* The lengths of a message in a header's long form, in bytes. */
+enum { LONG_SIZE = 65535, LEAST_LONG = 131070, MOST_LONG = 1048576 };
+
+static size_t any_long(void)
+{
+    switch (pick(4)) {
+    case 0: return LEAST_LONG + 2 * pick(4);
+    case 1: return MOST_LONG - 2 * pick(4);
+    default: return LEAST_LONG + 2 * pick((MOST_LONG - LEAST_LONG) / 2 + 1);
+    }
+}
+
+static const uint8_t *any_body(size_t n)
+{
+    static uint8_t bytes[MOST_BYTES];
+    static int filled;
+    if (!filled)
+        fill(&dice, bytes, sizeof bytes);
+    filled = 1;
+    return n == 0 ? NULL : bytes + pick(MOST_BYTES - n);
+}
+
 /* ---- Frames ---- */
 
 static const uint64_t far_places[] = { UINT64_MAX, UINT64_MAX - 1, UINT64_MAX - 11, UINT64_MAX - 12, UINT64_MAX / 2,
@@ -148,6 +170,7 @@ static void patches_of_frame(size_t at, size_t body)
     all_ones(at + 4, 4);
     limit(at + 8, 4, body);
     limit(at + 8, 4, 131068);
+    limit(at + 8, 4, MOST_LONG);
     all_ones(at + 8, 4);
     patch(at + 8, 4, 0);
     patch(at + 8, 4, UINT32_MAX - 11);
@@ -177,17 +200,36 @@ static void frame_edges(void)
     each_patch(bytes, n, SIZE_MAX, ask_frame_at_0);
 }
 
-/* The longest body, and one byte more and less of it and of the buffer. */
+/* A body at the limit, and one byte more and less of it and of the buffer; then only its head, of every kind. */
+static void long_frame_edges_at(uint8_t *bytes, size_t most)
+{
+    for (size_t size = most - 2; size <= most + 2; size++) {
+        put(bytes, 4, 2);
+        put(bytes + 8, 4, size);
+        for (size_t length = size + 10; length <= size + 14; length++)
+            compare_frame(bytes, length, 0);
+        for (uint32_t kind = 0; kind <= 5; kind++) {
+            put(bytes, 4, kind);
+            for (size_t length = 11; length <= 14; length++)
+                compare_frame(bytes, length, 0);
+        }
+    }
+}
+
+/* By the limit of a frame and by that of a header's short form; and a frame after the longest one. */
 static void long_frame_edges(void)
 {
-    static uint8_t bytes[131068 + 12 + 8];
+    static uint8_t bytes[12 + MOST_LONG + 64];
     fill(&dice, bytes, sizeof bytes);
-    put(bytes, 4, 2);
-    for (size_t size = 131066; size <= 131070; size++)
-        for (size_t length = size + 10; length <= size + 14; length++) {
-            put(bytes + 8, 4, size);
-            compare_frame(bytes, length < sizeof bytes ? length : sizeof bytes, 0);
-        }
+    long_frame_edges_at(bytes, 131068);
+    long_frame_edges_at(bytes, MOST_LONG);
+    for (uint32_t kind = 0; kind <= 5; kind++) {
+        size_t next = make_frame(bytes, kind, 7, bytes + 12, MOST_LONG);
+        size_t n = next + make_frame(bytes + next, 4, 0, NULL, 0);
+        compare_frame(bytes, n, 0);
+        for (size_t place = next - 1; place <= next + 1; place++)
+            compare_frame(bytes, n, place);
+    }
 }
 
 static void frame_by_chance(void)
@@ -243,6 +285,9 @@ static void patches_of_header(size_t at, size_t bytes)
     patch(at + 14, 2, 257);
     all_ones(at + 12, 2);
     all_ones(at + 14, 2);
+    limit(at + 12, 4, bytes);
+    limit(at + 12, 4, LEAST_LONG);
+    limit(at + 12, 4, MOST_LONG);
 }
 
 static void ask_header(void)
@@ -321,8 +366,90 @@ static void lone_number_edges(void)
             }
 }
 
+/* A message of up to MOST_BYTES whose size says that it has the long form and whose segment fields hold some length. */
+static const uint8_t *long_message(uint32_t type, uint32_t date, uint32_t ms, uint32_t length)
+{
+    static uint8_t bytes[MOST_BYTES];
+    put(bytes, 2, LONG_SIZE);
+    put(bytes + 2, 1, pick(256));
+    put(bytes + 3, 1, type);
+    put(bytes + 4, 2, pick(65536));
+    put(bytes + 6, 2, date);
+    put(bytes + 8, 4, ms);
+    put(bytes + 12, 4, length);
+    return bytes;
+}
+
+/* Lengths in the segment fields: by each limit, odd ones, with the halves changed about (16 is one too), in halfwords,
+ * with other bits, and what the fields of a short header would be. */
+static const uint32_t long_lengths[] = { 0,          1,          16,         17,         65535,      65536,
+                                         65537,      65539,      131066,     131067,     131068,     131069,
+                                         131070,     131071,     131072,     131073,     131200,     262140,
+                                         524288,     1048573,    1048574,    1048575,    1048576,    1048577,
+                                         1048578,    2097152,    8388737,    0x7FFFFFFF, 0x80000000, 0x8001FFFE,
+                                         0x8101FFFE, 0xFFFE0001, 0xFFFFFFFE, UINT32_MAX };
+
+/* Each of these, in messages that are as long, nearly so, longer by a high bit, and otherwise. */
+static void long_length_edges(uint32_t type)
+{
+    static const size_t sizes[] = { 15, 16, 17, 18, 131068, 131070, 131072, 1048574, 1048576, 1048578 };
+    static const size_t bits[] = { 65536, 131072, 1048576 };
+    for (size_t i = 0; i < COUNT(long_lengths); i++) {
+        size_t length = long_lengths[i];
+        const uint8_t *bytes = long_message(type, 1, 0, long_lengths[i]);
+        for (size_t k = 0; k < COUNT(sizes); k++)
+            compare_header(bytes, sizes[k]);
+        for (size_t n = length < 18 ? 16 : length - 2; n <= length + 2 && n <= MOST_BYTES; n++)
+            compare_header(bytes, n);
+        for (size_t k = 0; k < COUNT(bits) && length + bits[k] <= MOST_BYTES; k++)
+            compare_header(bytes, length + bits[k]);
+    }
+}
+
+/* Every type; date and time at their limits, with a length that is right and with others; and N = 1 with every kind of
+ * number, which the long form does not make free. */
+static void long_header_edges(void)
+{
+    static const uint32_t some_types[] = { 31, 2, 14 }, lengths[] = { LEAST_LONG, 131071, MOST_LONG };
+    static const uint32_t dates[] = { 0, 1, 65535 }, times[] = { 0, 86399999, 86400000, UINT32_MAX };
+    for (uint32_t type = 0; type <= 255; type++) {
+        compare_header(long_message(type, 1, 0, 16), 16);
+        compare_header(long_message(type, (uint32_t)pick(2), 0, LEAST_LONG), 16);
+        compare_header(long_message(type, (uint32_t)pick(2), 0, LEAST_LONG), LEAST_LONG);
+    }
+    for (size_t t = 0; t < COUNT(some_types); t++) {
+        long_length_edges(some_types[t]);
+        for (size_t i = 0; i < COUNT(dates) * COUNT(times) * COUNT(lengths); i++) {
+            uint32_t length = lengths[i / COUNT(times) / COUNT(dates)];
+            uint32_t date = dates[i / COUNT(times) % COUNT(dates)];
+            compare_header(long_message(some_types[t], date, times[i % COUNT(times)], length), length);
+        }
+    }
+    for (uint32_t number = 0; number <= 65535; number += number < 300 || number > 65500 ? 1 : 163) {
+        compare_header(long_message(31, 1, 0, 65536 + number), 65536 + number);
+        compare_header(long_message(31, 1, 0, 65536 + number), LEAST_LONG);
+    }
+}
+
+static void long_header_by_chance(void)
+{
+    size_t n = any_long();
+    start_from(long_message(31, 1 + (uint32_t)pick(65535), (uint32_t)pick(86400000), (uint32_t)n), n);
+    patch_count = 0;
+    patches_of_header(0, n);
+    cut(n - 1);
+    cut(n + 1);
+    cut(n + 2);
+    damage();
+    ask_header();
+}
+
 static void header_by_chance(void)
 {
+    if (one_in(200)) {
+        long_header_by_chance();
+        return;
+    }
     struct make_segment s = any_segment();
     size_t data = one_in(8) ? 2 * pick(s.type == 31 ? 2000 : 1202) : 2 * pick(20);
     uint8_t bytes[28 + 4096];
@@ -469,6 +596,91 @@ static void long_set_edges(void)
         compare_set(message, message_size, room);
 }
 
+/* A frame beside one in the long form, in a set: the same again, and others that do and don't agree with it. */
+static size_t make_beside(uint8_t *out, const struct make_segment *m, unsigned way, const uint8_t *first, size_t size)
+{
+    struct make_segment s = *m;
+    switch (way) {
+    case 0: memcpy(out, first, size); return size;
+    case 1: return make_segment(out, &s, NULL, 0);
+    case 2: s.date++; return make_segment(out, &s, NULL, 0);
+    case 3: s.channel++; return make_long(out, &s, first + 28, LEAST_LONG - 16);
+    case 4: s.type = 2; return make_segment(out, &s, NULL, 0);
+    case 5: return make_frame(out, 4, 0, NULL, 0);
+    case 6: return make_long(out, &s, first + 28, 2);
+    default: memset(out, 0, 11); return 11;
+    }
+}
+
+/* A radial in the long form with another frame after it and before it. */
+static void long_pair_edges(size_t data)
+{
+    static uint8_t first[28 + MOST_LONG], second[28 + MOST_LONG];
+    struct make_segment m = { 1, 31, 2, 3, 4, 1, 1 };
+    size_t size = make_long(first, &m, any_body(data), data);
+    for (unsigned way = 0; way < 8; way++) {
+        size_t n = make_beside(second, &m, way, first, size);
+        start_from(first, size);
+        memcpy(message + size, second, n);
+        compare_set(message, size + n, data);
+        start_from(second, n);
+        memcpy(message + n, first, size);
+        compare_set(message, n + size, data);
+    }
+}
+
+/* One radial by each limit of both forms, in either form, with room for it and with a byte less. */
+static void long_radial_edges_at(size_t data)
+{
+    struct make_segment s = { 1, 31, 2, 3, 4, 1, 1 };
+    for (unsigned form = 0; form <= 1; form++) {
+        message_size = (form == 0 ? make_segment : make_long)(message, &s, any_body(data), data);
+        compare_set(message, message_size, 0);
+        for (size_t room = data - 1; room <= data + 1; room++)
+            compare_set(message, message_size, room);
+    }
+}
+
+static void long_radial_set_edges(void)
+{
+    static uint8_t bytes[MOST_BYTES];
+    struct make_segment s = { 1, 31, 2, 3, 4, 1, 1 };
+    for (size_t data = 131048; data <= 131058; data++)
+        long_radial_edges_at(data);
+    for (size_t data = 1048556; data <= 1048564; data++)
+        long_radial_edges_at(data);
+    for (unsigned left = 10; left > 0; left--)
+        long_radial_edges_at(any_long() - 16);
+    long_pair_edges(LEAST_LONG - 16);
+    long_pair_edges(MOST_LONG - 16);
+    size_t n = make_long(bytes, &s, any_body(MOST_LONG), LEAST_LONG - 16);
+    start_from(bytes, n);
+    set.n = n;
+    set.frames = 1;
+    set.start[0] = 0;
+    patches_of_set(1);
+    set_room = LEAST_LONG - 16;
+    each_patch(bytes, n, 400, ask_set);
+}
+
+/* A radial in the long form, now and then with a short one beside it, or damaged. */
+static void long_set_by_chance(void)
+{
+    struct make_segment s = any_segment();
+    size_t data = any_long() - 16;
+    s.type = 31;
+    message_size = make_long(message, &s, any_body(data), data);
+    patch_count = 0;
+    patches_of_frame(0, data + 16);
+    patches_of_header(12, data + 16);
+    s.segments = 1;
+    if (one_in(4))
+        message_size += make_segment(message + message_size, &s, any_body(16), 2 * pick(8));
+    else
+        damage();
+    compare_set(message, message_size, room_near(data));
+}
+
 /* Repeats, leaves out, swaps or mixes in a whole frame. */
 static void disorder(void)
 {
@@ -494,6 +706,10 @@ static void disorder(void)
 
 static void set_by_chance(void)
 {
+    if (one_in(300)) {
+        long_set_by_chance();
+        return;
+    }
     uint32_t segments = 1 + (uint32_t)(one_in(40) ? pick(128) : pick(5));
     make_set(segments, BY_CHANCE, 1);
     patches_of_set(6);
@@ -541,14 +757,14 @@ static size_t any_kept(uint8_t *out, size_t data)
         s.segments = 1;
     }
     fill_any(out + 28, data);
-    size_t n = make_segment(out, &s, out + 28, data);
+    size_t n = (data + 16 < LEAST_LONG ? make_segment : make_long)(out, &s, out + 28, data);
     put(out + 4, 4, one_in(2) ? 0 : chance(&dice));
     return n;
 }
 
 static void add_kept(size_t data)
 {
-    static uint8_t bytes[28 + 131052];
+    static uint8_t bytes[12 + MOST_LONG];
     add(bytes, any_kept(bytes, data));
 }
 
@@ -778,6 +994,72 @@ static void size_edges(void)
         }
 }
 
+/* What is broken in a radial in the long form: nothing; its length, by a few bytes or changed about; the frame's size;
+ * type, date and time; the size that says which form it is; the segment fields of a short one; the kind. */
+static const struct patch long_breaks[] = { { 4, 4, 7 },           { 24, 4, 2 },       { 24, 4, 131068 },
+                                            { 24, 4, 131071 },     { 24, 4, 131072 },  { 24, 4, 1048576 },
+                                            { 24, 4, 0xFFFE0001 }, { 8, 4, 131068 },   { 8, 4, 131069 },
+                                            { 8, 4, 131072 },      { 8, 4, 1048574 },  { 8, 4, 1048577 },
+                                            { 15, 1, 2 },          { 15, 1, 14 },      { 18, 2, 0 },
+                                            { 20, 4, 86400000 },   { 12, 2, 65534 },   { 24, 4, 65537 },
+                                            { 3, 1, 4 } };
+
+/* A radial in the long form after a few bytes and a short frame, and before these; with frames in its body, which are
+ * found where it isn't kept itself. */
+static void make_long_recording(size_t data, const struct patch *broken)
+{
+    static uint8_t bytes[28 + MOST_LONG];
+    struct make_segment s = { 1, 31, 2, 3, 4, 1, 1 };
+    memset(bytes, (int)pick(3), sizeof bytes);
+    make_long(bytes, &s, bytes + 28, data);
+    any_kept(bytes + 28 + pick(60), 2);
+    any_kept(bytes + 28 + data / 2, 4);
+    any_kept(bytes + 28 + data - 30, 2);
+    put(bytes + broken->at, broken->wide, broken->value);
+    message_size = 0;
+    add((const uint8_t *)"\0\0\0", pick(4));
+    add_kept(0);
+    add(bytes, 28 + data);
+    add((const uint8_t *)"\2\0\0", pick(4));
+    add_kept(2);
+}
+
+/* Asks with room that just suffices, and with a little less of one. */
+static void ask_long_salvage(void)
+{
+    struct bytewise r = taken();
+    compare_salvage(message, message_size, r.length, 2 * r.runs);
+    if (r.runs == 0 || one_in(2))
+        compare_salvage(message, message_size, r.length - 1, 2 * r.runs);
+    else
+        compare_salvage(message, message_size, r.length, 2 * r.runs - 1);
+}
+
+static void long_salvage_edges(void)
+{
+    static const size_t cuts[] = { 1, 2, 58, 59, 60, 61, 62, 1000, 65536 };
+    for (size_t i = 0; i < COUNT(long_breaks); i++) {
+        make_long_recording(LEAST_LONG - 16, &long_breaks[i]);
+        ask_salvage();
+        make_long_recording((i % 2 == 0 ? MOST_LONG : any_long()) - 16, &long_breaks[i]);
+        ask_long_salvage();
+    }
+    for (size_t i = 0; i < COUNT(cuts); i++) {
+        make_long_recording((i % 3 == 0 ? MOST_LONG : LEAST_LONG) - 16, &long_breaks[0]);
+        message_size -= cuts[i];
+        ask_long_salvage();
+    }
+    for (size_t data = MOST_LONG - 18; data <= MOST_LONG - 14; data++) {
+        make_long_recording(data, &long_breaks[0]);
+        ask_long_salvage();
+    }
+    message_size = 0;
+    add_kept(MOST_LONG - 16);
+    add_kept(MOST_LONG - 16);
+    compare_salvage(message, message_size, message_size, 0);
+    compare_salvage(message, message_size, message_size - 1, 0);
+}
+
 static void salvage_edges(void)
 {
     static uint8_t bytes[MOST_BYTES];
@@ -791,6 +1073,7 @@ static void salvage_edges(void)
     long_run_edges();
     most_runs_edges();
     size_edges();
+    long_salvage_edges();
     for (uint32_t segments = 1; segments <= 3; segments++) {
         make_set(segments, 2 * (int)segments, 0);
         memcpy(bytes, message, set.n);
@@ -841,7 +1124,10 @@ static void salvage_by_chance(void)
 {
     message_size = 0;
     for (uint64_t left = pick(8); left > 0; left--) {
-        add_kept(one_in(200) ? 2 * pick(65527) : one_in(8) ? 2 * pick(1201) : 2 * pick(20));
+        add_kept(one_in(2000)  ? any_long() - 16
+                 : one_in(200) ? 2 * pick(65527)
+                 : one_in(8)   ? 2 * pick(1201)
+                               : 2 * pick(20));
         if (one_in(4))
             add_other();
     }
@@ -853,16 +1139,6 @@ static void salvage_by_chance(void)
 }
 
 /* ---- Writing ---- */
-
-static const uint8_t *any_body(size_t n)
-{
-    static uint8_t bytes[MOST_BYTES];
-    static int filled;
-    if (!filled)
-        fill(&dice, bytes, sizeof bytes);
-    filled = 1;
-    return n == 0 ? NULL : bytes + pick(MOST_BYTES - n);
-}
 
 static size_t written(uint32_t type, size_t n)
 {
@@ -876,6 +1152,45 @@ static void write_to_rooms(uint32_t type, uint32_t date, uint32_t ms, size_t n)
     for (size_t i = 0; i < COUNT(rooms); i++)
         compare_write((uint8_t)pick(256), (uint8_t)type, (uint16_t)pick(65536), (uint16_t)date, ms, any_body(n), n,
                       rooms[i]);
+}
+
+/* Writes a message, then reads its first header, joins it and salvages it. The body comes back. */
+static void write_and_read(uint32_t type, size_t n)
+{
+    const uint8_t *body = any_body(n);
+    size_t length = written(type, n);
+    if (compare_write(3, (uint8_t)type, (uint16_t)pick(65536), 16000, 1000, body, n, length) != length) {
+        fprintf(stderr, "%zu bytes of type %u are not written\n", n, (unsigned)type);
+        exit(2);
+    }
+    start_from(compared_output(), length);
+    compare_header(message + 12, get(message + 8, 4));
+    compare_salvage(message, message_size, length, 0);
+    compare_set(message, message_size, n - 1);
+    compare_set(message, message_size, n);
+    if (memcmp(compared_output(), body, n) != 0) {
+        fprintf(stderr, "%zu bytes of type %u are not read back\n", n, (unsigned)type);
+        exit(2);
+    }
+}
+
+/* A radial's body by the limits of both forms, and any other's by its own. */
+static void long_write_edges(void)
+{
+    for (size_t n = 131048; n <= 131060; n++)
+        write_to_rooms(31, 7, 9, n);
+    for (size_t n = 1048554; n <= 1048566; n++)
+        write_to_rooms(31, 7, 9, n);
+    for (size_t n = 307196; n <= 307204; n++)
+        for (uint32_t type = 31; type <= 33; type++)
+            write_to_rooms(type == 33 ? 18 : type, 7, 9, n);
+    for (size_t n = 131048; n <= 131060; n += 2)
+        write_and_read(31, n);
+    for (size_t n = 1048554; n <= 1048560; n += 2)
+        write_and_read(31, n);
+    for (unsigned left = 10; left > 0; left--)
+        write_and_read(31, any_long() - 16);
+    write_and_read(18, 307200);
 }
 
 static void write_edges(void)
@@ -904,6 +1219,10 @@ static void write_by_chance(void)
     uint32_t date = one_in(12) ? 0 : (uint32_t)pick(65536);
     uint32_t ms = (uint32_t)(one_in(12) ? 86399990 + pick(20) : one_in(12) ? chance(&dice) : pick(86400000));
     size_t n = one_in(60) ? pick(320000) : one_in(6) ? pick(6000) : pick(60);
+    if (one_in(500)) {
+        type = 31;
+        n = any_long() - 16 + pick(3);
+    }
     if (!one_in(12))
         n &= ~(size_t)1;
     compare_write((uint8_t)pick(256), (uint8_t)type, (uint16_t)pick(65536), (uint16_t)date, ms, any_body(n), n,
@@ -1624,11 +1943,14 @@ static void edges(void)
     frame_edges();
     long_frame_edges();
     header_edges();
+    long_header_edges();
     lone_number_edges();
     set_edges();
     long_set_edges();
+    long_radial_set_edges();
     salvage_edges();
     write_edges();
+    long_write_edges();
     radial_edges();
     full_radial_edges();
     long_radial_edges();

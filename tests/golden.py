@@ -23,6 +23,10 @@ STATUS = [
 ]
 MAP_CODES = ["bypass filter", "bypass map in control", "force filter"]
 PERMITTED = {*range(1, 14), 15, 18, 31}
+# The most bytes of a frame's body; the size that says that a header has the long form, and the fewest bytes of one.
+MOST_BODY = 1048576
+LONG_SIZE = 65535
+LEAST_LONG = 131070
 
 
 def single(x):
@@ -57,6 +61,18 @@ def frames(recording):
         at += 12 + size
 
 
+def size_fields(size):
+    """Size, N and number in the header of a radial of that many bytes: the long form where the short one cannot hold it."""
+    return (LONG_SIZE, *divmod(size, 65536)) if size >= LEAST_LONG else (size // 2, 1, 1)
+
+
+def lengthened(message, size):
+    """A radial's message with zeros after it, up to that many bytes."""
+    halfwords, *fields = size_fields(size)
+    head = struct.pack(">H", halfwords) + message[2:12] + struct.pack(">HH", *fields)
+    return head + message[16:] + bytes(size - len(message))
+
+
 def moments(body):
     """Each moment of a radial: name, first range, interval, word size, scale, offset and codes."""
     (count,) = struct.unpack_from(">H", body, 30)
@@ -71,9 +87,11 @@ def moments(body):
 
 def frame_lines(recording):
     for place, message in frames(recording):
-        _, _, kind, sequence, days, ms, segments, number = struct.unpack_from(">HBBHHIHH", message)
+        size, _, kind, sequence, days, ms, segments, number = struct.unpack_from(">HBBHHIHH", message)
+        form = ", long form" if size == LONG_SIZE else ""
+        segments = 1 if form else segments
         yield (
-            f"{place:10}  data, {len(message)} bytes, type {kind}, sequence {sequence}, {stamp(days, ms)}, "
+            f"{place:10}  data, {len(message)} bytes{form}, type {kind}, sequence {sequence}, {stamp(days, ms)}, "
             f"segment {1 if segments == 1 else number} of {segments}\n"
         )
 
@@ -191,11 +209,16 @@ def passing(recording, at):
         return 0
     kind, _, size = struct.unpack_from(">III", recording, at)
     halfwords, _, message, _, days, ms, segments, number = struct.unpack_from(">HBBHHIHH", recording, at + 12)
-    broken = (
-        kind != 2 or size > min(left, 131068) or size != 2 * halfwords or not 8 <= halfwords <= 65534
-        or message not in PERMITTED or not 1 <= segments <= 128 or segments > 1 and not 1 <= number <= segments
-        or segments > 1 and message == 31 or halfwords > 1208 and message != 31 or days < 1 or ms > 86399999
-    )
+    broken = kind != 2 or size > min(left, MOST_BODY) or message not in PERMITTED or days < 1 or ms > 86399999
+    if halfwords == LONG_SIZE:
+        length = 65536 * segments + number
+        broken = broken or message != 31 or length % 2 or not LEAST_LONG <= length <= MOST_BODY or size != length
+    else:
+        broken = (
+            broken or halfwords < 8 or size != 2 * halfwords or not 1 <= segments <= 128
+            or segments > 1 and not 1 <= number <= segments or segments > 1 and message == 31
+            or halfwords > 1208 and message != 31
+        )
     return 0 if broken else 12 + size
 
 

@@ -66,6 +66,14 @@ size_t make_segment(uint8_t *out, const struct make_segment *s, const uint8_t *d
     return 28 + n;
 }
 
+size_t make_long(uint8_t *out, const struct make_segment *s, const uint8_t *data, size_t n)
+{
+    make_segment(out, s, data, n);
+    put(out + 12, 2, 65535);
+    put(out + 24, 4, 16 + n);
+    return 28 + n;
+}
+
 static size_t make_moment(uint8_t *p, const struct make_moment *m)
 {
     put(p, 4, m->name);

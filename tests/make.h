@@ -30,6 +30,9 @@ struct make_segment {
 };
 size_t make_segment(uint8_t *out, const struct make_segment *s, const uint8_t *data, size_t n);
 
+/* The same in a header's long form, of any type and length; `segments` and `number` are not used. */
+size_t make_long(uint8_t *out, const struct make_segment *s, const uint8_t *data, size_t n);
+
 /* A radial's body. Blocks follow each other, each after its gap; `tail` is bytes past the radial length. */
 struct make_moment {
     uint32_t name, gates, word, scale, offset;

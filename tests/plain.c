@@ -4,18 +4,20 @@
 
 enum {
     FRAME_HEADER = 12,
-    SESSION_LIMIT = 131068,
+    SESSION_LIMIT = 1048576,
     KINDS = 5,
     DATA = 2,
     MESSAGE_HEADER = 16,
     LEAST_SIZE = 8,
-    MOST_SIZE = 65534,
+    LONG_SIZE = 65535, /* the size that says: the segment fields hold the length, in bytes */
+    LEAST_LONG = 2 * LONG_SIZE,
+    MOST_LONG = SESSION_LIMIT,
     MOST_SEGMENT_SIZE = 1208,
     MOST_MS = 86399999,
     MOST_SEGMENTS = 128,
     SEGMENT_DATA = 2400,
     LONGEST_BODY = 307200,
-    LONGEST_RADIAL = 131052,
+    LONGEST_RADIAL = MOST_LONG - MESSAGE_HEADER,
     RADIAL = 31,
     RADIAL_HEADER = 68,
     LEAST_BLOCKS = 4,
@@ -34,6 +36,9 @@ enum {
 
 /* A bit for each type: 1 to 13, 15, 18, 31. */
 #define PERMITTED_TYPES (UINT32_C(0x3FFE) | 1u << 15 | 1u << 18 | 1u << 31)
+
+/* A function that common input does not reach: kept out of the way of the code that calls it. */
+#define COLD __attribute__((noinline, cold))
 
 #define NAME(a, b, c, d) ((uint32_t)(a) << 24 | (uint32_t)(b) << 16 | (uint32_t)(c) << 8 | (uint32_t)(d))
 
@@ -107,7 +112,13 @@ static inline int segment_rule_broken(const plain_header_answer *h)
     return h->type == RADIAL ? h->segments != 1 : h->size > MOST_SEGMENT_SIZE;
 }
 
-static inline uint32_t read_header(const uint8_t *m, size_t len, plain_header_answer *h)
+static inline int time_broken(uint32_t date, uint32_t ms)
+{
+    return ms > MOST_MS || date == 0;
+}
+
+/* The short form: any size but LONG_SIZE. */
+static inline uint32_t read_short_header(const uint8_t *m, size_t len, plain_header_answer *h)
 {
     if (len < MESSAGE_HEADER)
         return 4;
@@ -119,19 +130,54 @@ static inline uint32_t read_header(const uint8_t *m, size_t len, plain_header_an
     h->ms = get32(m + 8);
     h->segments = get16(m + 12);
     h->number = h->segments == 1 ? 1 : get16(m + 14); /* a lone segment's stored number means nothing (K1) */
-    if (h->size < LEAST_SIZE || h->size > MOST_SIZE || len != 2 * (size_t)h->size)
+    if (h->size >= LONG_SIZE)
+        return 5;
+    if (h->size < LEAST_SIZE || len != 2 * (size_t)h->size)
         return 5;
     if (!permitted(h->type))
         return 6;
     if (segment_rule_broken(h))
         return 7;
-    return h->date == 0 || h->ms > MOST_MS ? 8 : 0;
+    return time_broken(h->date, h->ms) ? 8 : 0;
 }
 
+/* The checks of the long form, whose length is in the segment fields. Only a radial may have it. */
+COLD static uint32_t long_refusal(const uint8_t *m, size_t len)
+{
+    uint32_t type = m[3], length = get32(m + 12);
+    if (type != RADIAL)
+        return permitted(type) ? 7 : 6;
+    if (length < LEAST_LONG || length > MOST_LONG || length % 2 != 0 || length != len)
+        return 5;
+    return time_broken(get16(m + 6), get32(m + 8)) ? 8 : 0;
+}
+
+/* Both forms: the long one, which is one segment, is tried only where the short one is refused. */
+static inline uint32_t read_header(const uint8_t *m, size_t len, plain_header_answer *h)
+{
+    uint32_t refusal = read_short_header(m, len, h);
+    if (refusal == 5 && h->size == LONG_SIZE) {
+        h->size = (uint32_t)(len / 2);
+        h->segments = h->number = 1;
+        return long_refusal(m, len);
+    }
+    return refusal;
+}
+
+COLD static plain_header_answer long_header(const uint8_t *m, size_t len)
+{
+    plain_header_answer h = { 0 };
+    uint32_t refusal = read_header(m, len, &h);
+    return refusal == 0 ? h : (plain_header_answer){ .refusal = refusal };
+}
+
+/* The long form has a function of its own here: read with the short one it would take that one's registers. */
 plain_header_answer plain_header(const uint8_t *msg, size_t len)
 {
     plain_header_answer h = { 0 };
-    uint32_t refusal = read_header(msg, len, &h);
+    if (len >= MESSAGE_HEADER && get16(msg) == LONG_SIZE)
+        return long_header(msg, len);
+    uint32_t refusal = read_short_header(msg, len, &h);
     return refusal == 0 ? h : (plain_header_answer){ .refusal = refusal };
 }
 
@@ -273,7 +319,7 @@ static inline uint32_t write_refusal(uint8_t type, uint16_t date, uint32_t ms, s
 {
     if (!permitted(type))
         return 6;
-    if (date == 0 || ms > MOST_MS)
+    if (time_broken(date, ms))
         return 8;
     if (len % 2 != 0)
         return 25;
@@ -294,6 +340,13 @@ static void put_headers(uint8_t *p, uint8_t channel, uint8_t type, uint16_t sequ
     put16(p + 24, segments);
 }
 
+/* Writes the long form over the short one in a frame's headers. */
+static void put_long(uint8_t *p, uint32_t size)
+{
+    put16(p + 12, LONG_SIZE);
+    put32(p + 24, size);
+}
+
 plain_written_answer plain_write(uint8_t channel, uint8_t type, uint16_t sequence, uint16_t date, uint32_t ms,
                                  const uint8_t *body, size_t len, uint8_t *out, size_t out_len)
 {
@@ -307,6 +360,7 @@ plain_written_answer plain_write(uint8_t channel, uint8_t type, uint16_t sequenc
         return (plain_written_answer){ .refusal = 13 };
     uint8_t head[FRAME_HEADER + MESSAGE_HEADER];
     put_headers(head, channel, type, sequence, date, ms, segments);
+    uint8_t *first = out;
     for (size_t number = 1, at = 0; number <= segments; number++, at += most) {
         size_t size = len - at < most ? len - at : most;
         put32(head + 8, (uint32_t)size + MESSAGE_HEADER);
@@ -317,6 +371,8 @@ plain_written_answer plain_write(uint8_t channel, uint8_t type, uint16_t sequenc
             memcpy(out + headers, body + at, size);
         out += headers + size;
     }
+    if (type == RADIAL && len + MESSAGE_HEADER >= LEAST_LONG)
+        put_long(first, (uint32_t)len + MESSAGE_HEADER);
     return (plain_written_answer){ 0, len + headers * segments };
 }
 

@@ -17,16 +17,20 @@ from asked import DAMAGED, PROGRAM, ROOT, SAMPLE, altered, fail, frame, run, wan
 ACCOUNT = (ROOT / "tests/golden/salvage").read_bytes()
 # How much of a file the program reads at a time, and the bytes of the longest frame.
 PIECE = int(re.search(r"AT_ONCE: usize = (\d+);", (ROOT / "crates/ulmarzhe_text/src/window.rt").read_text())[1])
-LONGEST = 131080
-# Where a piece that is read ends, and where the longest frame no longer ends in it.
-EDGES = (PIECE - LONGEST, PIECE, 2 * PIECE - LONGEST, 2 * PIECE)
+LONGEST = 12 + golden.MOST_BODY
+# The shortest frame in the long form.
+LEAST_LONG = 12 + golden.LEAST_LONG
+# A place from which on the longest frame no longer ends in what was read, and two of these and two where a piece ends.
+LAST = PIECE + -LONGEST % PIECE
+EDGES = (PIECE, LAST, 3 * PIECE, 2 * PIECE + LAST)
 AROUND = range(-34, 35)
 
 
 def sound(size, fill=b"\7"):
     """A data frame of that many bytes, an even number."""
     body = fill * (size // len(fill) + 1)
-    return frame(2, struct.pack(">HBBHHIHH", size // 2 - 6, 8, 31, 5, 16000, 1000, 1, 1) + body[: size - 28])
+    halfwords, *fields = golden.size_fields(size - 12)
+    return frame(2, struct.pack(">HBBHHIHH", halfwords, 8, 31, 5, 16000, 1000, *fields) + body[: size - 28])
 
 
 def sound_up_to(size):
@@ -55,7 +59,7 @@ def want_salvaged(scratch, recorded, *over):
 def at_edges(scratch):
     """A frame alone, and a run between frames, at each place around each edge."""
     for away in AROUND:
-        alone = bytearray(b"\7" * (2 * PIECE + 1000))
+        alone = bytearray(b"\7" * (EDGES[-1] + LONGEST + 1000))
         among, length = b"\7" * (away % 2), 1 + away % 40
         for edge in EDGES:
             place = edge + away
@@ -64,19 +68,21 @@ def at_edges(scratch):
             place -= (place - len(among)) % 2
             among += sound_up_to(place - len(among)) + b"\7" * length
         want_salvaged(scratch, bytes(alone))
-        want_salvaged(scratch, among + sound(5000))
+        want_salvaged(scratch, among + sound(5000) + b"\7" * LONGEST)
     return f"a frame and a run at each of {len(AROUND) * len(EDGES)} places around the edges of windows"
 
 
 def long_frames(scratch):
     """The longest frame, around edges too. The frames in its body count only where it is cut off or not sound."""
-    whole = sound(LONGEST, sound(34))
+    inner = sound(262)
+    whole = sound(LONGEST, inner)
     unsound = altered(whole, b18=b"\0\0")
     endings = [
-        whole, unsound, whole[:-1], sound(LONGEST - 2, sound(34)), whole + whole,
+        whole, unsound, whole[:-1], sound(LONGEST - 2, inner), whole + whole,
         whole[:-1] + b"\7" + unsound + b"\7" + whole,
+        sound(LEAST_LONG - 2, inner) + sound(LEAST_LONG, inner) + altered(sound(LEAST_LONG, inner), b27=b"\xfc"),
     ]
-    places = [max(0, edge + away) for edge in (0, *EDGES[:3]) for away in range(-2, 3)]
+    places = [max(0, edge + away) for edge in (0, PIECE, LAST, LAST + PIECE) for away in range(-2, 3)]
     for place, ending in itertools.product(places, endings):
         want_salvaged(scratch, b"\7" * place + ending)
     return f"{len(places) * len(endings)} recordings with the longest frame"
@@ -101,8 +107,8 @@ def by_chance(scratch):
     for _ in range(25):
         recorded = b""
         while len(recorded) < 700000:
-            long = 2 * chance.choice((14, 15, 40, 1222, 20000, 65539, 65540))
-            whole = sound(long, sound(2 * chance.randint(14, 60)))
+            long = 2 * chance.choice((14, 15, 40, 1222, 20000, 65539, 65540, 65541, chance.randint(65541, LONGEST // 2)))
+            whole = sound(long, sound(2 * (chance.randint(14, 60) + long // 4000)))
             recorded += chance.choice((
                 whole, whole, whole[: chance.randrange(long)], whole[chance.randrange(30) :], frame(4, b""),
                 altered(whole, **{f"b{chance.randrange(28)}": chance.randbytes(1)}),

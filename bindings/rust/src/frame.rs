@@ -48,7 +48,7 @@ pub struct Frame<'a> {
 
 /// Reads the session frame at a place of a buffer; `None` at its end, which is a place equal to the length.
 ///
-/// The body isn't looked into. Refused as 1, 2, 3.
+/// The body, of at most 1,048,576 bytes, isn't looked into. Refused as 1, 2, 3.
 ///
 /// ```
 /// assert_eq!(ulm::frame(&[], 0), Ok(None));
@@ -101,7 +101,7 @@ pub const HEADER_SIZE: usize = 16;
 /// The header of a message segment.
 #[derive(Clone, Copy, Debug, PartialEq, Eq)]
 pub struct Header {
-    /// Size in halfwords of 2 bytes, with the [`HEADER_SIZE`] bytes of the header.
+    /// Size in halfwords of 2 bytes, with the header's [`HEADER_SIZE`] bytes: half of the message's, in both forms.
     pub size: u32,
     /// Channel, as stored.
     pub channel: u8,
@@ -113,7 +113,7 @@ pub struct Header {
     pub date: u16,
     /// Milliseconds of the day, at most 86,399,999.
     pub ms: u32,
-    /// Number of segments N, 1 to 128.
+    /// Number of segments N, 1 to 128; 1 in the long form.
     pub segments: u16,
     /// Segment number, 1 to N; where N is 1 it is 1, whatever was stored.
     pub number: u16,
@@ -137,7 +137,8 @@ impl Header {
 
 /// Reads the header of a message segment: the first [`HEADER_SIZE`] bytes of a data frame's whole body.
 ///
-/// Refused as 4 to 8.
+/// A stored size of 65,535 says that the header has the long form, which type 31 alone may have: the fields of N and of
+/// the segment number together hold the message's length in bytes, 131,070 to 1,048,576. Refused as 4 to 8.
 pub fn header(message: &[u8]) -> Result<Header, Refusal> {
     // SAFETY: the pointer and the length are a slice's.
     Header::of(unsafe { raw::ulm_header(message.as_ptr(), message.len()) })
@@ -234,13 +235,14 @@ pub struct Message<'a> {
     pub date: u16,
     /// Milliseconds of the day, at most 86,399,999.
     pub ms: u32,
-    /// The body: an even number of bytes, at most 307,200, or 131,052 for type 31.
+    /// The body: an even number of bytes, at most 307,200, or 1,048,560 for type 31.
     pub body: &'a [u8],
 }
 
 /// Writes a message as data frames; gives the part of the output that was written.
 ///
-/// The body is cut into segments of 2,400 bytes; type 31 always makes one frame. Refused as 6, 8, 25, 26, 13.
+/// The body is cut into segments of 2,400 bytes; type 31 always makes one frame, with the long form of the header (see
+/// [`header`]) where the short one cannot hold the length. Refused as 6, 8, 25, 26, 13.
 ///
 /// ```
 /// let request = ulm::Message { channel: 0, message_type: 9, sequence: 5, date: 16_000, ms: 1_000, body: &[0, 129] };

@@ -34,11 +34,11 @@ macro_rules! refusals {
 refusals! {
     1 FRAME_CUT_OFF "fewer than 12 bytes left for a frame, or its body runs past the end";
     2 SESSION_KIND "session kind above 4";
-    3 SESSION_BODY "session body above 131,068 bytes";
+    3 SESSION_BODY "session body above 1,048,576 bytes";
     4 MESSAGE_SHORT "message under 16 bytes";
-    5 SIZE "size under 8 or above 65,534 halfwords, or not the message's length";
+    5 SIZE "size under 8 halfwords or not half of the message's bytes, or, at size 65,535 of type 31, a length in the segment fields that is odd, not 131,070 to 1,048,576 or not the message's";
     6 TYPE "message type that is not permitted";
-    7 SEGMENT "segment count not 1 to 128, segment number not 1 to the count where that is above 1, a radial in more than one segment, or a segment above 1,208 halfwords";
+    7 SEGMENT "segment count not 1 to 128, segment number not 1 to the count where that is above 1, a radial in more than one segment, or a size above 1,208 halfwords of another type, 65,535 included";
     8 DATE_OR_TIME "date 0, or time of day past 86,399,999 milliseconds";
     9 NOT_DATA "a frame of the set carries no data";
     10 DISAGREES "a frame disagrees with the set's first";
@@ -57,7 +57,7 @@ refusals! {
     23 LENGTH "body or list of message 8, 9 or 15 too short or too long";
     24 FIELD "a field of message 8, 9 or 15 out of range";
     25 ODD_BODY "body to write has an odd length";
-    26 LONG_BODY "body to write above 307,200 bytes, or above 131,052 for a radial";
+    26 LONG_BODY "body to write above 307,200 bytes, or above 1,048,560 for a radial";
 }
 
 impl Refusal {

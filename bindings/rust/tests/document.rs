@@ -1,4 +1,4 @@
-//! The worked cases of the rules, recordings salvaged, two maps compared, and what the wrapper adds: parts with
+//! The worked cases of the rules, radials in both forms of a header, recordings salvaged, two maps compared, and what the wrapper adds: parts with
 //! lifetimes, refusals with words.
 
 use ulm::{Block, Gate, Kind, Message, Name, Refusal};
@@ -202,6 +202,55 @@ fn as_many_runs_as_there_can_be() {
         let recording = [[&[9][..], &frame].concat().repeat(frames), vec![9]].concat();
         assert_eq!(2 * salvage(&recording).1.len(), ulm::runs_room(recording.len()));
     }
+}
+
+/// A body by its last byte, written as a radial, the rest of it zeros.
+fn radial_of(length: usize) -> Result<Vec<u8>, Refusal> {
+    let body = with(&vec![0; length], length - 1, 9);
+    let mut out = vec![7; length + 28];
+    ulm::write(&Message { message_type: 31, body: &body, ..request() }, &mut out).map(<[u8]>::to_vec)
+}
+
+/// The size, and the segment fields as one number, as they stand in a frame.
+fn stored(frame: &[u8]) -> (u16, u32) {
+    let fields = frame[24..28].try_into().unwrap();
+    (u16::from_be_bytes([frame[12], frame[13]]), u32::from_be_bytes(fields))
+}
+
+#[test]
+fn radials_in_both_forms_come_back() {
+    let short = |length: usize| ((length / 2 + 8) as u16, 0x1_0001);
+    let long = |length: usize| (0xFFFF, length as u32 + 16);
+    let lengths = [(2, short(2)), (131_052, short(131_052)), (131_054, long(131_054)), (1_048_560, long(1_048_560))];
+    for (length, fields) in lengths {
+        let frame = radial_of(length).unwrap();
+        assert_eq!((frame.len(), stored(&frame)), (length + 28, fields));
+        let read = ulm::frame(&frame, 0).unwrap().unwrap();
+        assert_eq!((read.body.len(), read.next), (length + 16, frame.len()));
+        let header = ulm::header(read.body).unwrap();
+        assert_eq!((header.size as usize, header.segments, header.number), (length / 2 + 8, 1, 1));
+        let mut out = vec![7; length];
+        assert_eq!(ulm::set(&frame, &mut out[1..]), Err(Refusal::OUTPUT_SMALL));
+        let set = ulm::set(&frame, &mut out).unwrap();
+        assert_eq!((set.header, set.body), (header, &frame[28..]));
+        assert_eq!(salvage(&frame), (frame, vec![]));
+    }
+    assert_eq!(radial_of(1_048_562), Err(Refusal::LONG_BODY));
+}
+
+#[test]
+fn long_radials_refused() {
+    let frame = radial_of(131_054).unwrap();
+    let refused = |at, value| ulm::header(&with(&frame, at, value)[12..]).unwrap_err();
+    // The length, odd and with other high bytes; the type, another one that is permitted and one that is not.
+    assert_eq!((refused(27, 0xFD), refused(24, 1), refused(25, 2)), (Refusal::SIZE, Refusal::SIZE, Refusal::SIZE));
+    assert_eq!((refused(15, 2), refused(15, 14)), (Refusal::SEGMENT, Refusal::TYPE));
+    assert_eq!(ulm::header(&frame[12..131_080]), Err(Refusal::SIZE));
+    assert_eq!(ulm::set(&frame.repeat(2), &mut vec![7; 300_000]), Err(Refusal::ALREADY_SEEN));
+    // A frame's limit comes before its end.
+    let head = |size: u32| [&[0, 0, 0, 2, 0, 0, 0, 0], &size.to_be_bytes()[..]].concat();
+    assert_eq!(ulm::frame(&head(1_048_576), 0), Err(Refusal::FRAME_CUT_OFF));
+    assert_eq!(ulm::frame(&head(1_048_577), 0), Err(Refusal::SESSION_BODY));
 }
 
 #[test]
