@@ -12,7 +12,7 @@ use Rattle.frame.specs.Session.{headSize}
 use Rattle.header.specs.declared.Header.{Header}
 use Rattle.header.specs.declared.HeaderAnswer.{HeaderAnswer}
 use Rattle.header.specs.declared.HeaderAnswer.the-variants.{Read, Refused}
-use Rattle.header.specs.Header.{storedIn, headerIn, headerOf}
+use Rattle.header.specs.Header.{storedIn, countOf, headerIn, headerOf}
 use Rattle.header.specs.Told.{tellHeader}
 use Rattle.header.specs.Theorems.{Lone, numberPlace, ButTwoBytes, loneChecks}
 use Rattle.header_rule.proofs.RuleLaws.{number-lone, number-other}
@@ -35,15 +35,15 @@ one : (b : List ℕ) (h : Header) → headerOf b ≡ given h → h .segments ≡
 unfolding headerIn
 one b h e n =
     let q : headerIn b ≡ h = header-given b h e .1 in
-    sym (ap (λ (x : Header). x .number) q) ∙ number-lone (storedIn b .segments) (storedIn b .number)
+    sym (ap (λ (x : Header). x .number) q) ∙ number-lone (countOf (storedIn b)) (storedIn b .number)
     (ap (λ (x : Header). x .segments) q ∙ n)
 
 others : (b : List ℕ) (h : Header) → headerOf b ≡ given h → (h .segments ≡ 1 → ⊥) → h .number ≡ storedIn b .number
 unfolding headerIn
 others b h e n =
     let q : headerIn b ≡ h = header-given b h e .1 in
-    let other : storedIn b .segments ≡ 1 → ⊥ = λ x. n (sym (ap (λ (x : Header). x .segments) q) ∙ x) in
-    sym (ap (λ (x : Header). x .number) q) ∙ number-other (storedIn b .segments) (storedIn b .number) other
+    let other : countOf (storedIn b) ≡ 1 → ⊥ = λ x. n (sym (ap (λ (x : Header). x .segments) q) ∙ x) in
+    sym (ap (λ (x : Header). x .number) q) ∙ number-other (countOf (storedIn b)) (storedIn b .number) other
 
 -- ---- what is accepted
 accepted : (b : List ℕ) (r : HeaderAnswer) → Lone b → tellHeader r ≡ headerOf b
@@ -67,7 +67,7 @@ lone = record {
   one = λ κs message h s l. one (now message) h (sym l);
   others = λ κs message h s l. others (now message) h (sym l);
   accepted = λ κs message r s a l. accepted (now message) r a l;
-  outside = λ κs message r s other h out l. header-apart r (Refused 7) (l ∙ number-outside (now message) other h out);
+  outside = λ κs message r s short other h out l. header-apart r (Refused 7) (l ∙ number-outside (now message) short other h out);
   header = λ κs κs′ message message′ r r′ s s′ a but l l′.
       header-apart r r′ (l ∙ lone-header (now message) (now message′) a but ∙ sym l′);
   headerForC = λ κs κs′ message message′ r r′ s s′ a but l l′. l ∙ ap headerFace (lone-header (now message) (now message′) a but) ∙ sym l′;
@@ -81,11 +81,11 @@ lone = record {
         l .answers ∙ ap (λ (o : Outcome (List ℕ) SetSays). setFace (o .answer)) e ∙ sym (l′ .answers),
         l .leaves ∙ ap (λ (o : Outcome (List ℕ) SetSays). o .output) e ∙ sym (l′ .leaves),
       );
-  written = λ κs given body out size g b after l one.
+  written = λ κs given body out size g b after l one short.
       ap (λ (x : List ℕ). num 2 x (headSize + numberPlace)) (l .leaves) ∙ lone-number given (now body) (now out) size
-      (sym (l .answers)) one;
-  writtenForC = λ κs channel kind sequence date ms body out r c k q d m b after l z one.
+      (sym (l .answers)) one short;
+  writtenForC = λ κs channel kind sequence date ms body out r c k q d m b after l z one short.
       let g = givenBy channel kind sequence date ms in
       let v = wrote-for-c g (now body) (now out) r (l .answers) z in
-      ap (λ (x : List ℕ). num 2 x (headSize + numberPlace)) (l .leaves) ∙ lone-number g (now body) (now out) (v .size) (v .is) one;
+      ap (λ (x : List ℕ). num 2 x (headSize + numberPlace)) (l .leaves) ∙ lone-number g (now body) (now out) (v .size) (v .is) one short;
 }

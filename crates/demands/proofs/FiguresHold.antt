@@ -7,7 +7,7 @@ use mathlib.Core.Bool.{Bool, true, false}
 use mathlib.Core.List.{List, [], _∷_, _++_, List·Memᴰ, List·Memᴰ·cases-cons, List·Memᴰ·not-nil}
 use lib.Dec.{eqb}
 use lib.ListN.{length, drop, replicate, length-append, length-replicate}
-use borrow.Author.Tests.{eqb-true}
+use borrow.Author.Tests.{eqb-true, eqb-false}
 use denote.Ref.{now}
 use Rattle.wire.specs.Numbers.{num, Octets}
 use Rattle.wire.specs.Checks.{pick, among, Check, AllHold}
@@ -111,7 +111,7 @@ within s m = go (eqb (s .header .kind) radialType) refl
   where
     go : (t : Bool) → eqb (s .header .kind) radialType ≡ t → s .long .0 ≤ pick t longestRadial longestBody .0
     go true p = m .radial (eqb-true (s .header .kind) radialType p)
-    go false p = m .body
+    go false p = m .other (eqb-false (s .header .kind) radialType p)
 
 set-small : (frames out : List ℕ) (r : UlmSet) → r ≡ setFace (setOf frames out .answer) → r .length ≤ longest (r .kind) .0
 set-small frames out r e = subst (λ (x : UlmSet). x .length ≤ longest (x .kind) .0) (sym e) (go (setOf frames out .answer) refl)
@@ -120,7 +120,7 @@ set-small frames out r e = subst (λ (x : UlmSet). x .length ≤ longest (x .kin
     go (refused n) q = omega arith
     go (given s) q = within s (body-most frames out s q)
 
-set-room : (frames out : List ℕ) (r : UlmSet) → r ≡ setFace (setOf frames out .answer) → r .refusal ≡ 13 → length out < longestBody .0
+set-room : (frames out : List ℕ) (r : UlmSet) → r ≡ setFace (setOf frames out .answer) → r .refusal ≡ 13 → length out < longestRadial .0
 set-room frames out r e z =
     let right = setOf frames out .answer in
     room-for-any frames out (thirteen right (sym (set-number right) ∙ sym (ap (λ (x : UlmSet). x .refusal) e) ∙ z))

@@ -37,7 +37,7 @@ use Rattle.demands.specs.Notions.{ByChecks}
 use Rattle.demands.specs.Orders.{streamChecks, momentChecks, codedChecks, gateChecks}
 use Rattle.demands.specs.Demand1.{Demand1}
 use Rattle.demands.proofs.ByChecksLaws.{inside-join, by-rule, kept, kept-struct}
-use Rattle.demands.proofs.Inside.{body-inside, map-inside}
+use Rattle.demands.proofs.Inside.{body-inside, map-inside, header-inside, own-inside}
 use Rattle.demands.proofs.Shows.{showFrame, frame-back, showHeader, header-back, showSegment, segment-back, showMoment, moment-back}
 use Rattle.demands.proofs.Shows.{showCoded, coded-back, showBlock, block-back, showRequest, request-back, showGate, gate-back}
 use Rattle.demands.proofs.Shows.{showMap, map-back, showCode, code-back}
@@ -47,11 +47,11 @@ use Rattle.demands.proofs.Lent.{set-kept, write-kept, request-kept, cen
 
 pub by-header : (b : List ℕ) → ByChecks (headerChecks b) (headerOf b)
 unfolding headerOf
-by-header b = by-rule (headerChecks b) (headerIn b) refl
+by-header b = by-rule (headerChecks b) (headerIn b) (header-inside b)
 
 by-segment : (b : List ℕ) (place : ℕ) → ByChecks (ownChecks (drop place b)) (segmentAt b place)
 unfolding segmentAt
-by-segment b place = by-rule (ownChecks (drop place b)) (placedIn (drop place b) place) refl
+by-segment b place = by-rule (ownChecks (drop place b)) (placedIn (drop place b) place) (own-inside (drop place b))
 
 pub by-map : (b : List ℕ) → ByChecks (mapChecks b) (summaryOf b)
 by-map b = by-rule (mapChecks b) (summary (mapIn b)) (map-inside b)

@@ -6,7 +6,12 @@ use mathlib.Core.List.{List, [], _∷_, _++_}
 use lib.Dec.{eqb, ltb}
 use lib.ListN.{length, take, drop}
 use Rattle.form_spec.specs.Parts.{Part, runChecks}
-use Rattle.wire.specs.Checks.{check}
+use Rattle.wire.specs.Checks.{Check, check}
+use Rattle.frame.specs.Session.{bodyIn}
+use Rattle.header_rule.proofs.RuleLaws.{by-form}
+use Rattle.header.specs.Header.{headerSize, storedIn, headerIn, laterChecks, headerChecks}
+use Rattle.set_spec.specs.Segment.{Segment, segmentIn, ownChecks}
+use Rattle.set_spec.specs.Walk.{metChecks, turnChecks}
 use Rattle.radial_spec.specs.Description.{constants}
 use Rattle.radial_spec.specs.Refusal.{pointer, part, nameIn, momentSays, momentsChecks, sizeIn, countIn, endAt, radialChecks}
 use Rattle.form_spec.specs.Forms.{Row, long, fieldChecks, Form, rowsOf, countOf, formChecks, countIn as countBy, numbersIn, bodyChecks, listChecks}
@@ -65,3 +70,16 @@ map-inside b =
     inside-join (headChecks b) (runChecks elevationPart (segmentsIn b) (drop 6 b) ++ leftoverChecks b) refl
     (inside-join (runChecks elevationPart (segmentsIn b) (drop 6 b)) (leftoverChecks b) (run-inside elevationPart elevation-inside
     (segmentsIn b) (drop 6 b)) refl)
+
+-- ---- a header's, in either form; a frame's own; a turn's in a set
+pub header-inside : (b : List ℕ) → inside (headerChecks b) ≡ true
+header-inside b =
+    let s = storedIn b in
+    by-form (λ (ks : List Check). inside (check 4 (ltb (length b) headerSize) ∷ ks ++ laterChecks (headerIn b)) ≡ true) (s .size) (s .kind)
+    (s .segments) (s .number) (length b) refl refl refl
+
+pub own-inside : (rest : List ℕ) → inside (ownChecks rest) ≡ true
+own-inside rest = header-inside (bodyIn rest)
+
+pub turn-inside : (gs : List Segment) (rest : List ℕ) → inside (turnChecks gs rest) ≡ true
+turn-inside gs rest = inside-join (ownChecks rest) (metChecks gs (segmentIn rest .header)) (own-inside rest) refl

@@ -21,7 +21,7 @@ use Rattle.gate_value.specs.Value.{valueChecks, worthOf, valueOf, gateIn, gateO
 use Rattle.demands.specs.Notions.{ByChecks}
 use Rattle.demands.specs.Orders.{streamChecks, setChecks, missing, ofMoment, askedOf, momentChecks, codedChecks, gateChecks}
 use Rattle.demands.proofs.ByChecksLaws.{by-first, by-rule, by-same, by-then, by-walk, by-shown, by-outcome, outcome-untouched}
-use Rattle.demands.proofs.Inside.{radial-inside}
+use Rattle.demands.proofs.Inside.{radial-inside, turn-inside}
 
 pub by-stream : (stream : List ℕ) (place : ℕ) → ByChecks (streamChecks stream place) (frameAt stream place)
 unfolding frameAt
@@ -42,7 +42,7 @@ unfolding setOf
 by-set frames out =
     by-same (setChecks frames (length out)) (finish (walk [] frames) out .answer)
     (onward (walk [] frames) (λ gs. finish (given gs) out .answer)) (finish-onward out (walk [] frames))
-    (by-walk eachFrame (λ gs. endChecks gs (length out)) (λ gs. finish (given gs) out .answer) (λ gs rest. refl)
+    (by-walk eachFrame (λ gs. endChecks gs (length out)) (λ gs. finish (given gs) out .answer) turn-inside
     (λ gs. by-outcome (endChecks gs (length out)) out _ _ refl) [] frames)
 
 finish-untouched : (a : Answer (List Segment)) (out : List ℕ) (n : ℕ) → finish a out .answer ≡ refused n → finish a out .output ≡ out

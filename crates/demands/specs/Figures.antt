@@ -10,7 +10,7 @@ use Rattle.frame.specs.Session.{headSize, sessionLimit}
 use Rattle.header_rule.specs.Rules.{radialType}
 use Rattle.header.specs.Header.{headerSize}
 use Rattle.salvage_spec.specs.Theorems.{leastFrame}
-use Rattle.writer.specs.Writing.{segmentData, segmentsOf, longest, longestBody}
+use Rattle.writer.specs.Writing.{segmentData, segmentsOf, longest, longestRadial}
 use Rattle.radial_spec.specs.Description.{mostBlocks, mostGates}
 use Rattle.censor.specs.Censor.{mostRegions, regionFields, count}
 use Rattle.censor.specs.Told.{places}
@@ -34,13 +34,13 @@ abbrev pub bytesOf : ℕ → List ℕ → ℕ
 bytesOf kind body = length body + (headSize + headerSize) * length (segmentsOf kind body)
 
 pub record Figures : Type 1 where
-  -- "its body of at most 131,068 bytes"
+  -- "its body of at most 1,048,576 bytes"
   pub frame : (κs buf place r s : _) → ulm-frame.Learnt κs (buf, (place, tt)) r s → r .size ≤ sessionLimit .0
-  -- "At most 307,200 bytes are written (131,052 for type 31)", so 13 is for an output of fewer
+  -- "At most 307,200 bytes are written (1,048,560 for type 31)", so 13 is for an output of fewer than the longest radial
   pub set : (κs buf out r b after : _) → ulm-set.Learnt κs (buf, (out, tt)) r (b, (at-last out after, tt))
       → r .length ≤ longest (r .kind) .0
   pub setRoom : (κs buf out r b after : _) → ulm-set.Learnt κs (buf, (out, tt)) r (b, (at-last out after, tt)) → r .refusal ≡ 13
-      → length (now out) < longestBody .0
+      → length (now out) < longestRadial .0
   -- "out_len = len and n = 2 * ((len + 28) / 29) always suffice"
   pub salvageRoom : (κs buf out runs r b after listed : _)
       → ulm-salvage.Learnt κs (buf, (out, (runs, tt))) r (b, (at-last out after, (at-last runs listed, tt)))

@@ -9,6 +9,7 @@ pub mod Demand2
 pub mod Face
 pub mod FaceOfRadial
 pub mod LoneSegment
+pub mod LongRadial
 pub mod TwoMaps
 pub mod DamagedRecording
 pub mod Figures

@@ -1,8 +1,10 @@
 -- K1. "Where N is 1, any segment number is accepted and reported as 1; no header or set answer then depends on its two bytes."
--- Of every call of the compiled functions, as Notions says it.
+-- Of every call of the compiled functions, as Notions says it. It is about headers that are not of the long form (K11): in the long form
+-- the bytes of N and of the number hold the length, and the page LongRadial says that they have none of this freedom.
 use Prim.Native.Nat.{ℕ, _+_, _<_}
 use mathlib.Core.Path.{_≡_}
 use mathlib.Core.Logic.{_⊎_, _↔_}
+use mathlib.Core.Bool.{false}
 use mathlib.Core.List.{List, _++_, flatten}
 use lib.ListN.{length}
 use denote.Ref.{now, at-last}
@@ -11,7 +13,8 @@ use Rattle.wire.specs.Checks.{AllHold}
 use Rattle.wire.specs.declared.WriteAnswer.the-variants.{Written}
 use Rattle.frame.specs.Session.{headSize}
 use Rattle.header.specs.declared.HeaderAnswer.the-variants.{Read, Refused}
-use Rattle.header.specs.Header.{storedIn, headerIn}
+use Rattle.header_rule.specs.Rules.{leastLength}
+use Rattle.header.specs.Header.{headerSize, storedIn, isLong, headerIn}
 use Rattle.header.specs.Theorems.{Lone, numberPlace, ButTwoBytes, beforeSegment, loneChecks}
 use Rattle.header.proofs.read_header.Reads as read-header
 use Rattle.set_spec.specs.Theorems.{WholeFrames, LoneFrame}
@@ -41,7 +44,8 @@ pub record LoneSegment : Type 1 where
   pub accepted : (κs message r s : _) → Lone (now message) → read-header.Learnt κs (message, tt) r s
       → (r ≡ Read (headerIn (now message))) ↔ AllHold (loneChecks (storedIn (now message)) (length (now message)))
   -- "number 7 loses that cause for N = 1 only"
-  pub outside : (κs message r s : _) → (Lone (now message) → ⊥) → AllHold (beforeSegment (storedIn (now message)) (length (now message)))
+  pub outside : (κs message r s : _) → isLong (storedIn (now message)) ≡ false → (storedIn (now message) .segments ≡ 1 → ⊥)
+      → AllHold (beforeSegment (storedIn (now message)) (length (now message)))
       → (storedIn (now message) .number ≡ 0) ⊎ (storedIn (now message) .segments < storedIn (now message) .number)
       → read-header.Learnt κs (message, tt) r s
       → r ≡ Refused 7
@@ -59,14 +63,16 @@ pub record LoneSegment : Type 1 where
       → ulm-set.Learnt κs (frames, (out, tt)) r (f, (at-last out after, tt)) → ulm-set.Learnt κs′ (frames′, (out′, tt)) r′
       (f′, (at-last out′ after′, tt))
       → (r ≡ r′) × (after ≡ after′)
-  -- a message of one segment that `write_message` or `ulm_write` wrote has 1 in these bytes
+  -- a message of one segment that `write_message` or `ulm_write` wrote has 1 in these bytes, where the short form holds it
   pub written : (κs given body out size g b after : _)
       → write-message.Learnt κs (given, (body, (out, tt))) (Written size) (g, (b, (at-last out after, tt)))
       → length (segmentsOf (given .kind) (now body)) ≡ 1
+      → headerSize + length (now body) < leastLength .0
       → num 2 after (headSize + numberPlace) ≡ 1
   pub writtenForC : (κs channel kind sequence date ms body out r c k q d m b after : _)
       → ulm-write.Learnt κs (channel, (kind, (sequence, (date, (ms, (body, (out, tt))))))) r
       (c, (k, (q, (d, (m, (b, (at-last out after, tt)))))))
       → r .refusal ≡ 0
       → length (segmentsOf kind (now body)) ≡ 1
+      → headerSize + length (now body) < leastLength .0
       → num 2 after (headSize + numberPlace) ≡ 1

@@ -246,12 +246,18 @@ found-within name z from seen (x ∷ ms) m e lie =
     go true k later = let q : x ≡ m = cc k in rw (← q) (lie .0 .few, lie .0 .words, lie .0 .within)
     go false k later = later k
 
+pub found-sized : (b : List ℕ) (name : ℕ) (m : Moment) → Octets b → momentOf b name ≡ given m
+    → (gates m ≤ mostGates) × Member (m .word) wordSizes × (momentEnd m ≤ sizeIn b)
+found-sized b name m o e =
+    let f = moment-of b name m e in
+    let lay = agreed b (description b) o (f .0) .0 in
+    found-within name (sizeIn b) (blockEnd (description b .radialBlock)) [] (description b .moments) m (f .1) (lay .momentsLie)
+
 pub found-lies : (b : List ℕ) (name : ℕ) (m : Moment) → Octets b → momentOf b name ≡ given m
     → (gates m ≤ mostGates) × Member (m .word) wordSizes × (momentEnd m ≤ length b)
 found-lies b name m o e =
-    let f = moment-of b name m e in
-    let lay = agreed b (description b) o (f .0) .0 in
-    let w = found-within name (sizeIn b) (blockEnd (description b .radialBlock)) [] (description b .moments) m (f .1) (lay .momentsLie) in
+    let w = found-sized b name m o e in
+    let lay = agreed b (description b) o (moment-of b name m e .0) .0 in
     (w .0, w .1, omega (arith, w .2, lay .most))
 
 pub gate-words : GateWords
