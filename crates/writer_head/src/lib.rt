@@ -1,6 +1,7 @@
 // What stands before a segment's data: the session's 12 bytes and the header's 16.
 ghost use mathlib.Core.Path.{_≡_};
 ghost use Prim.Native.Nat.{_^_, _<_};
+ghost use Rattle.header_rule.specs.Rules.{tooLarge};
 ghost use Rattle.writer_head.specs.Head.{heads};
 ghost use Rattle.writer_head.specs.Steps.{sizeWritten, highWritten, lowWritten};
 use header_rule::LONG_MARK;
@@ -63,11 +64,18 @@ pub fn heads_of(given: Given, n: u16, k: u16, size: Bytes) -> [u8; HEADS]
     ]
 }
 
+// Whether the short form cannot hold a size.
+fn is_long(size: Halfwords) -> bool
+    ensures { λ r. ⌜ r ≡ tooLarge size ⌝ }
+{
+    MOST_SIZE < size.0
+}
+
 // The size's field: the size, or the mark of the long form where the field cannot hold it.
 fn size_field(size: Halfwords) -> u16
     ensures { λ r. ⌜ r ≡ sizeWritten size ⌝ }
 {
-    if MOST_SIZE < size.0 {
+    if is_long(size) {
         return LONG_MARK as u16;
     }
     size.0 as u16
@@ -78,7 +86,7 @@ fn high_field(n: u16, size: Halfwords) -> u16
     requires { ⌜ size .0 < 2 ^ 31 ⌝ }
     ensures { λ r. ⌜ r ≡ highWritten n size ⌝ }
 {
-    if MOST_SIZE < size.0 {
+    if is_long(size) {
         return (size.0 * 2 / 65536) as u16;
     }
     n
@@ -88,7 +96,7 @@ fn low_field(k: u16, size: Halfwords) -> u16
     requires { ⌜ size .0 < 2 ^ 31 ⌝ }
     ensures { λ r. ⌜ r ≡ lowWritten k size ⌝ }
 {
-    if MOST_SIZE < size.0 {
+    if is_long(size) {
         return (size.0 * 2 % 65536) as u16;
     }
     k
