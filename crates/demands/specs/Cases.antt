@@ -1,10 +1,12 @@
--- "Numbers on either side. Those with a star go into the proved table.": cases 1 to 13, one list, each a question to a rule and its answer.
+-- "Numbers on either side. Those with a star go into the proved table.": cases 1 to 13, one list, each a question to a rule and its answer;
+-- and what size 65,535 answers in a message that is too short for it (K11).
 use Prim.Native.Nat.{ℕ, zero, suc}
 use mathlib.Core.Path.{_≡_}
 use mathlib.Core.Option.{Option, none, some}
 use mathlib.Core.List.{List, [], _∷_, _++_, map}
 use lib.Dec.{eqb}
 use lib.ListN.{length, drop, replicate}
+use Rattle.wire.specs.Numbers.{be}
 use Rattle.wire.specs.Checks.{pick}
 use Rattle.wire.specs.Answers.{Answer, refused, given, Outcome, refusal}
 use Rattle.wire.specs.Sizes.{bytes}
@@ -61,6 +63,11 @@ requestFrame = frameWith 9 1 1 0x0081
 -- the message in such a frame, with a size and a segment number
 abbrev pub messageWith : ℕ → ℕ → List ℕ
 messageWith size number = drop 12 (frameWith size 1 number 0x0081)
+
+-- a message of 18 bytes with size 65,535, and its true length in the two segment fields
+abbrev pub markedWith : ℕ → List ℕ
+markedWith kind =
+    be 2 65535 ++ (be 1 0x00 ++ (be 1 kind ++ (be 2 0x0005 ++ (be 2 0x3E80 ++ (be 4 0x000003E8 ++ (be 4 18 ++ be 2 0x0081))))))
 
 -- the size in halfwords in each header of a buffer of frames, in their order
 abbrev pub sizesIn : ℕ → List ℕ → List ℕ
@@ -143,8 +150,12 @@ bodyCases =
     ∷ code body13 1 0 101 (given 2)
     ∷ []
 
+-- "even, 131,070 to 1,048,576, equal to the frame's body, otherwise 5"; "a type not permitted still gets 6, any other type .. gets 7"
+abbrev pub markedCases : List Case
+markedCases = header (markedWith 31) (refused 5) ∷ header (markedWith 14) (refused 6) ∷ header (markedWith 9) (refused 7) ∷ []
+
 abbrev pub starred : List Case
-starred = frameCases ++ (setCases ++ bodyCases)
+starred = frameCases ++ (setCases ++ (bodyCases ++ markedCases))
 
 -- in every case the rule gives the right answer
 abbrev pub Starred : Type 0

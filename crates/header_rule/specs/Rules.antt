@@ -43,20 +43,20 @@ abbrev pub leastLength : Bytes
 leastLength = bytes 131070
 
 abbrev pub lengthTooSmall : Bytes → Bool
-lengthTooSmall length = ltb (length .0) (leastLength .0)
+lengthTooSmall told = ltb (told .0) (leastLength .0)
 
 abbrev pub lengthTooLarge : Bytes → Bool
-lengthTooLarge length = ltb (longestMessage .0) (length .0)
+lengthTooLarge told = ltb (longestMessage .0) (told .0)
 
 abbrev pub lengthNotTheBody : Bytes → ℕ → Bool
-lengthNotTheBody length long = not (eqb (length .0) long)
+lengthNotTheBody told long = not (eqb (told .0) long)
 
 abbrev pub lengthChecks : Bytes → ℕ → List Check
-lengthChecks length long =
-    check 5 (odd (length .0))
-    ∷ check 5 (lengthTooSmall length)
-    ∷ check 5 (lengthTooLarge length)
-    ∷ check 5 (lengthNotTheBody length long)
+lengthChecks told long =
+    check 5 (odd (told .0))
+    ∷ check 5 (lengthTooSmall told)
+    ∷ check 5 (lengthTooLarge told)
+    ∷ check 5 (lengthNotTheBody told long)
     ∷ []
 
 -- "Types permitted: 1 to 13, 15, 18, 31.": the last of those in a row, the filter map's, the adaptation data's and the radial's

@@ -73,19 +73,19 @@ fn length_in(high: u16, low: u16) -> Bytes
     Bytes(high as u32 * 65536 + low as u32)
 }
 
-fn breaks_length(length: Bytes, long: usize) -> bool
-    ensures { λ r. ⌜ r ≡ someBroken (lengthChecks length long) ⌝ }
+fn breaks_length(told: Bytes, long: usize) -> bool
+    ensures { λ r. ⌜ r ≡ someBroken (lengthChecks told long) ⌝ }
 {
-    if length.0 % 2 != 0 {
+    if told.0 % 2 != 0 {
         return true;
     }
-    if length.0 < LEAST_LENGTH {
+    if told.0 < LEAST_LENGTH {
         return true;
     }
-    if LONGEST_MESSAGE < length.0 {
+    if LONGEST_MESSAGE < told.0 {
         return true;
     }
-    length.0 as usize != long
+    told.0 as usize != long
 }
 
 // The size as it is reported: in the long form half of the length.

@@ -113,7 +113,7 @@ module _ (g : Given) (body out : List ℕ) (size : Bytes) (e : writeOf g body ou
   radial-form : g .kind ≡ radialType → RadialForm body (writeOf g body out .output)
   radial-form r = record {
     exactly = (is-long, λ h. ap (λ (x : List ℕ). num 2 x headSize) (output-is true (long-size h)) ∙ mark-long g 1 1 body left);
-    length = λ h.
+    told = λ h.
         let small : length body ≤ longestRadial .0 = subst (λ (t : Bool). length body ≤ pick t longestRadial longestBody .0)
         (eq-eqb (g .kind) radialType r) most in
         let whole : (headerSize + length body) % 2 ≡ 0 = omega (arith, even) in

@@ -25,7 +25,7 @@ LoneNumber = (g : Given) (body out : List ℕ) (size : Bytes) → writeOf g body
 -- "the writer uses the long form exactly when the short one can't hold the length" (K11): what a radial is written as
 pub record RadialForm (body written : List ℕ) : Type 0 where
   pub exactly : (num 2 written headSize ≡ longMark .0) ↔ (leastLength .0 ≤ headerSize + length body)
-  pub length : leastLength .0 ≤ headerSize + length body → num 4 written (headSize + countPlace) ≡ headerSize + length body
+  pub told : leastLength .0 ≤ headerSize + length body → num 4 written (headSize + countPlace) ≡ headerSize + length body
 
 abbrev pub FormWritten : Type 0
 FormWritten = (g : Given) (body out : List ℕ) (size : Bytes) → writeOf g body out .answer ≡ given size → g .kind ≡ radialType
