@@ -9,8 +9,7 @@ use mathlib.Core.Path.{_≡_, refl, sym, ap, _∙_}
 use mathlib.Core.List.{List}
 use Prim.Native.Nat.{ℕ, _-_}
 use lib.ListN.{take, drop}
-use Rattle.header.specs.Steps.{reportedFrom}
-use Rattle.header.specs.Header.{headerOf}
+use Rattle.header.specs.Header.{asReported, headerOf}
 use Rattle.header.proofs.HeaderLaws.{header-read, header-refused as header-broken}
 use Rattle.frame.specs.Session.{bodyIn}
 use Rattle.set_spec.proofs.FrameFacts.{FrameLies, frame-says, own-frame, own-kind, own-header, header-given, header-refused}
@@ -80,8 +79,8 @@ returns-5 c =
     let m = message-of read in
     some-whole (left start)
     (own-header (left start) (l .passes) (sym (l .kind) ∙ tested .if1 .left)
-    ∙ header-given (bodyIn (left start)) (reportedFrom m (s .result))
-    (ap headerOf (sym (l .body)) ∙ header-read m (s .result) (n .result) (s .ensures) (n .ensures) (reportedFrom m (s .result))
+    ∙ header-given (bodyIn (left start)) (asReported (s .result))
+    (ap headerOf (sym (l .body)) ∙ header-read m (s .result) (n .result) (s .ensures) (n .ensures) (asReported (s .result))
     refl (c .if2 .left)) .0)
     (omega (arith, l .next))
 
