@@ -45,7 +45,7 @@ const END: usize = 7;
 #[no_mangle]
 pub extern "C" fn ulmarzhe_run() -> i32 {
     let table =
-        b"frames;1;1;RECORDING;a line a frame: place, kind, bytes, and of data type, sequence number,;date, time and segment
+        b"frames;1;1;RECORDING;a line a frame: place, kind, bytes, and of data type, sequence number,;date, time, segment, and long form where the header has that
 radials;1;1;RECORDING;a line a radial: place, station, date, time, azimuth, elevation, status,;and each moment as gates x bits
 gates;3;3;RECORDING PLACE MOMENT;a line a gate of the radial in the frame at PLACE:;gate, range, code, value
 picture;2;2;RECORDING MOMENT;a PGM picture on standard output: a row a radial, a column a gate,;the codes as they lie
