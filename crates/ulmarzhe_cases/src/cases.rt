@@ -33,13 +33,7 @@ const DIFFERS: usize = 1;
 const MALFORMED: usize = 2;
 
 // The lines of a file that is open.
-pub fn run_all(fd: i32) -> u8 {
-    let mut window = [0u8; WINDOW];
-    let mut sheet = [0u8; SHEET];
-    run_lines(fd, &mut window, &mut sheet)
-}
-
-fn run_lines(fd: i32, window: &mut [u8; WINDOW], sheet: &mut [u8; SHEET]) -> u8 {
+pub fn run_lines(fd: i32, window: &mut [u8; WINDOW], sheet: &mut [u8; SHEET]) -> u8 {
     let mut l = lines::first(fd, window);
     let mut status = DONE;
     let mut turns = u64::MAX;

@@ -10,12 +10,14 @@ mod told;
 mod writers;
 
 use ulmarzhe_text::files;
+use ulmarzhe_text::page::SHEET;
 use ulmarzhe_text::status;
 use ulmarzhe_text::status::DONE;
 use ulmarzhe_text::status::NOT_DONE;
+use ulmarzhe_text::window::WINDOW;
 
 // Nothing is run unless every file can be read.
-pub fn run() -> u8 {
+pub fn run(window: &mut [u8; WINDOW], sheet: &mut [u8; SHEET]) -> u8 {
     let count = os::arg_count();
     if !can_open_all(count) {
         return NOT_DONE;
@@ -23,7 +25,7 @@ pub fn run() -> u8 {
     let mut status = DONE;
     let mut i = 2;
     while i < count {
-        status = status::worse(status, run_file(i));
+        status = status::worse(status, run_file(i, window, sheet));
         if status == NOT_DONE {
             return status;
         }
@@ -45,12 +47,12 @@ fn can_open_all(count: usize) -> bool {
     true
 }
 
-fn run_file(i: usize) -> u8 {
+fn run_file(i: usize, window: &mut [u8; WINDOW], sheet: &mut [u8; SHEET]) -> u8 {
     let fd = files::open_named(i);
     if fd < 0 {
         return NOT_DONE;
     }
-    let status = cases::run_all(fd);
+    let status = cases::run_lines(fd, window, sheet);
     libc::close(fd);
     status
 }

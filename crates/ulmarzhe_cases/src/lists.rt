@@ -4,10 +4,9 @@ use compare::MOST;
 use ulmarzhe_text::page::PAGE;
 use ulmarzhe_text::page::ROOM;
 use ulmarzhe_text::page::SHEET;
-use ulmarzhe_text::window::WINDOW;
 
-// The most runs of a buffer whose digits the window holds: a frame of 28 bytes or more lies between any two.
-pub const RUNS: usize = (WINDOW / 2 + 28) / 29;
+// The most runs of an answer: between any two of them lies a frame of 28 bytes or more, and all frames fit in the room.
+pub const RUNS: usize = ROOM / 28 + 1;
 
 // Two numbers a run, its place and its length.
 pub const NUMBERS: usize = RUNS * 2;

@@ -5,6 +5,7 @@ use ulmarzhe_text::page;
 use ulmarzhe_text::page::SHEET;
 use ulmarzhe_text::status::NOT_DONE;
 use ulmarzhe_text::status::WRONG_WORDS;
+use ulmarzhe_text::window::WINDOW;
 use ulmarzhe_text::words;
 
 // The commands, in the order of the table's rows.
@@ -41,11 +42,12 @@ const HELP: usize = 4;
 
 const END: usize = 7;
 
-// One row for each command: its name, the fewest and the most words after it, their form, and what it does.
+// One row for each command: its name, the fewest and the most words after it, their form, and what it does. Every command is lent the
+// same window and sheet: two of each would not fit on the stack.
 #[no_mangle]
 pub extern "C" fn ulmarzhe_run() -> i32 {
     let table =
-        b"frames;1;1;RECORDING;a line a frame: place, kind, bytes, and of data type, sequence number,;date, time and segment
+        b"frames;1;1;RECORDING;a line a frame: place, kind, bytes, and of data type, sequence number,;date, time, segment, and long form where the header has that
 radials;1;1;RECORDING;a line a radial: place, station, date, time, azimuth, elevation, status,;and each moment as gates x bits
 gates;3;3;RECORDING PLACE MOMENT;a line a gate of the radial in the frame at PLACE:;gate, range, code, value
 picture;2;2;RECORDING MOMENT;a PGM picture on standard output: a row a radial, a column a gate,;the codes as they lie
@@ -57,18 +59,20 @@ cases;1;4294967295;FILE...;each line of FILE asked of the library, its answer co
 help;0;0;;this text
 ";
     files::hold_streams();
-    answer(table) as i32
+    let mut window = [0u8; WINDOW];
+    let mut sheet = [0u8; SHEET];
+    answer(table, &mut window, &mut sheet) as i32
 }
 
-fn answer(table: &[u8]) -> u8 {
+fn answer(table: &[u8], window: &mut [u8; WINDOW], sheet: &mut [u8; SHEET]) -> u8 {
     let command = find(table);
     let row = words::pick_row(table, command);
     if !has_words(row) {
-        return tell_form(row);
+        return tell_form(row, sheet);
     }
-    let status = run(command, table);
+    let status = run(command, table, window, sheet);
     if status == WRONG_WORDS {
-        return tell_form(row);
+        return tell_form(row, sheet);
     }
     status
 }
@@ -103,27 +107,26 @@ fn has_words(row: &[u8]) -> bool {
     least.good && least.value <= given && given <= most.value
 }
 
-fn run(command: usize, table: &[u8]) -> u8 {
+fn run(command: usize, table: &[u8], window: &mut [u8; WINDOW], sheet: &mut [u8; SHEET]) -> u8 {
     match command {
-        FRAMES => ulmarzhe_show::list_frames(),
-        RADIALS => ulmarzhe_show::list_radials(),
-        GATES => ulmarzhe_show::list_gates(),
-        PICTURE => ulmarzhe_show::draw_picture(),
-        MAP => ulmarzhe_show::show_map_code(),
-        COMPARE => ulmarzhe_show::compare_maps(),
-        SALVAGE => ulmarzhe_show::salvage_recording(),
-        WHY => ulmarzhe_show::explain(),
-        CASES => ulmarzhe_cases::run(),
-        _ => help(table),
+        FRAMES => ulmarzhe_show::list_frames(window, sheet),
+        RADIALS => ulmarzhe_show::list_radials(window, sheet),
+        GATES => ulmarzhe_show::list_gates(window, sheet),
+        PICTURE => ulmarzhe_show::draw_picture(window, sheet),
+        MAP => ulmarzhe_show::show_map_code(window, sheet),
+        COMPARE => ulmarzhe_show::compare_maps(window, sheet),
+        SALVAGE => ulmarzhe_show::salvage_recording(window, sheet),
+        WHY => ulmarzhe_show::explain(sheet),
+        CASES => ulmarzhe_cases::run(window, sheet),
+        _ => help(table, sheet),
     }
 }
 
 // One line on standard error: the form of the command, or where to find all of them.
-fn tell_form(row: &[u8]) -> u8 {
-    let mut sheet = [0u8; SHEET];
-    let at = page::put_text(&mut sheet, 0, b"ulmarzhe: the command line should be: ");
-    let at = put_form(&mut sheet, at, row);
-    page::send(libc::STDERR_FILENO, &sheet, at);
+fn tell_form(row: &[u8], sheet: &mut [u8; SHEET]) -> u8 {
+    let at = page::put_text(sheet, 0, b"ulmarzhe: the command line should be: ");
+    let at = put_form(sheet, at, row);
+    page::send(libc::STDERR_FILENO, sheet, at);
     NOT_DONE
 }
 
@@ -145,19 +148,18 @@ fn put_form(sheet: &mut [u8; SHEET], at: usize, row: &[u8]) -> usize {
     page::put_byte(sheet, next, b'\n')
 }
 
-fn help(table: &[u8]) -> u8 {
-    let mut sheet = [0u8; SHEET];
+fn help(table: &[u8], sheet: &mut [u8; SHEET]) -> u8 {
     let at = page::put_text(
-        &mut sheet,
+        sheet,
         0,
         b"ulmarzhe shows recordings of RDA/RPG messages, salvages damaged ones,
 and runs cases against the library.
 
 ",
     );
-    let at = put_commands(&mut sheet, at, table);
+    let at = put_commands(sheet, at, table);
     let at = page::put_text(
-        &mut sheet,
+        sheet,
         at,
         b"
 MOMENT is REF, VEL, SW, ZDR, PHI or RHO. CLEAN is CLEAN.part until it is whole;
@@ -171,7 +173,7 @@ It ends with the status
     read or written
 ",
     );
-    output::end(output::begin(at), &sheet)
+    output::end(output::begin(at), sheet)
 }
 
 fn put_commands(sheet: &mut [u8; SHEET], at: usize, table: &[u8]) -> usize {

@@ -1,4 +1,5 @@
 // Recordings and maps shown to people: a function for each command, which reads the words after the command and answers how it ended.
+// It is lent the program's window and sheet.
 mod clean;
 mod damaged;
 mod date;
@@ -28,26 +29,22 @@ use ulmarzhe_text::window::Reading;
 use ulmarzhe_text::window::WINDOW;
 use ulmarzhe_text::words;
 
-pub fn list_frames() -> u8 {
-    list(recorded::FRAMES)
+pub fn list_frames(window: &mut [u8; WINDOW], sheet: &mut [u8; SHEET]) -> u8 {
+    list(recorded::FRAMES, window, sheet)
 }
 
-pub fn list_radials() -> u8 {
-    list(recorded::RADIALS)
+pub fn list_radials(window: &mut [u8; WINDOW], sheet: &mut [u8; SHEET]) -> u8 {
+    list(recorded::RADIALS, window, sheet)
 }
 
-fn list(mode: u8) -> u8 {
+fn list(mode: u8, window: &mut [u8; WINDOW], sheet: &mut [u8; SHEET]) -> u8 {
     let fd = files::open_named(2);
     if fd < 0 {
         return NOT_DONE;
     }
-    let mut window = [0u8; WINDOW];
-    let mut sheet = [0u8; SHEET];
     let w = recorded::begin(fd, 0, output::begin(0), picture::empty());
-    end(
-        recorded::follow(w, mode, [0; 4], &mut window, &mut sheet),
-        &sheet,
-    )
+    let w = recorded::follow(w, mode, [0; 4], window, sheet);
+    end(w, sheet)
 }
 
 // Closes the recording and writes what is left of the page.
@@ -75,7 +72,7 @@ fn name_of(moment: usize) -> [u8; 4] {
     }
 }
 
-pub fn list_gates() -> u8 {
+pub fn list_gates(window: &mut [u8; WINDOW], sheet: &mut [u8; SHEET]) -> u8 {
     let place = files::read_number(3);
     let moment = read_moment(4);
     if moment == words::MANY {
@@ -88,21 +85,25 @@ pub fn list_gates() -> u8 {
     if fd < 0 {
         return NOT_DONE;
     }
-    list_gates_at(fd, place.value, name_of(moment))
+    list_gates_at(fd, place.value, name_of(moment), window, sheet)
 }
 
-fn list_gates_at(fd: i32, place: u64, name: [u8; 4]) -> u8 {
-    let mut window = [0u8; WINDOW];
-    let mut sheet = [0u8; SHEET];
+fn list_gates_at(
+    fd: i32,
+    place: u64,
+    name: [u8; 4],
+    window: &mut [u8; WINDOW],
+    sheet: &mut [u8; SHEET],
+) -> u8 {
     if libc::lseek(fd, (place % 9223372036854775808) as i64, libc::SEEK_SET) < 0 {
         os::fail(b"recording");
         return NOT_DONE;
     }
-    let w = gates::list(fd, place, name, &mut window, &mut sheet);
-    end(w, &sheet)
+    let w = gates::list(fd, place, name, window, sheet);
+    end(w, sheet)
 }
 
-pub fn draw_picture() -> u8 {
+pub fn draw_picture(window: &mut [u8; WINDOW], sheet: &mut [u8; SHEET]) -> u8 {
     let moment = read_moment(3);
     if moment == words::MANY {
         return WRONG_WORDS;
@@ -111,10 +112,8 @@ pub fn draw_picture() -> u8 {
     if fd < 0 {
         return NOT_DONE;
     }
-    let mut window = [0u8; WINDOW];
-    let mut sheet = [0u8; SHEET];
-    let w = draw(fd, name_of(moment), &mut window, &mut sheet);
-    end(w, &sheet)
+    let w = draw(fd, name_of(moment), window, sheet);
+    end(w, sheet)
 }
 
 // A first walk measures the picture, a second one draws it.
@@ -145,7 +144,7 @@ fn tell_none(w: Walk) -> Walk {
     w
 }
 
-pub fn show_map_code() -> u8 {
+pub fn show_map_code(window: &mut [u8; WINDOW], sheet: &mut [u8; SHEET]) -> u8 {
     let elevation = files::read_number(3);
     let azimuth = files::read_number(4);
     let kilometre = files::read_number(5);
@@ -156,21 +155,19 @@ pub fn show_map_code() -> u8 {
     if fd < 0 {
         return NOT_DONE;
     }
-    let mut window = [0u8; WINDOW];
-    let mut sheet = [0u8; SHEET];
-    let r = read_map(fd, 0, b"map", &mut window);
+    let r = read_map(fd, 0, b"map", window);
     if r.failed {
         return NOT_DONE;
     }
     let answer = ask_map(
-        &window,
+        window,
         r.fill,
         elevation.value as usize,
         azimuth.value as usize,
         kilometre.value as usize,
     );
-    let out = maps::show_code(answer, &mut sheet);
-    output::end(out, &sheet)
+    let out = maps::show_code(answer, sheet);
+    output::end(out, sheet)
 }
 
 // Reads a file into the window from a place on and closes it, or says why it cannot be read.
@@ -196,7 +193,7 @@ fn ask_map(
     map::code_at(part(window, 0, fill), elevation, azimuth, kilometre)
 }
 
-pub fn compare_maps() -> u8 {
+pub fn compare_maps(window: &mut [u8; WINDOW], sheet: &mut [u8; SHEET]) -> u8 {
     let old = files::open_named(2);
     if old < 0 {
         return NOT_DONE;
@@ -205,10 +202,8 @@ pub fn compare_maps() -> u8 {
     if new < 0 {
         return NOT_DONE;
     }
-    let mut window = [0u8; WINDOW];
-    let mut sheet = [0u8; SHEET];
     let mut list = [0u16; MOST];
-    compare_both(old, new, &mut window, &mut list, &mut sheet)
+    compare_both(old, new, window, &mut list, sheet)
 }
 
 // The new map stands in the window behind the old one.
@@ -248,7 +243,7 @@ fn show_differences(
     maps::show_differences(old, new, list, sheet)
 }
 
-pub fn salvage_recording() -> u8 {
+pub fn salvage_recording(window: &mut [u8; WINDOW], sheet: &mut [u8; SHEET]) -> u8 {
     let over = os::arg_count() == 5;
     if over && !says_over() {
         return WRONG_WORDS;
@@ -263,7 +258,7 @@ pub fn salvage_recording() -> u8 {
         os::fail(b"file name");
         return NOT_DONE;
     }
-    salvage_to(fd, &clean[..length], over)
+    salvage_to(fd, &clean[..length], over, window, sheet)
 }
 
 // Whether the word after CLEAN says that a file may be written over.
@@ -274,42 +269,41 @@ fn says_over() -> bool {
 }
 
 // A salvage is done exactly if CLEAN is whole on its device, whatever was skipped.
-fn salvage_to(fd: i32, clean: &[u8], over: bool) -> u8 {
-    let mut window = [0u8; WINDOW];
-    let mut sheet = [0u8; SHEET];
-    if !clean::is_free(clean, fd, over, &mut sheet) {
+fn salvage_to(
+    fd: i32,
+    clean: &[u8],
+    over: bool,
+    window: &mut [u8; WINDOW],
+    sheet: &mut [u8; SHEET],
+) -> u8 {
+    if !clean::is_free(clean, fd, over, sheet) {
         return NOT_DONE;
     }
-    let file = clean::open_part(clean, &mut sheet);
+    let file = clean::open_part(clean, sheet);
     if file < 0 {
         return NOT_DONE;
     }
-    let s = damaged::walk(damaged::begin(fd, file), &mut window, &mut sheet);
+    let s = damaged::walk(damaged::begin(fd, file), window, sheet);
     let s = damaged::store(s);
     libc::close(fd);
-    let out = damaged::add_totals(s, &mut sheet);
-    if output::end(out, &sheet) != DONE {
-        clean::remove_part(clean, &mut sheet);
+    let out = damaged::add_totals(s, sheet);
+    if output::end(out, sheet) != DONE {
+        clean::remove_part(clean, sheet);
         return NOT_DONE;
     }
-    if clean::take_name(clean, over, &mut sheet) {
+    if clean::take_name(clean, over, sheet) {
         return DONE;
     }
     NOT_DONE
 }
 
-pub fn explain() -> u8 {
+pub fn explain(sheet: &mut [u8; SHEET]) -> u8 {
     let n = files::read_number(2);
     if !n.good || n.value < 1 || why::NUMBERS < n.value {
         return WRONG_WORDS;
     }
-    let mut sheet = [0u8; SHEET];
-    explain_number(n.value, &mut sheet)
-}
-
-fn explain_number(n: u64, sheet: &mut [u8; SHEET]) -> u8 {
-    let mut at = page::fill_in(sheet, 0, b"#: ", &[n]);
-    at = why::put_reason(sheet, at, n as usize);
+    let mut at = page::fill_in(sheet, 0, b"#: ", &[n.value]);
+    at = why::put_reason(sheet, at, n.value as usize);
     at = page::put_byte(sheet, at, b'\n');
     output::end(output::begin(at), sheet)
 }

@@ -6,6 +6,7 @@ use crate::why;
 use frame::DATA;
 use header::Header;
 use header::HeaderAnswer;
+use header_rule::MOST_SIZE;
 use radial::ROOM;
 use radial::Radial;
 use radial_check::CONSTANTS;
@@ -75,7 +76,17 @@ fn put_header(sheet: &mut [u8; SHEET], at: usize, h: Header) -> usize {
     let mut next = page::fill_in(sheet, at, b"type #, sequence #, ", &first);
     next = put_stamp(sheet, next, h.date, h.milliseconds);
     let last = [wide16(h.number), wide16(h.segments)];
-    page::fill_in(sheet, next, b", segment # of #\n", &last)
+    next = page::fill_in(sheet, next, b", segment # of #", &last);
+    let size = h.size;
+    put_form(sheet, next, size.0)
+}
+
+// The end of a line. A header with a size that its own field cannot hold has the long form.
+fn put_form(sheet: &mut [u8; SHEET], at: usize, size: u32) -> usize {
+    if MOST_SIZE < size {
+        return page::put_text(sheet, at, b", long form\n");
+    }
+    page::put_byte(sheet, at, b'\n')
 }
 
 // No rule checks a radial's date and time. Values that no clock shows are written as stored.

@@ -5,7 +5,8 @@ use crate::part::sum;
 
 pub const PAGE: usize = 65536;
 
-pub const ROOM: usize = 1048576;
+// The longest answer: a frame of the longest radial.
+pub const ROOM: usize = 1048588;
 
 pub const SHEET: usize = PAGE + ROOM;
 

@@ -1,7 +1,9 @@
 // A file of any length, read by windows: what is looked at lies whole in the window, or is too long for it.
+use crate::part::less;
 use crate::part::sum;
 
-pub const WINDOW: usize = 2359296;
+// The longest line of cases. The longest frame, 1,048,588 bytes, fits in four times.
+pub const WINDOW: usize = 4718592;
 
 // How many bytes are read at a time: few enough to stay in the processor's cache.
 const AT_ONCE: usize = 262144;
@@ -33,18 +35,41 @@ pub fn place_of(r: Reading) -> u64 {
     std::num::wrapping_add_u64(r.base, r.from as u64)
 }
 
-// Moves the bytes that are looked at to the window's start and reads more after them.
+// Reads more after the bytes that are looked at.
 pub fn read_more(r: Reading, window: &mut [u8; WINDOW]) -> Reading {
-    let fill = move_down(window, r.from, r.fill);
-    let got = read_at(r.fd, window, fill);
+    let r = make_room(r, window);
+    let got = read_at(r.fd, window, r.fill);
     Reading {
         fd: r.fd,
-        base: place_of(r),
-        from: 0,
-        fill: sum(fill, io::count(got, window)),
+        base: r.base,
+        from: r.from,
+        fill: sum(r.fill, io::count(got, window)),
         ended: got <= 0,
         failed: got < 0,
     }
+}
+
+// Moves the bytes that are looked at to the window's start, unless they may stay.
+fn make_room(r: Reading, window: &mut [u8; WINDOW]) -> Reading {
+    if may_stay(r) {
+        return r;
+    }
+    let fill = move_down(window, r.from, r.fill);
+    let mut moved = begin(r.fd, place_of(r));
+    moved.fill = fill;
+    moved
+}
+
+// Few bytes are moved each time, so that what is read stays in the cache. Many are moved only where the window is full: a long run or a
+// long frame would else be moved at each read.
+fn may_stay(r: Reading) -> bool {
+    if r.from == 0 {
+        return true;
+    }
+    if less(r.fill, r.from) <= AT_ONCE {
+        return false;
+    }
+    AT_ONCE <= less(WINDOW, r.fill)
 }
 
 fn move_down(window: &mut [u8; WINDOW], from: usize, fill: usize) -> usize {

@@ -4,10 +4,10 @@ use Rattle.ulmarzhe_cases.proofs.run.Statement.{statement}
 use Rattle.ulmarzhe_cases.proofs.run.Tie as tie
 
 abbrev Inv-loop : tie.InvT-loop
-Inv-loop count status₀ i₀ status i = Unit {0}
+Inv-loop window₀ sheet₀ count status₀ i₀ window sheet status i = Unit {0}
 
 abbrev μ-loop : tie.MeasureT-loop
-μ-loop count status₀ i₀ status i = count - i
+μ-loop window₀ sheet₀ count status₀ i₀ window sheet status i = count - i
 
 pub run-spec : {M : Type 1} → statement M
 run-spec =

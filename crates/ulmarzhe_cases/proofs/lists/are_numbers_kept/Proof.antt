@@ -7,7 +7,7 @@ abbrev Inv-loop : tie.InvT-loop
 Inv-loop list count end i₀ i = Unit {0}
 
 abbrev μ-loop : tie.MeasureT-loop
-μ-loop list count end i₀ i = 81356 - i
+μ-loop list count end i₀ i = 74900 - i
 
 pub are-numbers-kept-spec : {M : Type 1} → statement M
 are-numbers-kept-spec =

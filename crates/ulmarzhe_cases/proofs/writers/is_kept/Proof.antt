@@ -7,7 +7,7 @@ abbrev Inv-loop : tie.InvT-loop
 Inv-loop sheet length end i₀ i = Unit {0}
 
 abbrev μ-loop : tie.MeasureT-loop
-μ-loop sheet length end i₀ i = 1048576 - i
+μ-loop sheet length end i₀ i = 1048588 - i
 
 pub is-kept-spec : {M : Type 1} → statement M
 is-kept-spec =
