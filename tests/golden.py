@@ -91,8 +91,8 @@ def frame_lines(recording):
         form = ", long form" if size == LONG_SIZE else ""
         segments = 1 if form else segments
         yield (
-            f"{place:10}  data, {len(message)} bytes{form}, type {kind}, sequence {sequence}, {stamp(days, ms)}, "
-            f"segment {1 if segments == 1 else number} of {segments}\n"
+            f"{place:10}  data, {len(message)} bytes, type {kind}, sequence {sequence}, {stamp(days, ms)}, "
+            f"segment {1 if segments == 1 else number} of {segments}{form}\n"
         )
 
 
