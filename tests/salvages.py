@@ -15,8 +15,10 @@ import golden
 from asked import DAMAGED, PROGRAM, ROOT, SAMPLE, altered, fail, frame, run, want
 
 ACCOUNT = (ROOT / "tests/golden/salvage").read_bytes()
-# How much of a file the program reads at a time, and the bytes of the longest frame.
-PIECE = int(re.search(r"AT_ONCE: usize = (\d+);", (ROOT / "crates/ulmarzhe_text/src/window.rt").read_text())[1])
+# How much of a file the program reads at a time and how much it holds, and the bytes of the longest frame.
+READS = (ROOT / "crates/ulmarzhe_text/src/window.rt").read_text()
+PIECE = int(re.search(r"AT_ONCE: usize = (\d+);", READS)[1])
+WINDOW = int(re.search(r"WINDOW: usize = (\d+);", READS)[1])
 LONGEST = 12 + golden.MOST_BODY
 # The shortest frame in the long form.
 LEAST_LONG = 12 + golden.LEAST_LONG
@@ -69,7 +71,17 @@ def at_edges(scratch):
             among += sound_up_to(place - len(among)) + b"\7" * length
         want_salvaged(scratch, bytes(alone))
         want_salvaged(scratch, among + sound(5000) + b"\7" * LONGEST)
-    return f"a frame and a run at each of {len(AROUND) * len(EDGES)} places around the edges of windows"
+    return f"a frame and a run at each of {len(AROUND) * len(EDGES)} places around the edges of pieces"
+
+
+def full_window(scratch):
+    """A run longer than the window, with a frame around its end and around where the longest frame no longer ends in it."""
+    places = [edge + away for edge in (WINDOW - LONGEST, WINDOW, 2 * WINDOW - LONGEST) for away in (-30, -2, -1, 0, 1, 2)]
+    for place in places:
+        recorded = bytearray(b"\7" * (2 * WINDOW + PIECE))
+        recorded[place : place + 30] = sound(30)
+        want_salvaged(scratch, bytes(recorded))
+    return f"a frame at each of {len(places)} places around the edges of windows"
 
 
 def long_frames(scratch):
@@ -82,7 +94,7 @@ def long_frames(scratch):
         whole[:-1] + b"\7" + unsound + b"\7" + whole,
         sound(LEAST_LONG - 2, inner) + sound(LEAST_LONG, inner) + altered(sound(LEAST_LONG, inner), b27=b"\xfc"),
     ]
-    places = [max(0, edge + away) for edge in (0, PIECE, LAST, LAST + PIECE) for away in range(-2, 3)]
+    places = [max(0, edge + away) for edge in (0, PIECE, LAST, LAST + PIECE, WINDOW - LONGEST) for away in range(-2, 3)]
     for place, ending in itertools.product(places, endings):
         want_salvaged(scratch, b"\7" * place + ending)
     return f"{len(places) * len(endings)} recordings with the longest frame"
@@ -140,7 +152,12 @@ def many_runs(scratch):
         f"fewer salvage {28 * count} {count} {asked} {answer}{runs.rsplit(' ', 2)[0]}\n"
     )
     want(("cases", cases), b"all same\noutput same\nruns same\nmore same\nlast differs\nfewer differs\n", status=1)
-    return "30,000 runs of a recording, and 12,000 of an answer"
+    most = LONGEST // 28
+    asked = f"x{(bytes(1) + (sound(28) + bytes(1)) * most).hex()} ="
+    answer = f"salvaged {most} {most + 1} x{(sound(28) * most).hex()}" + "".join(f" {29 * i} 1" for i in range(most + 1))
+    cases.write_text(f"most salvage {2**64 - 1} {2**64 - 1} {asked} {answer}\n")
+    want(("cases", cases), b"most same\n")
+    return f"30,000 runs of a recording, 12,000 and {most + 1:,} of an answer"
 
 
 def seen(folder):
@@ -298,6 +315,6 @@ def how_far(scratch):
 
 
 TESTS = (
-    at_edges, long_frames, no_damage_and_nothing_else, by_chance, many_runs, refused, not_allowed, failing, interrupted,
-    how_far,
+    at_edges, full_window, long_frames, no_damage_and_nothing_else, by_chance, many_runs, refused, not_allowed, failing,
+    interrupted, how_far,
 )
