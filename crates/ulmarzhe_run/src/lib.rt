@@ -115,7 +115,7 @@ fn run(command: usize, table: &[u8], window: &mut [u8; WINDOW], sheet: &mut [u8;
         PICTURE => ulmarzhe_show::draw_picture(window, sheet),
         MAP => ulmarzhe_show::show_map_code(window, sheet),
         COMPARE => ulmarzhe_show::compare_maps(window, sheet),
-        SALVAGE => ulmarzhe_show::salvage_recording(window, sheet),
+        SALVAGE => ulmarzhe_salvage::salvage_recording(window, sheet),
         WHY => ulmarzhe_show::explain(sheet),
         CASES => ulmarzhe_cases::run(window, sheet),
         _ => help(table, sheet),

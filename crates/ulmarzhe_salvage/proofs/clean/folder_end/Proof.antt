@@ -1,8 +1,8 @@
 use lib.ListN.{length}
 use Prim.Native.Nat.{_≤_}
 use borrow.Author.Needs.{needs}
-use Rattle.ulmarzhe_show.proofs.clean.folder_end.Statement.{statement}
-use Rattle.ulmarzhe_show.proofs.clean.folder_end.Tie as tie
+use Rattle.ulmarzhe_salvage.proofs.clean.folder_end.Statement.{statement}
+use Rattle.ulmarzhe_salvage.proofs.clean.folder_end.Tie as tie
 
 abbrev Inv-loop : tie.InvT-loop
 Inv-loop clean end₀ end = end ≤ length clean

@@ -2,8 +2,8 @@ use Prim.Native.Nat.{_-_}
 use mathlib.Core.Path.{_≡_}
 use lib.ListN.{length}
 use borrow.Author.Needs.{needs}
-use Rattle.ulmarzhe_show.proofs.clean.end_path.Statement.{statement}
-use Rattle.ulmarzhe_show.proofs.clean.end_path.Tie as tie
+use Rattle.ulmarzhe_salvage.proofs.clean.end_path.Statement.{statement}
+use Rattle.ulmarzhe_salvage.proofs.clean.end_path.Tie as tie
 
 abbrev Inv-loop : tie.InvT-loop
 Inv-loop text path₀ i₀ path i = length path ≡ 4096

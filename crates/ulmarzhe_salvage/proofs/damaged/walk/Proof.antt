@@ -1,6 +1,6 @@
 use borrow.Author.Needs.{needs}
-use Rattle.ulmarzhe_show.proofs.damaged.walk.Statement.{statement}
-use Rattle.ulmarzhe_show.proofs.damaged.walk.Tie as tie
+use Rattle.ulmarzhe_salvage.proofs.damaged.walk.Statement.{statement}
+use Rattle.ulmarzhe_salvage.proofs.damaged.walk.Tie as tie
 
 abbrev Inv-loop : tie.InvT-loop
 Inv-loop window₀ sheet₀ s₀ turns₀ window sheet s turns = Unit {0}

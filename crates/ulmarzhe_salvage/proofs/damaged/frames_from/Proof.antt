@@ -1,6 +1,6 @@
 use borrow.Author.Needs.{needs}
-use Rattle.ulmarzhe_show.proofs.damaged.frames_from.Statement.{statement}
-use Rattle.ulmarzhe_show.proofs.damaged.frames_from.Tie as tie
+use Rattle.ulmarzhe_salvage.proofs.damaged.frames_from.Statement.{statement}
+use Rattle.ulmarzhe_salvage.proofs.damaged.frames_from.Tie as tie
 
 abbrev Inv-loop : tie.InvT-loop
 Inv-loop stream at f₀ turns₀ f turns = Unit {0}
