@@ -61,6 +61,15 @@ module _ (from before to : List ℕ) (i n : ℕ) (same : length from ≡ length 
   pub part-turn : Copied from before (take i to ++ (ys ++ drop k (drop i to))) (i + n)
   part-turn = (room, part-in, ap length part-in ∙ part-long)
 
+-- a whole block
+pub block-turn : (from before to : List ℕ) (i n : ℕ) (ys : List ℕ) → length from ≡ length before → Copied from before to i
+    → i + n ≤ length to
+    → ys ≡ take (i + n - i) (drop i from)
+    → Copied from before (take i to ++ (ys ++ drop (i + n - i) (drop i to))) (i + n)
+block-turn from before to i n ys same c room part =
+    let d : i + n - i ≡ n = omega arith in
+    part-turn from before to i n same c (omega (arith, room, c .2)) (i + n - i) (i + n - i) ys d d part
+
 -- what is left, in one part
 module _ (from before to : List ℕ) (i : ℕ) (same : length from ≡ length before) (c : Copied from before to i) (ys : List ℕ)
     (part : ys ≡ take (length from - i) (drop i from)) where

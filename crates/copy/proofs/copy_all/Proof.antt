@@ -1,10 +1,9 @@
-use Rattle.copy.proofs.CopyLaws.{Copied, part-turn, part-end, part-end-long}
+-- `copy_all` meets its contract: a turn of its loop copies a block more. Assumes nothing.
+use Prim.Native.Nat.{_-_}
 use lib.ListN.{length}
-use Rattle.copy.specs.Copying.{copyBlock}
-use Prim.Native.Nat.{_+_, _-_}
-use denote.Ref.{now}
-use native.Mathlib.Omega.{arith}
 use borrow.Author.Needs.{needs}
+use Rattle.copy.specs.Copying.{copyBlock}
+use Rattle.copy.proofs.CopyLaws.{Copied, block-turn, part-end, part-end-long}
 use Rattle.copy.proofs.copy_all.Statement.{statement}
 use Rattle.copy.proofs.copy_all.Tie as tie
 
@@ -16,35 +15,13 @@ abbrev μ-loop : tie.MeasureT-loop
 
 loop-again : tie.Need-loop-again Inv-loop μ-loop
 loop-again c =
-    let args = c .before .before .before .before .before .before .before .before .before .args in
-    let pre = c .before .before .before .before .before .before .before .before .before .pre in
-    let loop = c .before .before .before .before .before .before .loop in
-    let loop-test = c .before .before .before .before .before .loop-test in
-    let copy-block = c .before .before .copy-block in
-    part-turn (now (args .from)) (now (args .to)) (loop .to) (loop .done) copyBlock pre (loop .inv)
-    (omega (arith, loop-test .taken, loop .inv .2)) (loop .done + copyBlock - loop .done) (loop .done + copyBlock - loop .done)
-    (copy-block .last .1 .0) (omega arith) (omega arith)
-    (copy-block .ensures)
-
-same-length : tie.Need-same-length Inv-loop μ-loop
-same-length c =
-    let args = c .before .before .before .before .before .before .before .before .before .args in
-    let pre = c .before .before .before .before .before .before .before .before .before .pre in
-    let loop = c .before .before .before .before .before .before .loop in
-    let copy-each = c .before .before .copy-each in
-    part-end-long (now (args .from)) (now (args .to)) (loop .to) (loop .done) pre (loop .inv) (copy-each .last .1 .0) (copy-each .ensures)
-
-returns : tie.Need-returns Inv-loop μ-loop
-returns c =
-    let args = c .before .before .before .before .before .before .before .before .before .args in
-    let pre = c .before .before .before .before .before .before .before .before .before .pre in
-    let loop = c .before .before .before .before .before .before .loop in
-    let copy-each = c .before .before .copy-each in
-    part-end (now (args .from)) (now (args .to)) (loop .to) (loop .done) pre (loop .inv) (copy-each .last .1 .0) (copy-each .ensures)
+    let tested = c .before .before .before .before .before in
+    block-turn _ _ _ _ copyBlock _ (tested .before .before .before .before .pre) (tested .before .loop .inv) (tested .loop-test .taken)
+    (c .before .before .copy-block .ensures)
 
 pub copy-all-spec : {M : Type 1} → statement M
 copy-all-spec =
     tie.close (tie.spec Inv-loop μ-loop (λ c. search needs) (λ c. search needs) (λ c. search needs) (λ c. search needs)
     (λ c. search needs) (λ c. search needs) (λ c. search needs) (λ c. search needs) (λ c. search needs) (λ c κs. search needs)
     (λ c. search needs) loop-again (λ c. search needs) (λ c. search needs) (λ c. search needs) (λ c. search needs)
-    (λ c. search needs) (λ c. search needs) (λ c κs. search needs) same-length returns)
+    (λ c. search needs) (λ c. search needs) (λ c κs. search needs) (λ c. search (needs, part-end-long)) (λ c. search (needs, part-end)))
