@@ -231,7 +231,8 @@ module _ (b : List ℕ) (s : Stored) (t : Bool) (looked : s ≡ storedOr0 b) (to
         milliseconds = s .milliseconds;
         segments = s .segments;
         number =
-            reportedNumber (s .segments) ((fetched-whole 2 b numberPlace (omega (arith, enough)) ∙ ap (λ (x : Stored). x .number) (sym is)) i);
+            reportedNumber (s .segments)
+            ((fetched-whole 2 b numberPlace (omega (arith, enough)) ∙ ap (λ (x : Stored). x .number) (sym is)) i);
       }) ∙ sym (short-shape s (rw (accepted .0)))
 
   pub short-read : (r : Header) → r ≡ reportedShort b s → headerOf b ≡ given r

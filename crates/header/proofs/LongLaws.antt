@@ -135,7 +135,8 @@ module _ (b : List ℕ) (l : Long b) where
       take-both e = go (someBroken lengths) refl (someBroken times) refl (sym decides ∙ e)
         where
           go : (t : Bool) → someBroken lengths ≡ t → (u : Bool) → someBroken times ≡ u
-              → _≡_ {A = Answer Header} (pick t (refused 5) (pick u (refused 8) (given (headerIn b)))) (given (headerIn b)) → LengthHolds b × TimeHolds b
+              → _≡_ {A = Answer Header} (pick t (refused 5) (pick u (refused 8) (given (headerIn b)))) (given (headerIn b))
+              → LengthHolds b × TimeHolds b
           go true p u q e = never (cc e)
           go false p true q e = never (cc e)
           go false p false q e = (length-from p, time-from q)

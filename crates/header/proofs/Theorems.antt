@@ -5,7 +5,7 @@ use native.Mathlib.Omega.{arith}
 use mathlib.Core.Path.{_≡_, refl, sym, ap, _∙_, subst}
 use mathlib.Core.Logic.{_⊎_, ⊎-elim}
 use mathlib.Core.Bool.{Bool, true, false, not}
-use mathlib.Core.List.{List, [], _∷_, _++_}
+use mathlib.Core.List.{List, [], _∷_, _++_, append-assoc}
 use lib.Dec.{ltb, eqb}
 use lib.ListN.{length}
 use borrow.Author.Tests.{lt-ltb, le-ltb, ltb-false, eq-eqb, eqb-true, not-false}
@@ -203,14 +203,12 @@ module _ (b : List ℕ) where
       forms : formChecksOf (storedIn b) (length b) ≡ sized
       forms = form-other (storedIn b .size) (storedIn b .kind) n k (length b) e
 
-      joined : check 4 (ltb (length b) headerSize) ∷ sized ++ (check 6 (notPermitted (storedIn b .kind)) ∷ segments ++ times) ≡ before ++ (segments ++ times)
-      joined = go (marked (storedIn b .size))
-        where
-          go : (t : Bool) → _≡_ {A = List Check}
-              (check 4 (ltb (length b) headerSize) ∷ pick t [] (sizeChecks (storedIn b .size) (length b)) ++ (check 6 (notPermitted (storedIn b .kind)) ∷ segments ++ times))
-              ((check 4 (ltb (length b) headerSize) ∷ pick t [] (sizeChecks (storedIn b .size) (length b)) ++ (check 6 (notPermitted (storedIn b .kind)) ∷ [])) ++ (segments ++ times))
-          go true = refl
-          go false = refl
+      typed : Check
+      typed = check 6 (notPermitted (storedIn b .kind))
+
+      joined : check 4 (ltb (length b) headerSize) ∷ sized ++ (typed ∷ segments ++ times) ≡ before ++ (segments ++ times)
+      joined =
+          ap (λ (ks : List Check). check 4 (ltb (length b) headerSize) ∷ ks) (sym (append-assoc sized (typed ∷ []) (segments ++ times)))
 
   -- of one segment N's own checks hold, those of the number, and that of a radial
   lone-counted : Lone b → AllHold (countChecks n)

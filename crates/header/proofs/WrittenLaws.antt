@@ -71,11 +71,14 @@ module _ (h : Header) (rest : List ℕ) (fit : Fit (shortTable h)) (fits : tooLa
       let most : h .size .0 ≤ mostSize .0 = ltb-false (mostSize .0) (h .size .0) fits in
       let sizes : AllHold (sizeChecks (storedIn short .size) long) = (
         le-ltb (num 2 short 0) (leastSize .0) (omega (arith, is, least)),
-        (le-ltb (mostSize .0) (num 2 short 0) (omega (arith, s .0, most)), (even-holds long even, (simp (eq-eqb (long / 2) (num 2 short 0) (sym is)), tt))),
+        (
+          le-ltb (mostSize .0) (num 2 short 0) (omega (arith, s .0, most)),
+          (even-holds long even, (simp (eq-eqb (long / 2) (num 2 short 0) (sym is)), tt)),
+        ),
       ) in
+      let v = storedIn short in
       subst (λ (ks : List Check). AllHold ks)
-      (sym (form-short (storedIn short .size) (storedIn short .kind) (storedIn short .segments) (storedIn short .number) long short-unmarked))
-      sizes
+      (sym (form-short (v .size) (v .kind) (v .segments) (v .number) long short-unmarked)) sizes
 
 -- ---- the long form
 module _ (h : Header) (rest : List ℕ) (fit : Fit (longTable h)) (radial : h .kind ≡ radialType) where
@@ -116,7 +119,10 @@ module _ (h : Header) (rest : List ℕ) (fit : Fit (longTable h)) (radial : h .k
       let is : z .0 ≡ n = told ∙ omega (arith, half, even) in
       let lengths : AllHold (lengthChecks z n) = (
         even-holds (z .0) (omega (arith, is, even)),
-        (le-ltb (z .0) (leastLength .0) (omega (arith, is)), (le-ltb (longestMessage .0) (z .0) (omega (arith, is)), (simp (eq-eqb (z .0) n is), tt))),
+        (
+          le-ltb (z .0) (leastLength .0) (omega (arith, is)),
+          (le-ltb (longestMessage .0) (z .0) (omega (arith, is)), (simp (eq-eqb (z .0) n is), tt)),
+        ),
       ) in
       subst (λ (ks : List Check). AllHold ks)
       (sym (form-long (storedIn long .size) (storedIn long .kind) (storedIn long .segments) (storedIn long .number) n long-marked)) lengths

@@ -112,7 +112,8 @@ by-form C size kind high low long inLong other inShort = go (marked size) (eqb k
     go false u = inShort
 
 -- of a size that is not 65,535 they are the short form's, whatever the type; of 65,535 they are the length's for a radial, else none
-pub form-short : (size : Halfwords) (kind high low long : ℕ) → marked size ≡ false → formChecks size kind high low long ≡ sizeChecks size long
+pub form-short : (size : Halfwords) (kind high low long : ℕ) → marked size ≡ false
+    → formChecks size kind high low long ≡ sizeChecks size long
 form-short size kind high low long e = rw e
 
 pub form-long : (size : Halfwords) (kind high low long : ℕ) → longForm size kind ≡ true

@@ -128,7 +128,8 @@ module _ (g : Given) (body out : List ℕ) (size : Bytes) (e : writeOf g body ou
           go false q = ltb-false (headerSize + length body) (leastLength .0) q
           go true q =
               let small = ltb-true (headerSize + length body) (leastLength .0) q in
-              let at = sym (mark-short g 1 1 body left) ∙ sym (ap (λ (x : List ℕ). num 2 x headSize) (output-is false (short-size small))) ∙ m in
+              let begun = ap (λ (x : List ℕ). num 2 x headSize) (output-is false (short-size small)) in
+              let at = sym (mark-short g 1 1 body left) ∙ sym begun ∙ m in
               absurd (omega (arith, small, at))
 
 pub lone-number : LoneNumber

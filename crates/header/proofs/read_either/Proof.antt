@@ -5,4 +5,6 @@ use Rattle.header.proofs.read_either.Statement.{statement}
 use Rattle.header.proofs.read_either.Tie as tie
 
 pub read-either-spec : {M : Type 1} → statement M
-read-either-spec = tie.close (tie.spec (λ c κs. search needs) (λ c κs. search needs) (λ c. sym (search (needs, header-refused))) (λ c κs. search needs) (λ c. sym (search (needs, header-read))))
+read-either-spec =
+    tie.close (tie.spec (λ c κs. search needs) (λ c κs. search needs) (λ c. sym (search (needs, header-refused))) (λ c κs. search needs)
+    (λ c. sym (search (needs, header-read))))

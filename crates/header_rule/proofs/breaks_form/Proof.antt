@@ -16,4 +16,6 @@ returns-3 c =
     (c .breaks-length .ensures ∙ ap (λ (z : Bytes). someBroken (lengthChecks z (a .long))) (c .before .length-in .ensures))
 
 pub breaks-form-spec : {M : Type 1} → statement M
-breaks-form-spec = tie.close (tie.spec (λ c κs. search needs) (λ c. search (needs, tests)) (λ c. search (needs, tests)) (λ c κs. search needs) (λ c κs. search needs) returns-3)
+breaks-form-spec =
+    tie.close (tie.spec (λ c κs. search needs) (λ c. search (needs, tests)) (λ c. search (needs, tests)) (λ c κs. search needs)
+    (λ c κs. search needs) returns-3)

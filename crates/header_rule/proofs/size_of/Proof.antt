@@ -13,4 +13,5 @@ returns c =
     at-told _ _ _ _ _ (c .before .before .before .is-long .ensures) (search needs) half
 
 pub size-of-spec : {M : Type 1} → statement M
-size-of-spec = tie.close (tie.spec (λ c κs. search needs) (λ c κs. search needs) (λ c κs. search needs) returns (λ c. search (needs, tests)))
+size-of-spec =
+    tie.close (tie.spec (λ c κs. search needs) (λ c κs. search needs) (λ c κs. search needs) returns (λ c. search (needs, tests)))

@@ -32,9 +32,13 @@ returns c =
     let low = s .low-field .ensures ∙ ap (lowWritten (a .k)) half in
     let channel : a .given .channel % 256 ≡ a .given .channel = omega arith in
     let kind : a .given .kind % 256 ≡ a .given .kind = omega arith in
-    sym (ap (λ (l : List ℕ). render (headTable dataKind 0 (a .size)) ++ l) (sym (header-bytes (headerFor (a .given) (a .n) (a .k) (a .size))))
+    let header = header-bytes (headerFor (a .given) (a .n) (a .k) (a .size)) in
+    sym (ap (λ (l : List ℕ). render (headTable dataKind 0 (a .size)) ++ l) (sym header)
     ∙ simp (channel, kind, ← size, ← high, ← low))
 
 pub heads-of-spec : {M : Type 1} → statement M
 heads-of-spec =
-    tie.close (tie.spec (λ c κs. search needs) (λ c κs. search needs) high-field-requires low-field-requires (λ c. search needs) (λ c. search needs) (λ c. search needs) (λ c. search needs) (λ c. search needs) (λ c. search needs) (λ c. search needs) (λ c. search needs) (λ c. search needs) (λ c. search needs) (λ c. search needs) (λ c. search needs) (λ c. search needs) (λ c. search needs) (λ c. search needs) (λ c. search needs) (λ c. search needs) (λ c. search needs) returns)
+    tie.close (tie.spec (λ c κs. search needs) (λ c κs. search needs) high-field-requires low-field-requires (λ c. search needs)
+    (λ c. search needs) (λ c. search needs) (λ c. search needs) (λ c. search needs) (λ c. search needs) (λ c. search needs)
+    (λ c. search needs) (λ c. search needs) (λ c. search needs) (λ c. search needs) (λ c. search needs) (λ c. search needs)
+    (λ c. search needs) (λ c. search needs) (λ c. search needs) (λ c. search needs) (λ c. search needs) returns)

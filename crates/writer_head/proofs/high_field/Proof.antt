@@ -4,4 +4,6 @@ use Rattle.writer_head.proofs.high_field.Statement.{statement}
 use Rattle.writer_head.proofs.high_field.Tie as tie
 
 pub high-field-spec : {M : Type 1} → statement M
-high-field-spec = tie.close (tie.spec (λ c κs. search needs) (λ c. search needs) (λ c. search needs) (λ c. search (needs, tests)) (λ c. search (needs, tests)))
+high-field-spec =
+    tie.close (tie.spec (λ c κs. search needs) (λ c. search needs) (λ c. search needs) (λ c. search (needs, tests))
+    (λ c. search (needs, tests)))

@@ -13,4 +13,6 @@ cast-result-2 c =
     omega (arith, ltb-false (mostSize .0) size (sym (c .before .before .is-long .ensures) ∙ c .before .if1 .left))
 
 pub size-field-spec : {M : Type 1} → statement M
-size-field-spec = tie.close (tie.spec (λ c κs. search needs) (λ c. search needs) (λ c. search (needs, tests)) cast-result-2 (λ c. search (needs, tests)))
+size-field-spec =
+    tie.close (tie.spec (λ c κs. search needs) (λ c. search needs) (λ c. search (needs, tests)) cast-result-2
+    (λ c. search (needs, tests)))
