@@ -5,7 +5,7 @@ use mathlib.Core.List.{[]}
 use mathlib.Core.Path.{_≡_, sym, _∙_}
 use Rattle.wire.proofs.AnswerLaws.{only-answer}
 use Rattle.wire.proofs.CheckLaws.{never}
-use Rattle.header.specs.Header.{asReported, headerIn, headerOf}
+use Rattle.header.specs.Header.{headerIn, headerOf}
 use Rattle.header.specs.Steps.{acceptedShort, refusalOf, reportedShort, storedOr0}
 use Rattle.header.specs.Told.{tellHeader}
 use Rattle.header.specs.declared.HeaderAnswer.{HeaderAnswer}
@@ -16,7 +16,6 @@ use Rattle.header.proofs.no_header.Reads as no-header
 use Rattle.header.proofs.read_either.Reads as read-either
 use Rattle.header.proofs.accepts_short.Reads as accepts-short
 use Rattle.header.proofs.report_short.Reads as report-short
-use Rattle.header.proofs.report.Reads as report
 use Rattle.header.proofs.check_header.Reads as check-header
 
 pub header-apart : (a b : HeaderAnswer) → tellHeader a ≡ tellHeader b → a ≡ b
@@ -46,13 +45,12 @@ no-header-says κs r last l = l
 pub no-header-one : (κs r r₂ last last₂ : _) → no-header.Learnt κs tt r last → no-header.Learnt κs tt r₂ last₂ → r ≡ r₂
 no-header-one κs r r₂ last last₂ l l₂ = l ∙ sym l₂
 
-pub read-either-says : (κs message r last : _) → read-either.Learnt κs (message, tt) r last → tellHeader r ≡ headerOf (now message)
-read-either-says κs message r last l = l
+pub read-either-says : (κs body r last : _) → read-either.Learnt κs (body, tt) r last → tellHeader r ≡ headerOf (now body)
+read-either-says κs body r last l = l
 
-pub read-either-one : (κs message r r₂ last last₂ : _) → read-either.Learnt κs (message, tt) r last
-    → read-either.Learnt κs (message, tt) r₂ last₂
+pub read-either-one : (κs body r r₂ last last₂ : _) → read-either.Learnt κs (body, tt) r last → read-either.Learnt κs (body, tt) r₂ last₂
     → r ≡ r₂
-read-either-one κs message r r₂ last last₂ l l₂ = only-answer tellHeader header-apart (headerOf (now message)) r r₂ l l₂
+read-either-one κs body r r₂ last last₂ l l₂ = only-answer tellHeader header-apart (headerOf (now body)) r r₂ l l₂
 
 pub accepts-short-says : (κs s long r last : _) → accepts-short.Learnt κs (s, (long, tt)) r last → r ≡ acceptedShort s long
 accepts-short-says κs s long r last l = l
@@ -68,12 +66,6 @@ pub report-short-one : (κs message s r r₂ last last₂ : _) → report-short.
     → report-short.Learnt κs (message, (s, tt)) r₂ last₂
     → r ≡ r₂
 report-short-one κs message s r r₂ last last₂ l l₂ = l ∙ sym l₂
-
-pub report-says : (κs s r last : _) → report.Learnt κs (s, tt) r last → r ≡ asReported s
-report-says κs s r last l = l
-
-pub report-one : (κs s r r₂ last last₂ : _) → report.Learnt κs (s, tt) r last → report.Learnt κs (s, tt) r₂ last₂ → r ≡ r₂
-report-one κs s r r₂ last last₂ l l₂ = l ∙ sym l₂
 
 pub check-header-says : (κs s long r last : _) → check-header.Learnt κs (s, (long, tt)) r last → r ≡ refusalOf s long
 check-header-says κs s long r last l = l

@@ -60,12 +60,12 @@ pub fn read_header(message: &[u8]) -> HeaderAnswer
     read_either(message)
 }
 
-// The header of a message of either form.
-pub fn read_either(message: &[u8]) -> HeaderAnswer
-    ensures { λ r. ⌜ tellHeader r ≡ headerOf (now (message .entry)) ⌝ }
+// The same, with neither form tried first.
+pub fn read_either(body: &[u8]) -> HeaderAnswer
+    ensures { λ r. ⌜ tellHeader r ≡ headerOf (now (body .entry)) ⌝ }
 {
-    let s = stored_in(message);
-    let number = check_header(s, message.len());
+    let s = stored_in(body);
+    let number = check_header(s, body.len());
     if number != 0 {
         return HeaderAnswer::Refused(number);
     }
@@ -211,7 +211,7 @@ pub fn check_header(s: Stored, long: usize) -> u8
 }
 
 // The header reported of these stored values, in either form.
-pub fn report(s: Stored) -> Header
+fn report(s: Stored) -> Header
     ensures { λ r. ⌜ r ≡ asReported s ⌝ }
 {
     let size = header_rule::size_of(s.size, s.kind, s.segments, s.number);
