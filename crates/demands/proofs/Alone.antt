@@ -14,10 +14,11 @@ use Rattle.header.specs.declared.HeaderAnswer.{HeaderAnswer}
 use Rattle.header.specs.declared.HeaderAnswer.the-variants.{Read, Refused}
 use Rattle.header.specs.Header.{storedIn, countOf, headerIn, headerOf}
 use Rattle.header.specs.Told.{tellHeader}
-use Rattle.header.specs.Theorems.{Lone, numberPlace, ButTwoBytes, loneChecks}
+use Rattle.header.specs.Theorems.{Lone, numberPlace, ButTwoBytes}
+use Rattle.header_form.specs.Theorems.{loneChecks}
 use Rattle.header_rule.proofs.RuleLaws.{number-lone, number-other}
 use Rattle.header.proofs.LoneLaws.{lone-header}
-use Rattle.header.proofs.Theorems.{lone-by-other-checks, number-outside}
+use Rattle.header_form.proofs.Theorems.{lone-by-other-checks, number-outside}
 use Rattle.header.proofs.Welds.{header-apart}
 use Rattle.set_spec.specs.Walk.{SetSays, setOf}
 use Rattle.set_spec.proofs.FrameFacts.{header-given}

@@ -19,10 +19,10 @@ use Rattle.header.specs.declared.HeaderAnswer.{HeaderAnswer}
 use Rattle.header.specs.declared.HeaderAnswer.the-variants.{Read, Refused}
 use Rattle.header.specs.Header.{headerIn, headerOf}
 use Rattle.header.specs.Told.{tellHeader}
-use Rattle.header.specs.Theorems.{Long, LengthHolds, TimeHolds, CountsAsOne}
+use Rattle.header_form.specs.Theorems.{Long, LengthHolds, TimeHolds, CountsAsOne}
 use Rattle.header.proofs.Welds.{header-apart}
-use Rattle.header.proofs.Theorems.{by-size, size-is-true}
-use Rattle.header.proofs.LongLaws.{long-exactly, no-freedom, marked-other}
+use Rattle.header_form.proofs.Theorems.{by-size, size-is-true}
+use Rattle.header_form.proofs.LongLaws.{long-exactly, no-freedom, marked-other}
 use Rattle.set_spec.proofs.FrameFacts.{header-given}
 use Rattle.writer.specs.Theorems.{RadialForm}
 use Rattle.writer.proofs.Theorems.{form-written}

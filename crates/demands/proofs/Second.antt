@@ -16,7 +16,7 @@ use Rattle.frame.specs.Session.{headSize, wholeLong}
 use Rattle.frame.proofs.Theorems.{head-stands}
 use Rattle.header.specs.Header.{headerSize}
 use Rattle.header.specs.declared.Header.{Header}
-use Rattle.header.proofs.Theorems.{header-stands}
+use Rattle.header_form.proofs.Theorems.{header-stands}
 use Rattle.request.proofs.Theorems.{body-is-table}
 use Rattle.censor.specs.declared.Censor.{Censor}
 use Rattle.form_spec.specs.Forms.{bodyBy}

@@ -21,7 +21,7 @@ use Rattle.frame.proofs.frame_at.Reads as frame-at
 use Rattle.header.specs.Header.{headerSize}
 use Rattle.header.specs.declared.Header.{Header}
 use Rattle.header.specs.declared.HeaderAnswer.the-variants.{Read as ReadHeader}
-use Rattle.header.specs.Theorems.{Stands}
+use Rattle.header_form.specs.Theorems.{Stands}
 use Rattle.header.proofs.read_header.Reads as read-header
 use Rattle.request.specs.Request.{requestForm}
 use Rattle.request.specs.declared.RequestAnswer.the-variants.{Code}

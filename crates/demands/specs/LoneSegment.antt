@@ -15,7 +15,8 @@ use Rattle.frame.specs.Session.{headSize}
 use Rattle.header.specs.declared.HeaderAnswer.the-variants.{Read, Refused}
 use Rattle.header_rule.specs.Rules.{leastLength}
 use Rattle.header.specs.Header.{headerSize, storedIn, isLong, headerIn}
-use Rattle.header.specs.Theorems.{Lone, numberPlace, ButTwoBytes, beforeSegment, loneChecks}
+use Rattle.header.specs.Theorems.{Lone, numberPlace, ButTwoBytes}
+use Rattle.header_form.specs.Theorems.{beforeSegment, loneChecks}
 use Rattle.header.proofs.read_header.Reads as read-header
 use Rattle.set_spec.specs.Theorems.{WholeFrames, LoneFrame}
 use Rattle.set.proofs.read_set.Reads as read-set

@@ -15,7 +15,8 @@ use Rattle.frame.specs.Session.{headSize}
 use Rattle.header_rule.specs.Rules.{tooLarge, longMark, notPermitted, radialType}
 use Rattle.header.specs.declared.HeaderAnswer.the-variants.{Read, Refused}
 use Rattle.header.specs.Header.{headerSize, countPlace, numberPlace, storedIn, isLong, headerIn}
-use Rattle.header.specs.Theorems.{ButTwoBytes, Long, LengthHolds, TimeHolds, CountsAsOne}
+use Rattle.header.specs.Theorems.{ButTwoBytes}
+use Rattle.header_form.specs.Theorems.{Long, LengthHolds, TimeHolds, CountsAsOne}
 use Rattle.header.proofs.read_header.Reads as read-header
 use Rattle.writer.specs.Theorems.{RadialForm}
 use Rattle.writer.proofs.write_message.Reads as write-message

@@ -21,7 +21,12 @@ use Rattle.header.specs.declared.Stored.{Stored}
 use Rattle.header_rule.specs.Rules.{marked, lengthIn, reportedNumber, sizeChecks, notPermitted, segmentChecks, timeChecks}
 use Rattle.header.specs.Header.{headerSize, channelPlace, sequencePlace, countPlace, numberPlace, storedIn, isLong, sizeOf, countOf, asReported}
 use Rattle.header.specs.Header.{headerIn, headerOf, formChecksOf, laterChecks, headerChecks}
-use Rattle.header.specs.Steps.{storedOr0, refusalOf, acceptedShort, reportedShort}
+use Rattle.header.specs.Steps.{storedOr0, countedChecks, refusalOf, acceptedShort, reportedShort}
+
+-- the segments' rules asked of the size and the N that count
+pub segments-told : (s : Stored) (size : Halfwords) (n : ℕ) (r : Bool) → size ≡ sizeOf s → n ≡ countOf s
+    → r ≡ someBroken (segmentChecks size (s .kind) n (reportedNumber n (s .number))) → r ≡ someBroken (countedChecks s)
+segments-told s size n r z c e = e ∙ (λ i. someBroken (segmentChecks (z i) (s .kind) (c i) (reportedNumber (c i) (s .number))))
 
 -- the checks of a message of `long` bytes with the stored values s, one test for each number
 module _ (s : Stored) (long : ℕ) where
@@ -29,7 +34,7 @@ module _ (s : Stored) (long : ℕ) where
   forms = formChecksOf s long
 
   abbrev segs : List Check
-  segs = segmentChecks (sizeOf s) (s .kind) (countOf s) (reportedNumber (countOf s) (s .number))
+  segs = countedChecks s
 
   abbrev times : List Check
   times = timeChecks (s .date) (s .milliseconds)
@@ -53,11 +58,6 @@ module _ (s : Stored) (long : ℕ) where
       ap (λ (x : X). pick (ltb long headerSize) (f 4) x)
       (z ∙ ap (λ (x : X). pick (someBroken forms) (f 5) (pick (notPermitted (s .kind)) (f 6) x))
       (g ∙ ap (λ (x : X). pick (someBroken segs) (f 7) x) t))
-
-  -- the segments' rules asked of the size and the N that count
-  pub segments-told : (size : Halfwords) (n : ℕ) (r : Bool) → size ≡ sizeOf s → n ≡ countOf s
-      → r ≡ someBroken (segmentChecks size (s .kind) n (reportedNumber n (s .number))) → r ≡ someBroken segs
-  segments-told size n r z c e = e ∙ (λ i. someBroken (segmentChecks (z i) (s .kind) (c i) (reportedNumber (c i) (s .number))))
 
   -- the number of refusal, by one test for each number
   refusal-is : refusalOf s long

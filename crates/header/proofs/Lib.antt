@@ -1,7 +1,5 @@
 -- What the crates above cite of headers.
 pub mod HeaderLaws
-pub mod WrittenLaws
+pub mod HeldLaws
 pub mod LoneLaws
-pub mod Theorems
-pub mod LongLaws
 pub mod Welds

@@ -5,11 +5,11 @@ use mathlib.Core.List.{List, [], _∷_, _++_}
 use lib.Dec.{ltb, eqb}
 use lib.ListN.{length}
 use Rattle.wire.specs.Numbers.{fetched}
-use Rattle.wire.specs.Checks.{pick, both, check, decide}
+use Rattle.wire.specs.Checks.{pick, both, Check, check, decide}
 use Rattle.header.specs.declared.Header.{Header}
 use Rattle.header.specs.declared.Stored.{Stored}
-use Rattle.header_rule.specs.Rules.{marked, reportedNumber}
-use Rattle.header.specs.Header.{headerSize, channelPlace, sequencePlace, numberPlace, storedIn, asReported, formChecksOf, laterChecks}
+use Rattle.header_rule.specs.Rules.{marked, reportedNumber, segmentChecks}
+use Rattle.header.specs.Header.{headerSize, channelPlace, sequencePlace, numberPlace, storedIn, sizeOf, countOf, asReported, formChecksOf, laterChecks}
 
 -- the stored values of a message before the checks, or all 0 where it is too short for a header
 unfoldable pub storedOr0 : List ℕ → Stored
@@ -19,6 +19,10 @@ storedOr0 b = pick (ltb (length b) headerSize) (storedIn []) (storedIn b)
 unfoldable pub refusalOf : Stored → ℕ → ℕ
 refusalOf s long =
     decide (check 4 (ltb long headerSize) ∷ formChecksOf s long ++ laterChecks (asReported s)) (λ (n : ℕ). n) 0
+
+-- the checks of its segments, of size and N as they count
+abbrev pub countedChecks : Stored → List Check
+countedChecks s = segmentChecks (sizeOf s) (s .kind) (countOf s) (reportedNumber (countOf s) (s .number))
 
 -- such a message is accepted, and its size is not 65,535
 unfoldable pub acceptedShort : Stored → ℕ → Bool

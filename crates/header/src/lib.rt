@@ -2,9 +2,10 @@
 ghost use mathlib.Core.Path.{_≡_};
 ghost use mathlib.Core.List.{[]};
 ghost use Rattle.wire.specs.Numbers.{fetched};
+ghost use Rattle.wire.specs.Checks.{someBroken};
 ghost use Rattle.header_rule.specs.Rules.{reportedNumber};
 ghost use Rattle.header.specs.Header.{numberPlace, storedIn, asReported, headerIn, headerOf};
-ghost use Rattle.header.specs.Steps.{storedOr0, acceptedShort, reportedShort, refusalOf};
+ghost use Rattle.header.specs.Steps.{storedOr0, acceptedShort, reportedShort, countedChecks, refusalOf};
 ghost use Rattle.header.specs.Told.{tellHeader};
 use wire::Halfwords;
 use wire::refusal;
@@ -199,15 +200,22 @@ pub fn check_header(s: Stored, long: usize) -> u8
     if header_rule::breaks_type(s.kind) {
         return refusal::TYPE;
     }
-    let size = header_rule::size_of(s.size, s.kind, s.segments, s.number);
-    let count = header_rule::count_of(s.size, s.kind, s.segments);
-    if header_rule::breaks_segment(size, s.kind, count, s.number) {
+    if breaks_counted(s) {
         return refusal::SEGMENT;
     }
     if header_rule::breaks_time(s.date, s.milliseconds) {
         return refusal::DATE_OR_TIME;
     }
     0
+}
+
+// Whether the size and N as they count, or the segment number, break a rule of segments.
+fn breaks_counted(s: Stored) -> bool
+    ensures { λ r. ⌜ r ≡ someBroken (countedChecks s) ⌝ }
+{
+    let size = header_rule::size_of(s.size, s.kind, s.segments, s.number);
+    let count = header_rule::count_of(s.size, s.kind, s.segments);
+    header_rule::breaks_segment(size, s.kind, count, s.number)
 }
 
 // The header reported of these stored values, in either form.

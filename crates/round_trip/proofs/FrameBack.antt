@@ -20,7 +20,7 @@ use Rattle.header_rule.specs.Rules.{mostSize, tooLarge, notPermitted, radialTyp
 use Rattle.header_rule.specs.Rules.{timeChecks, radialCut, segmentSize, segmentTooLarge, dateTooLow, timeTooHigh}
 use Rattle.header.specs.Header.{shortTable, longTable, headerTable, headerSize, storedIn, headerIn, dataIn, formChecksOf, laterChecks, headerChecks}
 use Rattle.header.specs.declared.Header.{Header}
-use Rattle.header.proofs.WrittenLaws.{Fitting, header-long, header-is, form-back}
+use Rattle.header_form.proofs.WrittenLaws.{Fitting, header-long, header-is, form-back}
 use Rattle.set_spec.specs.Segment.{segmentIn, ownChecks}
 use Rattle.writer_head.specs.Head.{headerFor, headsSize, heads}
 use Rattle.writer.specs.Writing.{frameOf, longestRadial}

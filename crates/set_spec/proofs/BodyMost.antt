@@ -18,7 +18,7 @@ use Rattle.frame.specs.Session.{headSize, sizeIn, bodyIn}
 use Rattle.header.specs.declared.Header.{Header}
 use Rattle.header_rule.specs.Rules.{radialType, mostSegments, segmentSize}
 use Rattle.header.specs.Header.{headerSize}
-use Rattle.header.proofs.Theorems.{later-hold, true-size}
+use Rattle.header.proofs.HeldLaws.{later-hold, true-size}
 use Rattle.set_spec.specs.Segment.{Segment}
 use Rattle.set_spec.specs.Walk.{SetSays, seen, count, allSeen, bodyOf, endChecks, finish, walk, setOf}
 use Rattle.set_spec.specs.Whole.{headerFrom, dataFrom, Passes, Joined, start, next, Whole}

@@ -22,7 +22,7 @@ use Rattle.frame.proofs.Welds.{frame-apart}
 use Rattle.header.specs.declared.Header.{Header}
 use Rattle.header_rule.specs.Rules.{mostSegments}
 use Rattle.header.specs.Header.{headerSize, headerIn, headerChecks, headerOf}
-use Rattle.header.proofs.Theorems.{later-hold}
+use Rattle.header.proofs.HeldLaws.{later-hold}
 use Rattle.set_spec.specs.Segment.{notData, ownChecks}
 
 -- ---- a frame

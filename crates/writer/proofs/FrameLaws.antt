@@ -11,7 +11,7 @@ use Rattle.wire.specs.declared.Bytes.{Bytes}
 use Rattle.wire.specs.Tables.{render}
 use Rattle.frame.specs.Session.{headTable, headSize, dataKind}
 use Rattle.header.specs.Header.{headerSize, headerTable}
-use Rattle.header.proofs.WrittenLaws.{header-long}
+use Rattle.header_form.proofs.WrittenLaws.{header-long}
 use Rattle.writer_head.specs.declared.Given.{Given}
 use Rattle.writer_head.specs.Head.{headerFor, headsSize, heads}
 use Rattle.writer.specs.Writing.{frameOf, framesFrom}

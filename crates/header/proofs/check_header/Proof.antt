@@ -1,4 +1,4 @@
-use Rattle.header.proofs.HeaderLaws.{refusal-by, segments-told}
+use Rattle.header.proofs.HeaderLaws.{refusal-by}
 use Rattle.wire.proofs.TestLaws.{tests}
 use borrow.Author.Needs.{needs}
 use Rattle.header.proofs.check_header.Statement.{statement}
@@ -8,6 +8,5 @@ pub check-header-spec : {M : Type 1} → statement M
 check-header-spec =
     tie.close (tie.spec (λ c. refusal-by _ _ _ (search (needs, tests))) (λ c κs. search needs)
     (λ c. refusal-by _ _ _ (search (needs, tests))) (λ c κs. search needs) (λ c. refusal-by _ _ _ (search (needs, tests)))
-    (λ c κs. search needs) (λ c κs. search needs) (λ c κs. search needs) (λ c. refusal-by _ _ _ (search (needs, tests, segments-told)))
-    (λ c κs. search needs) (λ c. refusal-by _ _ _ (search (needs, tests, segments-told)))
-    (λ c. refusal-by _ _ _ (search (needs, tests, segments-told))))
+    (λ c κs. search needs) (λ c. refusal-by _ _ _ (search (needs, tests))) (λ c κs. search needs)
+    (λ c. refusal-by _ _ _ (search (needs, tests))) (λ c. refusal-by _ _ _ (search (needs, tests))))

@@ -17,15 +17,16 @@ use Rattle.wire.proofs.CheckLaws.{never, either-true, all-hold, first-none, hol
 use Rattle.wire.proofs.AnswerLaws.{rule-given}
 use Rattle.wire.proofs.NumberLaws.{num-same, be-num}
 use Rattle.wire.proofs.ListLaws.{same-rest}
 use Rattle.header.specs.declared.Header.{Header}
 use Rattle.header.specs.declared.Stored.{Stored}
 use Rattle.header_rule.specs.Rules.{longMark, marked, leastLength, lengthIn, lengthChecks, notPermitted, radialType, segmentSize, segmentChecks}
 use Rattle.header_rule.specs.Rules.{lastMillisecond, timeChecks, reportedNumber}
 use Rattle.header.specs.Header.{headerSize, countPlace, numberPlace, storedIn, isLong, sizeOf, countOf, headerIn, headerOf, formChecksOf, headerChecks}
-use Rattle.header.specs.Theorems.{ButTwoBytes, Long, LengthHolds, TimeHolds, CountsAsOne, LongAnswer, LongExactly, NoFreedom, MarkedOther}
+use Rattle.header.specs.Theorems.{ButTwoBytes}
+use Rattle.header_form.specs.Theorems.{Long, LengthHolds, TimeHolds, CountsAsOne, LongAnswer, LongExactly, NoFreedom, MarkedOther}
 use Rattle.header_rule.proofs.RuleLaws.{form-long, form-other, radial-alone, even-holds, even-from}
 use Rattle.header.proofs.HeaderLaws.{header-decides, short-shape, long-shape}
-use Rattle.header.proofs.WrittenLaws.{halves}
+use Rattle.header_form.proofs.WrittenLaws.{halves}
 
 -- what a message with a whole header answers, by one test for each number
 by-tests : (b : List ℕ) → headerSize ≤ length b

@@ -1,5 +1,4 @@
--- The proofs of what is stated of the header's rules; `LoneLaws` has that a lone segment's two bytes decide nothing, `LongLaws` what is
--- asked of the long form. Assumes nothing.
+-- The proofs of what is stated of the header's rules; `LongLaws` has what is asked of the long form. Assumes nothing.
 use Prim.Native.Nat.{ℕ, _*_, _/_, _%_, _≤_, _<_}
 use native.Mathlib.Omega.{arith}
 use mathlib.Core.Path.{_≡_, refl, sym, ap, _∙_, subst}
@@ -18,55 +17,24 @@ use Rattle.wire.proofs.CheckLaws.{never, either-true, both-true, decide-none, d
 use Rattle.wire.proofs.CheckLaws.{all-hold-append, all-hold-join}
 use Rattle.wire.proofs.AnswerLaws.{rule-given}
 use Rattle.wire.proofs.TableLaws.{spelt}
 use Rattle.header.specs.declared.Header.{Header}
 use Rattle.header.specs.declared.Stored.{Stored}
 use Rattle.header_rule.specs.Rules.{reportedNumber, radialType, mostSegments, countChecks, numberChecks, radialCut, segmentTooLarge, kindChecks, timeChecks}
 use Rattle.header_rule.specs.Rules.{mostSize, tooLarge, sizeChecks, longMark, marked, leastLength, lengthIn, lengthChecks, notPermitted, segmentSize}
 use Rattle.header.specs.Header.{shortTable, longTable, headerTable, headerSize, countPlace, numberPlace, storedIn, isLong, countOf, withNumber}
 use Rattle.header.specs.Header.{headerIn, formChecksOf, laterChecks, headerChecks, headerOf}
-use Rattle.header.specs.Theorems.{Stands, HeaderStands, Lone, beforeSegment, loneChecks, LoneByOtherChecks, NumberOutside, FormBySize}
-use Rattle.header.specs.Theorems.{SizeIsTrue}
+use Rattle.header_form.specs.Theorems.{Stands, HeaderStands, beforeSegment, loneChecks, LoneByOtherChecks, NumberOutside, FormBySize}
+use Rattle.header_form.specs.Theorems.{SizeIsTrue}
 use Rattle.header_rule.proofs.RuleLaws.{number-lone, number-other, form-long, form-other, even-from}
+use Rattle.header.specs.Theorems.{Lone}
 use Rattle.header.proofs.HeaderLaws.{short-shape, long-shape}
-use Rattle.header.proofs.WrittenLaws.{halves}
+use Rattle.header.proofs.HeldLaws.{length-holds, size-holds, true-size}
+use Rattle.header_form.proofs.WrittenLaws.{halves}
 
 -- what an accepted header's checks say
 module _ (b : List ℕ) (a : AllHold (headerChecks b)) where
   abbrev s : Stored
   s = storedIn b
-
-  form-holds : AllHold (formChecksOf s (length b))
-  form-holds = all-hold-append (formChecksOf s (length b)) (laterChecks (headerIn b)) (a .1) .0
-
-  pub later-hold : AllHold (laterChecks (headerIn b))
-  later-hold = all-hold-append (formChecksOf s (length b)) (laterChecks (headerIn b)) (a .1) .1
-
-  -- in the long form the length's
-  length-holds : isLong s ≡ true → AllHold (lengthChecks (lengthIn (s .segments) (s .number)) (length b))
-  length-holds e =
-      subst (λ (ks : List Check). AllHold ks) (form-long (s .size) (s .kind) (s .segments) (s .number) (length b) e) form-holds
-
-  -- else the size's: of another type 65,535 is above 1,208
-  size-holds : isLong s ≡ false → AllHold (sizeChecks (s .size) (length b))
-  unfolding headerIn
-  size-holds e = go (marked (s .size)) refl
-      (subst (λ (ks : List Check). AllHold ks) (form-other (s .size) (s .kind) (s .segments) (s .number) (length b) e) form-holds)
-    where
-      small : segmentTooLarge (s .size) (s .kind) ≡ false
-      small = sym (ap (λ (h : Header). segmentTooLarge (h .size) (h .kind)) (short-shape s e)) ∙ later-hold .1 .1 .1 .1 .1 .1 .0
-
-      other : (u : Bool) → eqb (s .kind) radialType ≡ u → marked (s .size) ≡ true → AllHold (sizeChecks (s .size) (length b))
-      other true u m = let long : isLong s ≡ true = rw (m, u) in never (cc (sym e ∙ long))
-      other false u m =
-          let is : s .size .0 ≡ longMark .0 = eqb-true (s .size .0) (longMark .0) m in
-          let large : ltb (segmentSize .0) (s .size .0) ≡ true = lt-ltb (segmentSize .0) (s .size .0) (omega (arith, is)) in
-          let broken : segmentTooLarge (s .size) (s .kind) ≡ true = rw (u, large) in
-          never (cc (sym small ∙ broken))
-
-      go : (t : Bool) → marked (s .size) ≡ t → AllHold (pick t [] (sizeChecks (s .size) (length b)))
-          → AllHold (sizeChecks (s .size) (length b))
-      go true m h = other (eqb (s .kind) radialType) refl m
-      go false m h = h
 
   -- so the form goes by the size that is reported
   form-by-size : tooLarge (headerIn b .size) ≡ isLong s
@@ -76,27 +44,10 @@ module _ (b : List ℕ) (a : AllHold (headerChecks b)) where
       go : (t : Bool) → isLong s ≡ t → tooLarge (headerIn b .size) ≡ isLong s
       go true e =
           let z = lengthIn (s .segments) (s .number) in
-          let least : leastLength .0 ≤ z .0 = ltb-false (z .0) (leastLength .0) (length-holds e .1 .0) in
+          let least : leastLength .0 ≤ z .0 = ltb-false (z .0) (leastLength .0) (length-holds b a e .1 .0) in
           let above : mostSize .0 < z .0 / 2 = omega (arith, least) in
           ap (λ (h : Header). tooLarge (h .size)) (long-shape s e) ∙ lt-ltb (mostSize .0) (z .0 / 2) above ∙ sym e
-      go false e = ap (λ (h : Header). tooLarge (h .size)) (short-shape s e) ∙ size-holds e .1 .0 ∙ sym e
-
-  -- and that size is the true one
-  pub true-size : headerIn b .size .0 * 2 ≡ length b
-  unfolding headerIn
-  true-size = go (isLong s) refl
-    where
-      go : (t : Bool) → isLong s ≡ t → headerIn b .size .0 * 2 ≡ length b
-      go true e =
-          let z = lengthIn (s .segments) (s .number) in
-          let size : headerIn b .size .0 ≡ z .0 / 2 = ap (λ (h : Header). h .size .0) (long-shape s e) in
-          let is : z .0 ≡ length b = eqb-true (z .0) (length b) (not-false _ (length-holds e .1 .1 .1 .0)) in
-          omega (arith, size, is, even-from (z .0) (length-holds e .0))
-      go false e =
-          let h = size-holds e in
-          let size : headerIn b .size .0 ≡ s .size .0 = ap (λ (h : Header). h .size .0) (short-shape s e) in
-          let half : length b / 2 ≡ s .size .0 = eqb-true (length b / 2) (s .size .0) (not-false _ (h .1 .1 .1 .0)) in
-          omega (arith, size, half, even-from (length b) (h .1 .1 .0))
+      go false e = ap (λ (h : Header). tooLarge (h .size)) (short-shape s e) ∙ size-holds b a e .1 .0 ∙ sym e
 
   -- a message with a whole header begins with the table of its values
   module _ (o : Octets b) where
@@ -121,7 +72,7 @@ module _ (b : List ℕ) (a : AllHold (headerChecks b)) where
         let mark : num 2 b 0 ≡ longMark .0 =
         eqb-true (num 2 b 0) (longMark .0) (both-true (marked (s .size)) (eqb (s .kind) radialType) e .0)
         in
-        let even : z .0 % 2 ≡ 0 = even-from (z .0) (length-holds e .0) in
+        let even : z .0 % 2 ≡ 0 = even-from (z .0) (length-holds b a e .0) in
         let size : headerIn b .size .0 ≡ z .0 / 2 = ap (λ (h : Header). h .size .0) (long-shape s e) in
         let told : num 4 b countPlace ≡ doubled (headerIn b .size) .0 = omega (arith, halves b, even, size) in
         spelt (longTable (headerIn b)) b 0 o enough (mark, (refl, (refl, (refl, (refl, (refl, (told, tt)))))))

@@ -1,0 +1,2 @@
+-- The two forms of a message header.
+pub mod Theorems
