@@ -431,10 +431,10 @@ static void long_header_edges(void)
     }
 }
 
-static void long_header_by_chance(void)
+/* A message of n bytes with its header, or its length, damaged or not. */
+static void ask_header_near(const uint8_t *bytes, size_t n)
 {
-    size_t n = any_long();
-    start_from(long_message(31, 1 + (uint32_t)pick(65535), (uint32_t)pick(86400000), (uint32_t)n), n);
+    start_from(bytes, n);
     patch_count = 0;
     patches_of_header(0, n);
     cut(n - 1);
@@ -442,6 +442,12 @@ static void long_header_by_chance(void)
     cut(n + 2);
     damage();
     ask_header();
+}
+
+static void long_header_by_chance(void)
+{
+    size_t n = any_long();
+    ask_header_near(long_message(31, 1 + (uint32_t)pick(65535), (uint32_t)pick(86400000), (uint32_t)n), n);
 }
 
 static void header_by_chance(void)
@@ -455,14 +461,7 @@ static void header_by_chance(void)
     uint8_t bytes[28 + 4096];
     fill(&dice, bytes, 28 + data);
     size_t n = make_segment(bytes, &s, bytes + 28, data) - 12;
-    start_from(bytes + 12, n);
-    patch_count = 0;
-    patches_of_header(0, n);
-    cut(n - 1);
-    cut(n + 1);
-    cut(n + 2);
-    damage();
-    ask_header();
+    ask_header_near(bytes + 12, n);
 }
 
 /* ---- Sets ---- */
