@@ -1,5 +1,5 @@
 -- K11's long form, from the theorems of `header`, `writer` and the radial. Assumes nothing.
-use Prim.Native.Nat.{ℕ, _+_, _*_, _≤_, _<_}
+use Prim.Native.Nat.{ℕ, _≤_, _<_}
 use native.Mathlib.Omega.{arith}
 use mathlib.Core.Path.{_≡_, refl, sym, ap, subst, _∙_}
 use mathlib.Core.Logic.{_↔_}
@@ -10,7 +10,6 @@ use lib.ListN.{length, getD}
 use denote.Ref.{RefT, now}
 use borrow.Author.Tests.{ltb-true, ltb-false}
 use Rattle.wire.specs.Numbers.{num, Octets}
-use Rattle.wire.specs.Checks.{pick}
 use Rattle.wire.specs.Answers.{Answer, refused, given}
 use Rattle.wire.proofs.CheckLaws.{never}
 use Rattle.wire.proofs.NumberLaws.{num-fits}
@@ -27,13 +26,13 @@ use Rattle.set_spec.proofs.FrameFacts.{header-given}
 use Rattle.writer.specs.Theorems.{RadialForm}
 use Rattle.writer.proofs.Theorems.{form-written}
 use Rattle.radial_spec.specs.Description.{Description, Named, sizePlace}
-use Rattle.radial_spec.specs.Refusal.{radialOf, sizeIn}
+use Rattle.radial_spec.specs.Refusal.{radialOf}
 use Rattle.radial_spec.proofs.Accepted.{agreed}
 use Rattle.radial_spec.proofs.Naming.{unnamed-places, found-sized}
 use Rattle.c_frame.specs.declared.UlmHeader.{UlmHeader}
 use Rattle.c_frame.specs.Face.{headerFace}
 use Rattle.demands.specs.Demand2.{givenBy}
-use Rattle.demands.specs.Demand3.{SameFromEach, ButUnnamed}
+use Rattle.demands.specs.Demand3.{SameFromEach}
 use Rattle.demands.specs.LongRadial.{CountsInC, mostSaid, LongRadial}
 use Rattle.demands.proofs.Written.{wrote-for-c}
 use Rattle.demands.proofs.ByChecksLaws.{above-0}

@@ -1,15 +1,15 @@
 -- The proofs of what is stated of the long form. Assumes nothing.
-use Prim.Native.Nat.{ℕ, _+_, _-_, _*_, _/_, _%_, _≤_, _<_}
+use Prim.Native.Nat.{ℕ, _+_, _-_, _/_, _≤_, _<_}
 use native.Mathlib.Omega.{arith}
 use mathlib.Core.Path.{_≡_, refl, sym, ap, _∙_}
 use mathlib.Core.Bool.{Bool, true, false, not}
-use mathlib.Core.List.{List, [], _∷_, _++_}
-use lib.Dec.{ltb, leb, eqb}
+use mathlib.Core.List.{List}
+use lib.Dec.{ltb, eqb}
 use lib.ListN.{length, getD, take, drop}
 use lib.Seq.{getD-take, getD-drop}
 use borrow.Author.Tests.{lt-ltb, le-ltb, ltb-true, ltb-false, eq-eqb, ne-eqb, eqb-true, not-false}
-use Rattle.wire.specs.Numbers.{num, Octets, be}
-use Rattle.wire.specs.Checks.{pick, Check, check, AllHold, someBroken}
+use Rattle.wire.specs.Numbers.{num, be}
+use Rattle.wire.specs.Checks.{pick, Check, someBroken}
 use Rattle.wire.specs.Answers.{Answer, refused, given}
 use Rattle.wire.specs.Sizes.{longestMessage}
 use Rattle.wire.specs.declared.Bytes.{Bytes}
@@ -21,11 +21,10 @@ use Rattle.header.specs.declared.Header.{Header}
 use Rattle.header.specs.declared.Stored.{Stored}
 use Rattle.header_rule.specs.Rules.{longMark, marked, leastLength, lengthIn, lengthChecks, notPermitted, radialType, segmentSize, segmentChecks}
 use Rattle.header_rule.specs.Rules.{lastMillisecond, timeChecks, reportedNumber}
-use Rattle.header.specs.Header.{headerSize, countPlace, numberPlace, storedIn, isLong, sizeOf, countOf, headerIn, headerOf, formChecksOf, headerChecks}
-use Rattle.header.specs.Theorems.{ButTwoBytes}
+use Rattle.header.specs.Header.{headerSize, countPlace, storedIn, isLong, sizeOf, countOf, headerIn, headerOf, formChecksOf, headerChecks}
 use Rattle.header_form.specs.Theorems.{Long, LengthHolds, TimeHolds, CountsAsOne, LongAnswer, LongExactly, NoFreedom, MarkedOther}
-use Rattle.header_rule.proofs.RuleLaws.{form-long, form-other, radial-alone, even-holds, even-from}
-use Rattle.header.proofs.HeaderLaws.{header-decides, short-shape, long-shape}
+use Rattle.header_rule.proofs.RuleLaws.{form-long, radial-alone, even-holds, even-from}
+use Rattle.header.proofs.HeaderLaws.{header-decides, long-shape}
 use Rattle.header_form.proofs.WrittenLaws.{halves}
 
 -- what a message with a whole header answers, by one test for each number

@@ -7,25 +7,25 @@ use mathlib.Core.Bool.{Bool, true, false, not}
 use mathlib.Core.List.{List, [], _∷_, _++_, append-assoc}
 use lib.Dec.{ltb, eqb}
 use lib.ListN.{length}
-use borrow.Author.Tests.{lt-ltb, le-ltb, ltb-false, eq-eqb, eqb-true, not-false}
+use borrow.Author.Tests.{lt-ltb, le-ltb, ltb-false, eq-eqb, eqb-true}
 use Rattle.wire.specs.Numbers.{num, Octets}
 use Rattle.wire.specs.Tables.{render, Holds}
 use Rattle.wire.specs.Checks.{pick, either, both, Check, check, AllHold, someBroken, decide}
 use Rattle.wire.specs.Answers.{Answer, refused, given}
-use Rattle.wire.specs.Sizes.{halved, doubled}
-use Rattle.wire.proofs.CheckLaws.{never, either-true, both-true, decide-none, decide-append, decide-same, all-hold, none-broken, someBroken-append}
+use Rattle.wire.specs.Sizes.{doubled}
+use Rattle.wire.proofs.CheckLaws.{either-true, both-true, decide-none, decide-append, decide-same, all-hold, none-broken, someBroken-append}
 use Rattle.wire.proofs.CheckLaws.{all-hold-append, all-hold-join}
 use Rattle.wire.proofs.AnswerLaws.{rule-given}
 use Rattle.wire.proofs.TableLaws.{spelt}
 use Rattle.header.specs.declared.Header.{Header}
 use Rattle.header.specs.declared.Stored.{Stored}
 use Rattle.header_rule.specs.Rules.{reportedNumber, radialType, mostSegments, countChecks, numberChecks, radialCut, segmentTooLarge, kindChecks, timeChecks}
-use Rattle.header_rule.specs.Rules.{mostSize, tooLarge, sizeChecks, longMark, marked, leastLength, lengthIn, lengthChecks, notPermitted, segmentSize}
+use Rattle.header_rule.specs.Rules.{mostSize, tooLarge, sizeChecks, longMark, marked, leastLength, lengthIn, notPermitted}
 use Rattle.header.specs.Header.{shortTable, longTable, headerTable, headerSize, countPlace, numberPlace, storedIn, isLong, countOf, withNumber}
 use Rattle.header.specs.Header.{headerIn, formChecksOf, laterChecks, headerChecks, headerOf}
 use Rattle.header_form.specs.Theorems.{Stands, HeaderStands, beforeSegment, loneChecks, LoneByOtherChecks, NumberOutside, FormBySize}
 use Rattle.header_form.specs.Theorems.{SizeIsTrue}
-use Rattle.header_rule.proofs.RuleLaws.{number-lone, number-other, form-long, form-other, even-from}
+use Rattle.header_rule.proofs.RuleLaws.{number-lone, number-other, form-other, even-from}
 use Rattle.header.specs.Theorems.{Lone}
 use Rattle.header.proofs.HeaderLaws.{short-shape, long-shape}
 use Rattle.header.proofs.HeldLaws.{length-holds, size-holds, true-size}

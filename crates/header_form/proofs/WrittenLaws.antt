@@ -17,8 +17,7 @@ use Rattle.header_rule.specs.Rules.{leastSize, mostSize, tooLarge, sizeChecks, 
 use Rattle.header_rule.specs.Rules.{formChecks, reportedNumber}
 use Rattle.header_rule.proofs.RuleLaws.{number-kept, form-short, form-long, even-holds}
 use Rattle.header.specs.declared.Header.{Header}
-use Rattle.header.specs.declared.Stored.{Stored}
-use Rattle.header.specs.Header.{shortTable, longTable, headerTable, headerSize, countPlace, numberPlace, storedIn, isLong, asReported, withNumber}
+use Rattle.header.specs.Header.{shortTable, longTable, headerTable, headerSize, countPlace, numberPlace, storedIn, isLong, withNumber}
 use Rattle.header.specs.Header.{headerIn, formChecksOf}
 use Rattle.header.proofs.HeaderLaws.{short-shape, long-shape}
 

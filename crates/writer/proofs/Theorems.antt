@@ -2,7 +2,6 @@
 use Prim.Native.Nat.{ℕ, _+_, _*_, _/_, _%_, _≤_, _<_}
 use native.Mathlib.Omega.{arith}
 use mathlib.Core.Path.{_≡_, refl, sym, ap, subst, _∙_}
-use mathlib.Core.Logic.{_↔_}
 use mathlib.Core.Bool.{Bool, true, false}
 use mathlib.Core.List.{List, [], _∷_, _++_, append-nil, flatten}
 use lib.Dec.{ltb}
@@ -13,7 +12,7 @@ use Rattle.wire.specs.Checks.{pick, AllHold}
 use Rattle.wire.specs.Answers.{given}
 use Rattle.wire.specs.Tables.{render}
 use Rattle.wire.specs.Writing.{filled, roomCheck, thenRoom}
-use Rattle.wire.specs.Sizes.{bytes, halved, doubled}
+use Rattle.wire.specs.Sizes.{bytes, halved}
 use Rattle.wire.specs.declared.Bytes.{Bytes}
 use Rattle.wire.proofs.AnswerLaws.{outcome-given}
 use Rattle.wire.proofs.CheckLaws.{all-hold, all-hold-append}

@@ -1,12 +1,12 @@
 -- A written header has three fields that go by the form, and its other fields between them. Assumes nothing.
 use Prim.Native.Nat.{ℕ, _/_, _%_}
-use mathlib.Core.Path.{_≡_, refl, sym, ap, _∙_}
+use mathlib.Core.Path.{_≡_, refl, sym, ap}
 use mathlib.Core.Bool.{Bool, true, false}
 use mathlib.Core.List.{List, [], _∷_, _++_}
 use native.Mathlib.Omega.{arith}
 use Rattle.wire.specs.Numbers.{be}
 use Rattle.wire.specs.Checks.{pick}
-use Rattle.wire.specs.Tables.{Field, field, render}
+use Rattle.wire.specs.Tables.{field, render}
 use Rattle.wire.specs.Sizes.{doubled}
 use Rattle.header_rule.specs.Rules.{tooLarge, longMark}
 use Rattle.header.specs.declared.Header.{Header}

@@ -1,5 +1,4 @@
-use mathlib.Core.Path.{_≡_, ap, _∙_}
-use mathlib.Core.Bool.{Bool}
+use mathlib.Core.Path.{ap, _∙_}
 use Rattle.wire.specs.Checks.{someBroken}
 use Rattle.wire.specs.declared.Bytes.{Bytes}
 use Rattle.header_rule.specs.Rules.{lengthChecks}

@@ -1,6 +1,5 @@
-use mathlib.Core.Path.{_≡_, ap, _∙_}
+use mathlib.Core.Path.{ap, _∙_}
 use Rattle.wire.specs.Sizes.{halved}
-use Rattle.wire.specs.declared.Bytes.{Bytes}
 use Rattle.wire.proofs.TestLaws.{tests}
 use Rattle.wire.proofs.TestLaws.{at-told}
 use borrow.Author.Needs.{needs}

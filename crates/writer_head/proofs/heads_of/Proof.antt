@@ -1,11 +1,9 @@
 -- `heads_of` meets its contract: its bytes are those of the two tables. Assumes nothing.
 use mathlib.Core.Path.{_≡_, sym, ap, _∙_}
 use mathlib.Core.List.{List, _++_}
-use Prim.Native.Nat.{ℕ, _/_, _%_}
+use Prim.Native.Nat.{ℕ, _%_}
 use native.Mathlib.Omega.{arith}
 use Rattle.wire.specs.Tables.{render}
-use Rattle.wire.specs.Sizes.{halved}
-use Rattle.wire.specs.declared.Bytes.{Bytes}
 use Rattle.wire.specs.declared.Halfwords.{Halfwords}
 use Rattle.frame.specs.Session.{headTable, dataKind}
 use Rattle.writer_head.specs.Head.{headerFor, heads}
