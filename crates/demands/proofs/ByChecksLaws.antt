@@ -6,32 +6,22 @@ use mathlib.Core.Option.{Option, none, some}
 use mathlib.Core.Logic.{_⊎_, inl, inr, ⊎-elim}
 use mathlib.Core.List.{List, [], _∷_, _++_, append-assoc}
 use lib.ListN.{length, drop}
-use Rattle.wire.specs.Checks.{pick, both, among, Check, first, decide, AllHold, Blamed}
+use Rattle.wire.specs.Checks.{among, Check, first, decide, AllHold, Blamed}
 use Rattle.wire.specs.Answers.{Answer, refused, given, onward, rule, Outcome, outcome, Promise}
-use Rattle.wire.proofs.CheckLaws.{never, both-true, passed, decide-none, decide-some, decide-map, all-hold, all-hold-join, blame}
+use Rattle.wire.proofs.CheckLaws.{never, numbersPass, pass-join, first-passes, passed, decide-none, decide-some, decide-map, all-hold, all-hold-join, blame}
 use Rattle.wire.proofs.AnswerLaws.{rule-given, rule-refused, outcome-answer, outcome-refused, only, only-answer}
 use Rattle.frame.specs.Walk.{turns, walked, Checked, answers, inOrder}
 use Rattle.demands.specs.Notions.{table, OfTheTable, ByChecks, Kept, KeptStruct, KeptLent}
 
 -- ---- numbers of the table, by a test that is computed
 abbrev pub inside : List Check → Bool
-inside [] = true
-inside (k ∷ ks) = both (among (k .number) table) (inside ks)
+inside = numbersPass (λ n. among n table)
 
 pub inside-join : (a b : List Check) → inside a ≡ true → inside b ≡ true → inside (a ++ b) ≡ true
-inside-join [] b p q = q
-inside-join (k ∷ a) b p q = let h = both-true (among (k .number) table) (inside a) p in simp (h .0) (inside-join a b (h .1) q)
+inside-join = pass-join (λ n. among n table)
 
 first-inside : (ks : List Check) (n : ℕ) → inside ks ≡ true → first ks ≡ some n → OfTheTable n
-first-inside [] n p e = never (cc e)
-first-inside (k ∷ ks) n p e =
-    let h = both-true (among (k .number) table) (inside ks) p in
-    go (k .broken) e (h .0) (λ q. first-inside ks n (h .1) q)
-  where
-    go : (t : Bool) → pick t (some (k .number)) (first ks) ≡ some n → OfTheTable (k .number) → (first ks ≡ some n → OfTheTable n)
-        → OfTheTable n
-    go true q own later = let m : k .number ≡ n = cc q in rw (← m) own
-    go false q own later = later q
+first-inside = first-passes (λ n. among n table)
 
 -- 0 is none of them
 pub above-0 : (n : ℕ) → OfTheTable n → n ≡ 0 → ⊥

@@ -52,7 +52,7 @@ module _ (b : List ℕ) (l : Long b) where
   abbrev times : List Check
   times = timeChecks (s .date) (s .milliseconds)
 
-  is-long : isLong s ≡ true
+  pub is-long : isLong s ≡ true
   unfolding storedIn
   is-long = rw (eq-eqb (num 2 b 0) (longMark .0) (l .mark), eq-eqb (num 1 b 3) radialType (l .radial))
 

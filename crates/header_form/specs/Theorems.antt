@@ -1,5 +1,5 @@
--- What is proved of the header's rules in both forms: that what is read is what the table says, what K1 asks of a message of one segment, and
--- what K11 asks of the long form.
+-- What is proved of the header's rules in both forms: that what is read is what the table says, what K1 asks of a message of one segment,
+-- and what K11 asks of the long form.
 use Prim.Native.Nat.{ℕ, _*_, _%_, _≤_, _<_}
 use mathlib.Core.Path.{_≡_}
 use mathlib.Core.Logic.{_⊎_, _↔_}

@@ -14,8 +14,8 @@ use Rattle.wire.specs.Writing.{filled}
 use Rattle.wire.proofs.CheckLaws.{decide-none, decide-some}
 use Rattle.wire.proofs.AnswerLaws.{kept}
 use Rattle.header_rule.specs.Rules.{mostSegments}
-use Rattle.set_spec.specs.Segment.{Segment, headerNumbered}
-use Rattle.set_spec.specs.Walk.{seen, allSeen, joined, bodyOf, endChecks, SetSays, finish, setOf, count}
+use Rattle.set_spec.specs.Segment.{Segment}
+use Rattle.set_spec.specs.Walk.{seen, allSeen, joined, bodyOf, endChecks, SetSays, says, finish, setOf, count}
 use Rattle.set.specs.declared.Heads.{Heads}
 use Rattle.set.specs.declared.Gathered.{Gathered}
 use Rattle.set.specs.declared.Gathered.the-variants.{Ended, Refused as Broken}
@@ -82,10 +82,7 @@ module _ {s : List ℕ} {heads : Heads} {flags : List Bool} {starts ends : List 
   is-long = sym (parts-long s starts ends parts-lie parts-within n most) ∙ ap length is-body
 
   module _ (out : List ℕ) where
-    abbrev says : SetSays
-    says = record { header = headerNumbered gs 1; long = bytes (length (bodyOf gs)) }
-
-    ended : setOf s out ≡ outcome (endChecks gs (length out)) out says (filled (bodyOf gs) out)
+    ended : setOf s out ≡ outcome (endChecks gs (length out)) out (says gs) (filled (bodyOf gs) out)
     unfolding setOf
     ended = ap (λ (a : Answer (List Segment)). finish a out) (m .walked)
 
@@ -93,7 +90,7 @@ module _ {s : List ℕ} {heads : Heads} {flags : List Bool} {starts ends : List 
     stops k e =
         kept tellSet _ (Refused k) _ out
         (ended ∙ decide-some (endChecks gs (length out)) (refusal out)
-        (record { answer = given says; output = filled (bodyOf gs) out }) k e)
+        (record { answer = given (says gs); output = filled (bodyOf gs) out }) k e)
         refl
 
     pub one-absent : getD flags 0 false ≡ false → Promise tellSet (setOf s out) (Refused 12) out
@@ -120,9 +117,9 @@ module _ {s : List ℕ} {heads : Heads} {flags : List Bool} {starts ends : List 
         accepts c {after} e =
             let d : length (bodyOf gs) ≤ length out = omega (arith, is-long, l) in
             let f : first (endChecks gs (length out)) ≡ none = simp (one, all, le-ltb (length out) (length (bodyOf gs)) d) in
-            let r : setOf s out ≡ record { answer = given says; output = filled (bodyOf gs) out } =
+            let r : setOf s out ≡ record { answer = given (says gs); output = filled (bodyOf gs) out } =
             ended ∙ decide-none (endChecks gs (length out)) (refusal out)
-            (record { answer = given says; output = filled (bodyOf gs) out }) f
+            (record { answer = given (says gs); output = filled (bodyOf gs) out }) f
             in
             record {
               answers =

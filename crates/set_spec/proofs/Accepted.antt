@@ -15,15 +15,11 @@ use Rattle.wire.proofs.CheckLaws.{never, all-hold, none-broken, decide-none}
 use Rattle.wire.proofs.AnswerLaws.{outcome-given}
 use Rattle.header.specs.declared.Header.{Header}
 use Rattle.set_spec.specs.Segment.{Segment, segmentIn, numbered, found, orNothing, headerNumbered}
-use Rattle.set_spec.specs.Walk.{seen, count, allSeen, joined, bodyOf, endChecks, SetSays, finish, walk, setOf}
+use Rattle.set_spec.specs.Walk.{seen, count, allSeen, joined, bodyOf, endChecks, SetSays, says, finish, walk, setOf}
 use Rattle.set_spec.specs.Whole.{headerFrom, Agree, Orderly, Joined, Whole}
 use Rattle.set_spec.specs.Theorems.{accepted, AcceptedExactlyIfWhole}
 use Rattle.set_spec.proofs.FrameLists.{cut, Ended, ended, all-walked}
 use Rattle.set_spec.proofs.OrderFree.{agree-both, leader, all-agree, distinct, all-met, found-in, is-found, joined-from, joined-to, count-is}
-
--- what is said of the segments met
-abbrev pub says : List Segment → SetSays
-says gs = record { header = headerNumbered gs 1; long = bytes (length (bodyOf gs)) }
 
 -- ---- what an accepting outcome says of the walk
 pub record Accepting (frames out : List ℕ) (h : Header) (body : List ℕ) : Type 0 where
@@ -126,16 +122,16 @@ sound : (frames out : List ℕ) (h : Header) (body : List ℕ) → setOf frames 
 sound frames out h body e =
     let a = accepting frames out h body e in
     let c = cut [] (a .gs) frames (a .walked) in
-    let w : Ended [] (a .gs) (c .each) =
-    ended (c .each) [] (a .gs) (c .whole) (ap (λ (x : List ℕ). walk [] x) (c .buffer) ∙ a .walked) in
-    let gs : a .gs ≡ map segmentIn (c .each) = w .grown in
-    let o = whole-of (c .each) out (subst (λ (x : List Segment). Ended [] x (c .each)) gs w)
+    let w : Ended [] (a .gs) (c .the) =
+    ended (c .the) [] (a .gs) (c .meets .whole) (ap (λ (x : List ℕ). walk [] x) (c .meets .joined) ∙ a .walked) in
+    let gs : a .gs ≡ map segmentIn (c .the) = w .grown in
+    let o = whole-of (c .the) out (subst (λ (x : List Segment). Ended [] x (c .the)) gs w)
     (subst (λ (x : List Segment). AllHold (endChecks x (length out))) gs (a .ends))
     in
     let room : length (bodyOf (a .gs)) ≤ length out = ltb-false (length out) (length (bodyOf (a .gs))) (a .ends .1 .1 .0) in (
-      subst (λ (x : List ℕ). Whole x h body) (c .buffer)
-          (subst (λ (x : Header). Whole (flatten (c .each)) x body) (ap (λ (x : List Segment). headerNumbered x 1) (sym gs) ∙ a .header)
-          (subst (λ (x : List ℕ). Whole (flatten (c .each)) (headerNumbered (map segmentIn (c .each)) 1) x) (ap bodyOf (sym gs)
+      subst (λ (x : List ℕ). Whole x h body) (c .meets .joined)
+          (subst (λ (x : Header). Whole (flatten (c .the)) x body) (ap (λ (x : List Segment). headerNumbered x 1) (sym gs) ∙ a .header)
+          (subst (λ (x : List ℕ). Whole (flatten (c .the)) (headerNumbered (map segmentIn (c .the)) 1) x) (ap bodyOf (sym gs)
           ∙ a .contents) o)),
       subst (λ (x : List ℕ). length x ≤ length out) (a .contents) room,
     )

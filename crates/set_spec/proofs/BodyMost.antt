@@ -20,14 +20,14 @@ use Rattle.header_rule.specs.Rules.{radialType, mostSegments, segmentSize}
 use Rattle.header.specs.Header.{headerSize}
 use Rattle.header.proofs.HeldLaws.{later-hold, true-size}
 use Rattle.set_spec.specs.Segment.{Segment}
-use Rattle.set_spec.specs.Walk.{SetSays, seen, count, allSeen, bodyOf, endChecks, finish, walk, setOf}
+use Rattle.set_spec.specs.Walk.{SetSays, says, seen, count, allSeen, bodyOf, endChecks, finish, walk, setOf}
 use Rattle.set_spec.specs.Whole.{headerFrom, dataFrom, Passes, Joined, start, next, Whole}
 use Rattle.set_spec.specs.Theorems.{mostJoined, mostRadial, AtMost, BodyMost, RoomForAny}
 use Rattle.set_spec.proofs.FrameFacts.{framed}
 use Rattle.set_spec.proofs.PrefixLaws.{own-parts}
-use Rattle.set_spec.proofs.Accepted.{says, finished, Answering, answering, accepted-exactly-if-whole}
+use Rattle.set_spec.proofs.Accepted.{finished, Answering, answering, accepted-exactly-if-whole}
 use Rattle.set_spec.proofs.OutputApart.{finish-answer}
-use Rattle.set_spec.proofs.AnyOrder.{walk-low}
+use Rattle.set_spec.proofs.TurnNumbers.{walk-numbers}
 
 -- ---- one segment: N, and how much data there is
 record Segmented (f : List ℕ) : Type 0 where
@@ -135,7 +135,7 @@ room-for-any frames out e = go (walk [] frames) refl e
     go : (a : Answer (List Segment)) → walk [] frames ≡ a → finish a out .answer ≡ refused 13 → length out < mostRadial
     go (refused n) w q =
         let z : n ≡ 13 = cc q in
-        absurd (omega (arith, z, walk-low frames n w))
+        absurd (omega (arith, z, walk-numbers frames n w .1))
     go (given gs) w q =
         let body = bodyOf gs in
         let k = room-alone (not (seen gs 1)) (not (allSeen gs (count gs))) (ltb (length out) (length body))

@@ -3,18 +3,21 @@ use Prim.Native.Nat.{ℕ}
 use mathlib.Core.Path.{_≡_, refl, sym, ap, subst, _∙_}
 use mathlib.Core.Logic.{_⊎_, ⊎-elim}
 use mathlib.Core.List.{List, [], _∷_, _++_, map, flatten, append-assoc, append-nil, List·Memᴰ, List·Memᴰ·head, List·Memᴰ·tail, List·Memᴰ·cases-cons, List·Memᴰ·not-nil}
-use lib.ListN.{length}
+use native.Mathlib.Omega.{arith}
+use lib.ListN.{length, take, drop, length-append}
+use lib.Seq.{take-at, drop-at}
+use Rattle.wire.specs.Properties.{One}
 use Rattle.wire.specs.Checks.{decide, AllHold}
 use Rattle.wire.specs.Answers.{Answer, refused, given}
 use Rattle.wire.proofs.CheckLaws.{never, passed, decide-none, all-hold, none-broken, all-hold-append, all-hold-join}
 use Rattle.frame.specs.Session.{after, wholeLong}
 use Rattle.frame.specs.Walk.{turns, answers}
 use Rattle.frame.proofs.WalkLaws.{walked-by, walk-front}
-use Rattle.frame.proofs.FrontLaws.{frames-take, front, front-joined, front-exact}
+use Rattle.frame.proofs.FrontLaws.{frames-take, whole-same, front, front-joined, front-exact}
 use Rattle.set_spec.specs.Segment.{Segment, segmentIn, ownChecks}
 use Rattle.set_spec.specs.Walk.{metChecks, turnChecks, eachFrame, walk}
 use Rattle.set_spec.specs.Whole.{headerFrom, Passes}
-use Rattle.set_spec.specs.Theorems.{WholeFrames}
+use Rattle.set_spec.specs.Theorems.{WholeFrames, Frames}
 use Rattle.set_spec.proofs.FrameFacts.{Framed, framed}
 use Rattle.set_spec.proofs.PrefixLaws.{own-parts, one-turn}
 
@@ -40,31 +43,51 @@ turn-went gs gs′ rest later e =
     let p = passed (turnChecks gs rest) refused later (given gs′) e (λ n q. never (cc q)) in
     (turn-parts gs rest (all-hold (turnChecks gs rest) (p .0)), p .1)
 
--- ---- a walk to the end cuts the buffer into whole frames
-pub record Cut (rest : List ℕ) : Type 0 where
-  pub each : List (List ℕ)
-  pub buffer : flatten each ≡ rest
-  pub whole : WholeFrames each
+-- ---- a buffer is one list of whole frames at most
+-- two frames at the start of one buffer
+front-once : (f g t u : List ℕ) → length f ≡ wholeLong f → length g ≡ wholeLong g → f ++ t ≡ g ++ u → (f ≡ g) × (t ≡ u)
+front-once f g t u ef eg same =
+    let long : length f ≡ length g = sym (whole-same f t ef) ∙ ap wholeLong same ∙ whole-same g u eg in (
+      sym (take-at f t (length g) long) ∙ ap (λ (x : List ℕ). take (length g) x) same ∙ take-at g u (length g) refl,
+      sym (drop-at f t (length g) long) ∙ ap (λ (x : List ℕ). drop (length g) x) same ∙ drop-at g u (length g) refl,
+    )
 
-cut-none : Cut []
-unfolding flatten
-cut-none = record { each = []; buffer = refl; whole = λ f m. absurd (List·Memᴰ·not-nil m) }
+-- a frame has bytes
+not-empty : (f t : List ℕ) → length f ≡ wholeLong f → f ++ t ≡ [] → ⊥
+not-empty f t exact e = omega (arith, exact, length-append f t, ap length e)
 
-cut-more : (rest : List ℕ) → Framed rest → Cut (after rest) → Cut rest
+pub frames-once : (each each′ : List (List ℕ)) → WholeFrames each → WholeFrames each′ → flatten each ≡ flatten each′ → each ≡ each′
 unfolding flatten
-cut-more rest g c = record {
-  each = front rest (g .whole) ∷ c .each;
-  buffer = ap (λ (x : List ℕ). front rest (g .whole) ++ x) (c .buffer) ∙ front-joined rest (g .whole);
-  whole =
-      each-cons (λ f. length f ≡ wholeLong f) (front rest (g .whole)) (c .each) (front-exact rest (g .whole)) (c .whole);
+frames-once [] [] w w′ e = refl
+frames-once [] (g ∷ gs) w w′ e = absurd (not-empty g (flatten gs) (w′ g (List·Memᴰ·head refl)) (sym e))
+frames-once (f ∷ fs) [] w w′ e = absurd (not-empty f (flatten fs) (w f (List·Memᴰ·head refl)) e)
+frames-once (f ∷ fs) (g ∷ gs) w w′ e =
+    let p = front-once f g (flatten fs) (flatten gs) (w f (List·Memᴰ·head refl)) (w′ g (List·Memᴰ·head refl)) e in
+    λ i. p .0 i ∷ frames-once fs gs (λ x m. w x (List·Memᴰ·tail m)) (λ x m. w′ x (List·Memᴰ·tail m)) (p .1) i
+
+one-list : {rest : List ℕ} (each : List (List ℕ)) → Frames rest each → One (Frames rest)
+one-list each f = record { the = each; meets = f; only = λ r g. frames-once r each (g .whole) (f .whole) (g .joined ∙ sym (f .joined)) }
+
+-- ---- and a walk to the end cuts it into one
+cut-none : Frames [] []
+unfolding flatten
+cut-none = record { joined = refl; whole = λ f m. absurd (List·Memᴰ·not-nil m) }
+
+cut-more : (rest : List ℕ) (each : List (List ℕ)) (g : Framed rest) → Frames (after rest) each → Frames rest (front rest (g .whole) ∷ each)
+unfolding flatten
+cut-more rest each g c = record {
+  joined = ap (λ (x : List ℕ). front rest (g .whole) ++ x) (c .joined) ∙ front-joined rest (g .whole);
+  whole = each-cons (λ f. length f ≡ wholeLong f) (front rest (g .whole)) each (front-exact rest (g .whole)) (c .whole);
 }
 
-pub cut : (gs gs′ : List Segment) (rest : List ℕ) → walk gs rest ≡ given gs′ → Cut rest
+pub cut : (gs gs′ : List Segment) (rest : List ℕ) → walk gs rest ≡ given gs′ → One (Frames rest)
 cut gs gs′ rest e =
-    walked-by (answers eachFrame) frames-take (λ gs rest a. a ≡ given gs′ → Cut rest) (λ gs e. cut-none)
+    walked-by (answers eachFrame) frames-take (λ gs rest a. a ≡ given gs′ → One (Frames rest)) (λ gs e. one-list [] cut-none)
     (λ gs rest later h p e.
     let w = turn-went gs gs′ rest later e in
-    cut-more rest (framed rest (own-parts rest (w .0 .0) .0)) (p (w .1)))
+    let g = framed rest (own-parts rest (w .0 .0) .0) in
+    let c = p (w .1) in
+    one-list (front rest (g .whole) ∷ c .the) (cut-more rest (c .the) g (c .meets)))
     gs rest e
 
 -- ---- a walk to the end over whole frames: every one passes, and is met in turn
@@ -74,7 +97,7 @@ pub record Ended (gs gs′ : List Segment) (each : List (List ℕ)) : Type 0 whe
   pub grown : gs′ ≡ gs ++ map segmentIn each
 
 -- the turn of a whole frame with others after it
-front-walk : (gs : List Segment) (f t : List ℕ) → length f ≡ wholeLong f
+pub front-walk : (gs : List Segment) (f t : List ℕ) → length f ≡ wholeLong f
     → walk gs (f ++ t) ≡ decide (turnChecks gs f) refused (walk (gs ++ (segmentIn f ∷ [])) t)
 front-walk gs f t exact = walk-front eachFrame frames-take f (one-turn f exact) gs t
 

@@ -6,7 +6,7 @@ pub mod FrameLists
 pub mod OrderFree
 pub mod Accepted
 pub mod OutputApart
-pub mod AnyOrder
+pub mod TurnNumbers
 pub mod BodyMost
 pub mod LoneNumber
 pub mod CasesHold

@@ -9,9 +9,8 @@ use Rattle.wire.specs.Writing.{filled}
 use Rattle.wire.proofs.CheckLaws.{never}
 use Rattle.wire.proofs.AnswerLaws.{outcome-answer, outcome-given}
 use Rattle.set_spec.specs.Segment.{Segment}
-use Rattle.set_spec.specs.Walk.{bodyOf, endChecks, SetSays, finish, walk, setOf}
+use Rattle.set_spec.specs.Walk.{bodyOf, endChecks, SetSays, says, finish, walk, setOf}
 use Rattle.set_spec.specs.Theorems.{AnswerApartFromOutput}
-use Rattle.set_spec.proofs.Accepted.{says}
 
 -- at the end of the walk: the answer by the end's checks, whatever the output holds
 pub finish-answer : (gs : List Segment) (out : List ℕ) → finish (given gs) out .answer ≡ rule (endChecks gs (length out)) (says gs)

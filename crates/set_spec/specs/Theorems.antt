@@ -2,7 +2,7 @@
 use Prim.Native.Nat.{ℕ, _+_, _-_, _*_, _≤_, _<_}
 use mathlib.Core.Path.{_≡_}
 use mathlib.Core.Logic.{_↔_}
-use mathlib.Core.List.{List, _++_, flatten, List·Memᴰ, List·Permᴰ}
+use mathlib.Core.List.{List, _++_, flatten, List·Memᴰ}
 use lib.ListN.{length, take}
 use Rattle.wire.specs.Answers.{refused, given, Outcome}
 use Rattle.wire.specs.Sizes.{bytes}
@@ -54,13 +54,10 @@ AnswerApartFromOutput = (frames out out′ : List ℕ) → length out ≡ length
 abbrev pub WholeFrames : List (List ℕ) → Type 0
 WholeFrames each = (f : List ℕ) → List·Memᴰ f each → length f ≡ wholeLong f
 
--- if a set is accepted, its frames in any other order, with an output of the same length, are accepted with the same header and body;
--- a set refused as 12 or 13 is refused by the same number in any other order
-abbrev pub AnyOrder : Type 0
-AnyOrder = (each each′ : List (List ℕ)) (out out′ : List ℕ) → List·Permᴰ each each′ → WholeFrames each → length out ≡ length out′
-    → ((h : Header) (body : List ℕ) → setOf (flatten each) out ≡ accepted h body out → setOf (flatten each′) out′ ≡ accepted h body out′)
-    × (setOf (flatten each) out .answer ≡ refused 12 → setOf (flatten each′) out′ .answer ≡ refused 12)
-    × (setOf (flatten each) out .answer ≡ refused 13 → setOf (flatten each′) out′ .answer ≡ refused 13)
+-- a buffer is these whole frames, one after the other
+pub record Frames (buffer : List ℕ) (each : List (List ℕ)) : Type 0 where
+  pub joined : flatten each ≡ buffer
+  pub whole : WholeFrames each
 
 -- the rest of a buffer begins with a frame whose body has room for a header and is a message of one segment
 pub record LoneFrame (rest : List ℕ) : Type 0 where

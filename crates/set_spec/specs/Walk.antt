@@ -69,12 +69,13 @@ pub record SetSays : Type 0 where
   pub header : Header
   pub long : Bytes
 
+abbrev pub says : List Segment → SetSays
+says gs = record { header = headerNumbered gs 1; long = bytes (length (bodyOf gs)) }
+
 abbrev pub finish : Answer (List Segment) → List ℕ → Outcome (List ℕ) SetSays
 finish (refused n) out = refusal out n
 finish (given gs) out =
-    outcome (endChecks gs (length out)) out
-    (record { header = headerNumbered gs 1; long = bytes (length (bodyOf gs)) })
-    (filled (bodyOf gs) out)
+    outcome (endChecks gs (length out)) out (says gs) (filled (bodyOf gs) out)
 
 -- the answer for a buffer of frames read as a set, and the contents of the output after it
 unfoldable pub setOf : List ℕ → List ℕ → Outcome (List ℕ) SetSays

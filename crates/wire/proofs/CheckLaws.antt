@@ -212,6 +212,28 @@ pub first-none : (ks : List Check) → someBroken ks ≡ false → first ks ≡ 
 first-none [] e = refl
 first-none (k ∷ ks) e = let p = neither (k .broken) (someBroken ks) e in simp (p .0) (first-none ks (p .1))
 
+-- ---- the numbers of a list, by a test that is computed
+abbrev pub numbersPass : (ℕ → Bool) → List Check → Bool
+numbersPass test [] = true
+numbersPass test (k ∷ ks) = both (test (k .number)) (numbersPass test ks)
+
+pub pass-join : (test : ℕ → Bool) (a b : List Check) → numbersPass test a ≡ true → numbersPass test b ≡ true
+    → numbersPass test (a ++ b) ≡ true
+pass-join test [] b p q = q
+pass-join test (k ∷ a) b p q =
+    let h = both-true (test (k .number)) (numbersPass test a) p in simp (h .0) (pass-join test a b (h .1) q)
+
+pub first-passes : (test : ℕ → Bool) (ks : List Check) (n : ℕ) → numbersPass test ks ≡ true → first ks ≡ some n → test n ≡ true
+first-passes test [] n p e = never (cc e)
+first-passes test (k ∷ ks) n p e =
+    let h = both-true (test (k .number)) (numbersPass test ks) p in
+    go (k .broken) e (h .0) (λ q. first-passes test ks n (h .1) q)
+  where
+    go : (t : Bool) → pick t (some (k .number)) (first ks) ≡ some n → test (k .number) ≡ true → (first ks ≡ some n → test n ≡ true)
+        → test n ≡ true
+    go true q own later = let m : k .number ≡ n = cc q in rw (← m) own
+    go false q own later = later q
+
 -- a refusal names its check
 pub blame : {N : Type 0} (ks : List (CheckOf N)) (n : N) → first ks ≡ some n → Blamed ks n
 blame [] n e = never (cc e)
