@@ -55,7 +55,7 @@ accepted b r lone e = (
 )
 
 -- ---- two calls
-same-set : (frames frames′ out out′ : List ℕ) → ButLoneNumber frames frames′ → out ≡ out′ → setOf frames out ≡ setOf frames′ out′
+pub same-set : (frames frames′ out out′ : List ℕ) → ButLoneNumber frames frames′ → out ≡ out′ → setOf frames out ≡ setOf frames′ out′
 same-set frames frames′ out out′ b same =
     ap (λ (x : List ℕ). setOf x out) (b .buffer)
     ∙ lone-segment (b .each) (b .rest) frames′ out (b .whole) (b .lone)

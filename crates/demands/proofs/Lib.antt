@@ -15,6 +15,7 @@ pub mod Second
 pub mod FaceHolds
 pub mod HandedToC
 pub mod Alone
+pub mod Arrived
 pub mod LongRadialHolds
 pub mod TwoMapsHold
 pub mod DamagedRecordingHolds

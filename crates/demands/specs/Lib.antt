@@ -10,6 +10,7 @@ pub mod Face
 pub mod FaceOfRadial
 pub mod LoneSegment
 pub mod LongRadial
+pub mod OrderOfArrival
 pub mod TwoMaps
 pub mod DamagedRecording
 pub mod Figures
