@@ -111,6 +111,9 @@ build/obj/plain.o: tests/plain.c $(HEADERS)
 build/layout: build/obj/layout.o build/obj/make.o $(ARCHIVE) build/obj/archive
 	$(CC) $(LINKED) $(LINK) -o $@
 
+build/relay: build/obj/relay.o build/obj/make.o $(ARCHIVE) build/obj/archive
+	$(CC) $(LINKED) $(LINK) -o $@
+
 build/differential: $(addprefix build/obj/, differential.o compare.o bytewise.o kilometres.o lend.o make.o plain.o) \
                     $(ARCHIVE) build/obj/archive
 	$(CC) $(LINKED) $(LINK) -o $@
