@@ -189,6 +189,8 @@ typedef struct ulm_set_answer {
  * sequence numbers aren't compared. Each of 1 to N appears once.
  * The answer is segment 1's header and, in the output, the data of segment 1, then 2, and so on joined, with its
  * length. At most 307,200 bytes are written (1,048,560 for type 31).
+ * In any other order of the same whole frames, with an output of the same length, an accepted set has the same answer
+ * and body, and 12 and 13 stay what they are; another refusal may be another one.
  *
  * Refusals, in order: for each frame in turn those of ulm_frame, 9, those of ulm_header, 10, 11; at the end 12, 13.
  */

@@ -33,21 +33,6 @@ use Rattle.set_order.specs.Arrival.{Rearranged, Merged, none as no-frame
 use Rattle.set_order.specs.Arrival.{InTurn, RefusedInTurn, OtherNumbers, Stays}
 use Rattle.set_order.proofs.Rearrangement.{perm-mem, same-body, same-header, same-ends, same-answer, Again, again}
 
--- ---- two lines
-merged : {a b each : List (List ℕ)} → Merged a b each → List·Permᴰ (a ++ b) each
-merged no-frames = List·Permᴰ·nil
-merged (byOne f m) = List·Permᴰ·cons refl (merged m)
-merged (byOther {a} {b} f m) = List·Permᴰ·trans (Permᴰ·middle f a b) (List·Permᴰ·cons refl (merged m))
-
-pub two-lines : TwoLines
-two-lines a b each each′ w m m′ = record {
-  each = each;
-  each′ = each′;
-  from = record { joined = refl; whole = w };
-  order = List·Permᴰ·trans (Permᴰ·symm (merged m)) (merged m′);
-  joined = refl;
-}
-
 -- ---- which numbers come from the walk, and which from its end
 end-first : (a b c : Bool) (n : ℕ) → first {N = ℕ} (check 12 a ∷ check 12 b ∷ check 13 c ∷ []) ≡ some n → AfterAll n
 end-first true b c n e = let z : _≡_ {A = ℕ} 12 n = cc e in inr (inl (sym z))
@@ -184,3 +169,18 @@ stays frames rest out out′ each n k e not-end = go (walk [] (flatten each)) re
         ap (λ (x : List ℕ). finish (walk [] (x ++ rest)) out′) (sym (k .joined))
         ∙ ap (λ (a : Answer (List Segment)). finish a out′)
         (on ∙ ap (λ (a : Answer (List Segment)). onward a (λ gs. walk gs rest)) w ∙ ap refused z)
+
+-- ---- two lines, merged
+merged : {a b each : List (List ℕ)} → Merged a b each → List·Permᴰ (a ++ b) each
+merged no-frames = List·Permᴰ·nil
+merged (byOne f m) = List·Permᴰ·cons refl (merged m)
+merged (byOther {a} {b} f m) = List·Permᴰ·trans (Permᴰ·middle f a b) (List·Permᴰ·cons refl (merged m))
+
+pub two-lines : TwoLines
+two-lines a b each each′ w m m′ = record {
+  each = each;
+  each′ = each′;
+  from = record { joined = refl; whole = w };
+  order = List·Permᴰ·trans (Permᴰ·symm (merged m)) (merged m′);
+  joined = refl;
+}

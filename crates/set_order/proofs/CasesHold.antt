@@ -6,7 +6,7 @@ use Rattle.header.specs.Header.{storedIn, headerIn}
 use Rattle.frame.specs.Walk.{turns}
 use Rattle.set_spec.specs.Segment.{numbered}
 use Rattle.set_spec.specs.Walk.{allSeen, joined, setOf}
-use Rattle.set_order.specs.Cases.{InBothOrders, LongTaken, LongRefused}
+use Rattle.set_order.specs.Cases.{InBothOrders, LongTaken}
 
 pub in-both-orders : InBothOrders
 unfolding num storedIn headerIn numbered turns allSeen joined setOf flatten
@@ -15,7 +15,3 @@ in-both-orders = refl
 pub long-taken : LongTaken
 unfolding num storedIn headerIn numbered turns allSeen joined setOf
 long-taken = refl
-
-pub long-refused : LongRefused
-unfolding num storedIn headerIn numbered turns allSeen joined setOf
-long-refused = refl

@@ -85,9 +85,6 @@ longHeader = record {
 abbrev pub LongTaken : Type 0
 LongTaken = setOf longFrame (replicate 131056 7) ≡ accepted longHeader (replicate 131054 0) (replicate 131056 7)
 
-abbrev pub LongRefused : Type 0
-LongRefused = setOf longFrame (replicate 5 9) ≡ refusal (replicate 5 9) 13
-
 -- ---- a whole frame for each number that a turn can give, where segment 1 of two was met before it
 
 abbrev pub met : List ℕ
