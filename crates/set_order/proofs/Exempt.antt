@@ -7,11 +7,11 @@ use mathlib.Core.List.{List, [], _∷_, _++_, map, flatten, List·Memᴰ·not-ni
 use native.Mathlib.Omega.{arith}
 use lib.Dec.{ltb, eqb}
 use lib.ListN.{length, length-replicate}
-use borrow.Author.Tests.{le-ltb, lt-ltb, ltb-true, eqb-true}
+use borrow.Author.Tests.{le-ltb, ltb-true, eqb-true}
 use Rattle.wire.specs.Numbers.{num, be}
 use Rattle.wire.specs.Properties.{Each}
-use Rattle.wire.specs.Checks.{either, among, first, decide}
-use Rattle.wire.specs.Answers.{Answer, refused, given, refusal}
+use Rattle.wire.specs.Checks.{either, among, first}
+use Rattle.wire.specs.Answers.{Answer, refused, refusal}
 use Rattle.wire.proofs.CheckLaws.{never, decide-some}
 use Rattle.wire.proofs.FiniteLaws.{below}
 use Rattle.frame.specs.Session.{headSize, wholeLong}
