@@ -1,8 +1,9 @@
 -- K12's order of arrival, from the theorems of `set_order`. Assumes nothing.
 use Prim.Native.Nat.{ℕ}
-use mathlib.Core.Path.{_≡_, refl, sym, ap, subst, _∙_}
+use mathlib.Core.Path.{_≡_, refl, sym, ap, _∙_}
+use mathlib.Core.Logic.{inl, inr}
 use mathlib.Core.Bool.{Bool}
-use mathlib.Core.List.{List, [], _∷_, List·Memᴰ}
+use mathlib.Core.List.{List}
 use lib.ListN.{length}
 use denote.Ref.{now}
 use Rattle.wire.specs.Checks.{pick}
@@ -15,7 +16,6 @@ use Rattle.header.specs.Theorems.{Lone}
 use Rattle.header_form.specs.Theorems.{Long}
 use Rattle.header_form.proofs.LongLaws.{is-long}
 use Rattle.set_spec.specs.Walk.{SetSays, setOf}
-use Rattle.set_spec.specs.Theorems.{Frames}
 use Rattle.set_spec.proofs.Accepted.{answering}
 use Rattle.set_order.specs.Arrival.{AfterAll, Same}
 use Rattle.set_order.proofs.AnyOrder.{two-lines, one-list, any-order, one-frame, other-numbers, stays}
@@ -27,7 +27,7 @@ use Rattle.set.proofs.Welds.{set-apart}
 use Rattle.c_set.specs.declared.UlmSet.{UlmSet}
 use Rattle.c_set.specs.Face.{setFace}
 use Rattle.demands.specs.LoneSegment.{ButLoneNumber}
-use Rattle.demands.specs.OrderOfArrival.{Call, Reads, Ends, Accepts, Refuses, SameAnswer, OrderOfArrival}
+use Rattle.demands.specs.OrderOfArrival.{Call, Ends, Accepts, Refuses, Settled, accepted as taken, absent, small, SameAnswer, OrderOfArrival}
 use Rattle.demands.proofs.ComesLaws.{comes, given-for-c}
 use Rattle.demands.proofs.Readers.{set-untouched}
 use Rattle.demands.proofs.Lent.{set-kept}
@@ -59,13 +59,11 @@ refuses-for-c c r e refused-it = go (right c .answer) refl
     go (refused n) p = refuses c (r .refusal) (p ∙ ap refused (sym (ap (λ (u : UlmSet). u .refusal) (e ∙ ap setFace p))))
     go (given s) p = absurd (refused-it (ap (λ (u : UlmSet). u .refusal) (e ∙ ap setFace p)))
 
--- the number that C receives
-face-number : (a : Answer SetSays) → setFace a .refusal ≡ numberOf a
-face-number (refused n) = refl
-face-number (given s) = refl
-
-known : (c : Call) (n : ℕ) → n ≡ numberOf (right c .answer) → AfterAll n → AfterAll (numberOf (right c .answer))
-known c n e t = subst AfterAll e t
+-- a call that ends after all frames, by the rule's number
+settled : (c : Call) → Settled c → AfterAll (numberOf (right c .answer))
+settled c (taken h body a) = inl (ap numberOf (sym (a .met .answers)))
+settled c (absent a) = inr (inl (ap numberOf (sym (a .met .answers))))
+settled c (small a) = inr (inr (ap numberOf (sym (a .met .answers))))
 
 -- ---- in any order
 same-answer : (c d : Call) → Same (now (c .buf)) (now (c .out)) (now (d .buf)) (now (d .out)) → SameAnswer c d
@@ -96,11 +94,6 @@ long-count : (b : List ℕ) → Long b → headerIn b .segments ≡ 1
 unfolding headerIn
 long-count b l = ap (λ (t : Bool). pick t 1 (storedIn b .segments)) (is-long b l)
 
-alone : (c : Call) (r : SetAnswer) (after : List ℕ) (each : List (List ℕ)) (f : List ℕ) → Reads c r after → AfterAll (numberOf (tellSet r))
-    → Frames (now (c .buf)) each → List·Memᴰ f each → headerIn (bodyIn f) .segments ≡ 1 → each ≡ f ∷ []
-alone c r after each f l t k m n =
-    one-frame (now (c .buf)) (now (c .out)) each f (known c (numberOf (tellSet r)) (ap numberOf (l .answers)) t) k m n
-
 pub arrived : OrderOfArrival
 arrived = record {
   accepts = λ c h long after l. takes c (record { header = h; long = long }) (sym (l .answers));
@@ -110,10 +103,7 @@ arrived = record {
       (λ s e. let p = takes c s e in ((s .header, p .0), p .1));
   refuses = λ c n after l. refuses c n (sym (l .answers));
   refusesForC = λ c r after l above. refuses-for-c c r (l .answers) above;
-  oneList = λ c r after l t. one-list (now (c .buf)) (now (c .out)) (known c (numberOf (tellSet r)) (ap numberOf (l .answers)) t);
-  oneListForC = λ c r after l t.
-      one-list (now (c .buf)) (now (c .out))
-      (known c (r .refusal) (ap (λ (u : UlmSet). u .refusal) (l .answers) ∙ face-number (right c .answer)) t);
+  oneList = λ c t. one-list (now (c .buf)) (now (c .out)) (settled c t);
   anyOrder = λ c d o. same-answer c d (any-order (now (c .buf)) (now (d .buf)) (now (c .out)) (now (d .out)) (o .frames) (o .room));
   twoLines = λ c d a b each each′ w m m′ p q room.
       let r = two-lines a b each each′ w m m′ in
@@ -128,8 +118,8 @@ arrived = record {
   anyNumber = λ c d frames r b room.
       same-answer c d (same-number (now (c .buf)) frames (now (d .buf)) (now (c .out)) (now (d .out))
       (any-order (now (c .buf)) frames (now (c .out)) (now (d .out)) r room) b);
-  lone = λ c r after each f l t k m o. alone c r after each f l t k m (lone-count (bodyIn f) o);
-  long = λ c r after each f l t k m o. alone c r after each f l t k m (long-count (bodyIn f) o);
+  lone = λ c each f t k m o. one-frame (now (c .buf)) (now (c .out)) each f (settled c t) k m (lone-count (bodyIn f) o);
+  long = λ c each f t k m o. one-frame (now (c .buf)) (now (c .out)) each f (settled c t) k m (long-count (bodyIn f) o);
   others = λ c d n r a in-turn.
       let o = other-numbers (now (c .buf)) (now (d .buf)) (now (c .out)) (now (d .out)) n r (sym (a .met .answers)) in-turn in
       record { own = o .own; number = o .number; other = o .other; refuses = ends d (Refused (o .number)) (now (d .out)) (o .is) };

@@ -9,7 +9,6 @@ use lib.ListN.{length}
 use contract.Lifetimes.{Lfts}
 use denote.Ref.{RefT, now, at-last}
 use Rattle.wire.specs.Properties.{One}
-use Rattle.wire.specs.Answers.{numberOf}
 use Rattle.wire.specs.Sizes.{bytes}
 use Rattle.wire.specs.Writing.{filled}
 use Rattle.wire.specs.declared.Bytes.{Bytes}
@@ -54,14 +53,20 @@ Accepts c h body = Ends c (Set h (bytes (length body))) (filled body (now (c .ou
 abbrev pub Refuses : Call → ℕ → Type 0
 Refuses c n = Ends c (Refused n) (now (c .out))
 
--- what the first call answers the second answers too
+-- the three ends that the request speaks of: known after all frames
+pub data Settled (c : Call) : Type 0 where
+  accepted : (h : Header) (body : List ℕ) → Accepts c h body → Settled c
+  absent : Refuses c 12 → Settled c
+  small : Refuses c 13 → Settled c
+
+-- how the first call ends, the second ends too
 pub record SameAnswer (c d : Call) : Type 0 where
   pub accepted : (h : Header) (body : List ℕ) → Accepts c h body → Accepts d h body
   pub absent : Refuses c 12 → Refuses d 12
   pub small : Refuses c 13 → Refuses d 13
 
 -- the call d is lent the whole frames of the call c in some order, and an output as long
-pub record InOrder (c d : Call) : Type 0 where
+pub record Reordered (c d : Call) : Type 0 where
   pub frames : Rearranged (now (c .buf)) (now (d .buf))
   pub room : length (now (c .out)) ≡ length (now (d .out))
 
@@ -88,23 +93,21 @@ pub record OrderOfArrival : Type 0 where
   pub refuses : (c : Call) (n : ℕ) (after : List ℕ) → Reads c (Refused n) after → Refuses c n
   pub refusesForC : (c : Call) (r : UlmSet) (after : List ℕ) → ReadsForC c r after → (r .refusal ≡ 0 → ⊥) → Refuses c (r .refusal)
   -- ---- "its whole frames": a buffer that is accepted, or refused as 12 or 13, is a list of them, and of one list only
-  pub oneList : (c : Call) (r : SetAnswer) (after : List ℕ) → Reads c r after → AfterAll (numberOf (tellSet r))
-      → One (Frames (now (c .buf)))
-  pub oneListForC : (c : Call) (r : UlmSet) (after : List ℕ) → ReadsForC c r after → AfterAll (r .refusal) → One (Frames (now (c .buf)))
+  pub oneList : (c : Call) → Settled c → One (Frames (now (c .buf)))
   -- ---- "any rearrangement of its whole frames, with output of the same length"
-  pub anyOrder : (c d : Call) → InOrder c d → SameAnswer c d
+  pub anyOrder : (c d : Call) → Reordered c d → SameAnswer c d
   -- two lines: the frames came by the lines a and b, merged in one way for c and in another for d
   pub twoLines : (c d : Call) (a b each each′ : List (List ℕ)) → WholeFrames each → Merged a b each → Merged a b each′
       → now (c .buf) ≡ flatten each → now (d .buf) ≡ flatten each′ → length (now (c .out)) ≡ length (now (d .out)) → SameAnswer c d
   -- ---- "to stand for K1's lone segments": whatever the two bytes of a lone segment are in the other order
   pub anyNumber : (c d : Call) (frames : List ℕ) → Rearranged (now (c .buf)) frames → ButLoneNumber frames (now (d .buf))
       → length (now (c .out)) ≡ length (now (d .out)) → SameAnswer c d
-  -- and such a segment is the only frame, so that there is only one order
-  pub lone : (c : Call) (r : SetAnswer) (after : List ℕ) (each : List (List ℕ)) (f : List ℕ) → Reads c r after
-      → AfterAll (numberOf (tellSet r)) → Frames (now (c .buf)) each → List·Memᴰ f each → Lone (bodyIn f) → each ≡ f ∷ []
+  -- and such a segment is the only frame of its set, so that there is only one order
+  pub lone : (c : Call) (each : List (List ℕ)) (f : List ℕ) → Settled c → Frames (now (c .buf)) each → List·Memᴰ f each → Lone (bodyIn f)
+      → each ≡ f ∷ []
   -- "and for K11's long form", which counts as one segment
-  pub long : (c : Call) (r : SetAnswer) (after : List ℕ) (each : List (List ℕ)) (f : List ℕ) → Reads c r after
-      → AfterAll (numberOf (tellSet r)) → Frames (now (c .buf)) each → List·Memᴰ f each → Long (bodyIn f) → each ≡ f ∷ []
+  pub long : (c : Call) (each : List (List ℕ)) (f : List ℕ) → Settled c → Frames (now (c .buf)) each → List·Memᴰ f each → Long (bodyIn f)
+      → each ≡ f ∷ []
   -- ---- "Other numbers are exempt": of whole frames they are 2 to 11, in every order one of them
   pub others : (c d : Call) (n : ℕ) → Rearranged (now (c .buf)) (now (d .buf)) → Refuses c n → (AfterAll n → ⊥) → TurnsDown n d
   -- what comes after such frames does not mend it

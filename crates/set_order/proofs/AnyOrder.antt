@@ -29,7 +29,7 @@ use Rattle.set_spec.proofs.OrderFree.{leader, all-agree, distinct}
 use Rattle.set_spec.proofs.Accepted.{accepting, finished}
 use Rattle.set_spec.proofs.OutputApart.{finish-answer}
 use Rattle.set_spec.proofs.TurnNumbers.{walk-numbers, whole-walk}
-use Rattle.set_order.specs.Arrival.{Rearranged, Merged, none as no-frames, byOne, byOther, TwoLines, AfterAll, OneList, AnyOrder, OneFrame}
+use Rattle.set_order.specs.Arrival.{Rearranged, Merged, ended as no-more, byOne, byOther, TwoLines, AfterAll, OneList, AnyOrder, OneFrame}
 use Rattle.set_order.specs.Arrival.{InTurn, RefusedInTurn, OtherNumbers, Stays}
 use Rattle.set_order.proofs.Rearrangement.{perm-mem, same-body, same-header, same-ends, same-answer, Again, again}
 
@@ -172,7 +172,7 @@ stays frames rest out out′ each n k e not-end = go (walk [] (flatten each)) re
 
 -- ---- two lines, merged
 merged : {a b each : List (List ℕ)} → Merged a b each → List·Permᴰ (a ++ b) each
-merged no-frames = List·Permᴰ·nil
+merged no-more = List·Permᴰ·nil
 merged (byOne f m) = List·Permᴰ·cons refl (merged m)
 merged (byOther {a} {b} f m) = List·Permᴰ·trans (Permᴰ·middle f a b) (List·Permᴰ·cons refl (merged m))
 

@@ -23,7 +23,7 @@ pub record Rearranged (frames frames′ : List ℕ) : Type 0 where
 
 -- "two lines": `each` is what came by the lines a and b, the order of each line kept
 pub data Merged : List (List ℕ) → List (List ℕ) → List (List ℕ) → Type 0 where
-  none : Merged [] [] []
+  ended : Merged [] [] []
   byOne : {a b each : List (List ℕ)} (f : List ℕ) → Merged a b each → Merged (f ∷ a) b (f ∷ each)
   byOther : {a b each : List (List ℕ)} (f : List ℕ) → Merged a b each → Merged a (f ∷ b) (f ∷ each)
 
