@@ -190,7 +190,7 @@ typedef struct ulm_set_answer {
  * The answer is segment 1's header and, in the output, the data of segment 1, then 2, and so on joined, with its
  * length. At most 307,200 bytes are written (1,048,560 for type 31).
  * In any other order of the same whole frames, with an output of the same length, an accepted set has the same answer
- * and body, and 12 and 13 stay what they are; another refusal may be another one.
+ * and body, 12 stays 12 and 13 stays 13; a refusal by one of 2 to 11 stays one, but may be another of them.
  *
  * Refusals, in order: for each frame in turn those of ulm_frame, 9, those of ulm_header, 10, 11; at the end 12, 13.
  */

@@ -156,8 +156,9 @@ pub struct Set<'o> {
 /// Joins a set of segments, a buffer of frames and nothing else, in any order, into an output.
 ///
 /// In any other order of the same whole frames, with an output of the same length, an accepted set has the same header
-/// and body, and 12 and 13 stay what they are; another refusal may be another one. Refused as 1 to 13; output past the
-/// body stays as it was.
+/// and body, 12 stays 12 and 13 stays 13; a refusal by one of 2 to 11 stays one, but may be another of them.
+///
+/// Refused as 1 to 13; output past the body stays as it was.
 pub fn set<'o>(buffer: &[u8], out: &'o mut [u8]) -> Result<Set<'o>, Refusal> {
     // SAFETY: the pointers and the lengths are slices', and a `&mut` overlaps nothing.
     let r = unsafe { raw::ulm_set(buffer.as_ptr(), buffer.len(), out.as_mut_ptr(), out.len()) };
