@@ -491,16 +491,6 @@ static void add_segment(const struct make_segment *m, int data)
     set.total += size;
 }
 
-static void shuffle(uint32_t *order, size_t n)
-{
-    for (size_t i = n; i > 1; i--) {
-        size_t k = pick(i);
-        uint32_t kept = order[i - 1];
-        order[i - 1] = order[k];
-        order[k] = kept;
-    }
-}
-
 /* A set of N segments, each with that many bytes of data, in order or shuffled. */
 static void make_set(uint32_t segments, int data, int shuffled)
 {
@@ -511,7 +501,7 @@ static void make_set(uint32_t segments, int data, int shuffled)
     for (uint32_t i = 0; i < segments; i++)
         order[i] = i + 1;
     if (shuffled)
-        shuffle(order, segments);
+        shuffle(&dice, order, segments);
     set.n = set.total = set.frames = 0;
     for (uint32_t i = 0; i < segments; i++) {
         m.sequence = (uint32_t)pick(65536);
@@ -1264,7 +1254,7 @@ static struct make_radial any_radial(void)
     struct make_radial r = { .constant = { 44, 12, 20 }, .moments = 1 + (uint32_t)pick(6) };
     uint32_t order[6];
     memcpy(order, make_names, sizeof order);
-    shuffle(order, 6);
+    shuffle(&dice, order, 6);
     for (unsigned k = 0; k < r.moments; k++)
         r.moment[k] = any_moment(order[k]);
     for (unsigned k = 0; k < 3; k++)

@@ -24,6 +24,16 @@ void fill(struct chance *c, uint8_t *p, size_t n)
     put(p, (unsigned)n, chance(c));
 }
 
+void shuffle(struct chance *c, uint32_t *list, size_t n)
+{
+    for (size_t i = n; i > 1; i--) {
+        size_t k = below(c, i);
+        uint32_t kept = list[i - 1];
+        list[i - 1] = list[k];
+        list[k] = kept;
+    }
+}
+
 void put(uint8_t *p, unsigned wide, uint64_t x)
 {
     for (; wide > 0; wide--, x >>= 8)

@@ -16,6 +16,7 @@ struct chance {
 uint64_t chance(struct chance *c);
 uint64_t below(struct chance *c, uint64_t n); /* 0 to n - 1 */
 void fill(struct chance *c, uint8_t *p, size_t n);
+void shuffle(struct chance *c, uint32_t *list, size_t n);
 
 /* Big-endian numbers of 1 to 8 bytes. */
 void put(uint8_t *p, unsigned wide, uint64_t x);

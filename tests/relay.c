@@ -453,8 +453,7 @@ static void try_empty(void)
 static struct order any_order(void)
 {
     struct order o = order_of_writing();
-    for (size_t i = o.n; i > 1; i--)
-        swap(&o, i - 1, pick(i));
+    shuffle(&dice, o.frame, o.n);
     return o;
 }
 
