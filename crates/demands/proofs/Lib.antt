@@ -15,8 +15,8 @@ pub mod Second
 pub mod FaceHolds
 pub mod HandedToC
 pub mod Alone
-pub mod Arrived
 pub mod LongRadialHolds
+pub mod OrderOfArrivalHolds
 pub mod TwoMapsHold
 pub mod DamagedRecordingHolds
 pub mod FiguresHold

@@ -7,17 +7,17 @@ use mathlib.Core.List.{List}
 use lib.ListN.{length}
 use denote.Ref.{now}
 use Rattle.wire.specs.Checks.{pick}
-use Rattle.wire.specs.Answers.{Answer, refused, given, numberOf, Outcome}
+use Rattle.wire.specs.Answers.{Answer, refused, given, numberOf, Outcome, refusal}
 use Rattle.wire.specs.Sizes.{bytes}
 use Rattle.wire.specs.Writing.{filled}
 use Rattle.frame.specs.Session.{bodyIn}
 use Rattle.header.specs.Header.{storedIn, headerIn}
 use Rattle.header.specs.Theorems.{Lone}
 use Rattle.header_form.specs.Theorems.{Long}
-use Rattle.header_form.proofs.LongLaws.{is-long}
+use Rattle.header_form.proofs.LongLaws.{counts-once}
 use Rattle.set_spec.specs.Walk.{SetSays, setOf}
 use Rattle.set_spec.proofs.Accepted.{answering}
-use Rattle.set_order.specs.Arrival.{AfterAll, Same}
+use Rattle.set_order.specs.Theorems.{Rearranged, AfterAll, Same}
 use Rattle.set_order.proofs.AnyOrder.{two-lines, one-list, any-order, one-frame, other-numbers, stays}
 use Rattle.set_order.proofs.Exempt.{any-two-differ}
 use Rattle.set.specs.declared.SetAnswer.{SetAnswer}
@@ -74,6 +74,9 @@ same-answer c d s = record {
   small = λ a. ends d (Refused 13) (now (d .out)) (s .small (back c (Refused 13) (now (c .out)) a));
 }
 
+in-any-order : (c d : Call) → Rearranged (now (c .buf)) (now (d .buf)) → length (now (c .out)) ≡ length (now (d .out)) → SameAnswer c d
+in-any-order c d r room = same-answer c d (any-order (now (c .buf)) (now (d .buf)) (now (c .out)) (now (d .out)) r room)
+
 -- and then with other bytes in the number of a lone segment
 same-number : (frames frames′ frames″ out out′ : List ℕ) → Same frames out frames′ out′ → ButLoneNumber frames′ frames″
     → Same frames out frames″ out′
@@ -92,10 +95,15 @@ lone-count b l = ap (λ (t : Bool). pick t 1 (storedIn b .segments)) (l .short) 
 
 long-count : (b : List ℕ) → Long b → headerIn b .segments ≡ 1
 unfolding headerIn
-long-count b l = ap (λ (t : Bool). pick t 1 (storedIn b .segments)) (is-long b l)
+long-count b l = counts-once b l
 
-pub arrived : OrderOfArrival
-arrived = record {
+-- any call on these bytes refuses so
+on-bytes : (frames : List ℕ) (n : ℕ) → ((out : List ℕ) → setOf frames out ≡ refusal out n) → (c : Call) → now (c .buf) ≡ frames
+    → Refuses c n
+on-bytes frames n r c e = ends c (Refused n) (now (c .out)) (ap (λ (b : List ℕ). setOf b (now (c .out))) e ∙ r (now (c .out)))
+
+pub order-of-arrival : OrderOfArrival
+order-of-arrival = record {
   accepts = λ c h long after l. takes c (record { header = h; long = long }) (sym (l .answers));
   acceptsForC = λ c r after l z.
       given-for-c setFace (λ (u : UlmSet). u .refusal) (λ n. refl) (right c .answer)
@@ -104,17 +112,9 @@ arrived = record {
   refuses = λ c n after l. refuses c n (sym (l .answers));
   refusesForC = λ c r after l above. refuses-for-c c r (l .answers) above;
   oneList = λ c t. one-list (now (c .buf)) (now (c .out)) (settled c t);
-  anyOrder = λ c d o. same-answer c d (any-order (now (c .buf)) (now (d .buf)) (now (c .out)) (now (d .out)) (o .frames) (o .room));
-  twoLines = λ c d a b each each′ w m m′ p q room.
-      let r = two-lines a b each each′ w m m′ in
-      same-answer c d (any-order (now (c .buf)) (now (d .buf)) (now (c .out)) (now (d .out))
-      (record {
-        each = r .each;
-        each′ = r .each′;
-        from = record { joined = r .from .joined ∙ sym p; whole = r .from .whole };
-        order = r .order;
-        joined = r .joined ∙ sym q;
-      }) room);
+  anyOrder = λ c d o. in-any-order c d (o .frames) (o .room);
+  twoLines = λ c d a b each each′ k m m′ e room.
+      in-any-order c d (two-lines a b each each′ (now (c .buf)) (now (d .buf)) k m m′ e) room;
   anyNumber = λ c d frames r b room.
       same-answer c d (same-number (now (c .buf)) frames (now (d .buf)) (now (c .out)) (now (d .out))
       (any-order (now (c .buf)) frames (now (c .out)) (now (d .out)) r room) b);
@@ -122,7 +122,7 @@ arrived = record {
   long = λ c each f t k m o. one-frame (now (c .buf)) (now (c .out)) each f (settled c t) k m (long-count (bodyIn f) o);
   others = λ c d n r a in-turn.
       let o = other-numbers (now (c .buf)) (now (d .buf)) (now (c .out)) (now (d .out)) n r (sym (a .met .answers)) in-turn in
-      record { own = o .own; number = o .number; other = o .other; refuses = ends d (Refused (o .number)) (now (d .out)) (o .is) };
+      record { own = o .own; number = o .number; other = o .other; is = ends d (Refused (o .number)) (now (d .out)) (o .is) };
   stays = λ c d each rest n k e a in-turn.
       ends d (Refused n) (now (d .out)) (ap (λ (b : List ℕ). setOf b (now (d .out))) e
       ∙ stays (now (c .buf)) rest (now (c .out)) (now (d .out)) each n k (sym (a .met .answers)) in-turn);
@@ -132,7 +132,7 @@ arrived = record {
         frames = x .frames;
         frames′ = x .frames′;
         rearranged = x .rearranged;
-        one = λ c e. ends c (Refused m) (now (c .out)) (ap (λ (b : List ℕ). setOf b (now (c .out))) e ∙ x .one (now (c .out)));
-        other = λ c e. ends c (Refused n) (now (c .out)) (ap (λ (b : List ℕ). setOf b (now (c .out))) e ∙ x .other (now (c .out)));
+        one = on-bytes (x .frames) m (x .one);
+        other = on-bytes (x .frames′) n (x .other);
       };
 }

@@ -1,7 +1,7 @@
 -- K12. "Our relay now takes segments by two lines. Show that if a set is accepted, then any rearrangement of its whole frames, with output
 -- of the same length, is accepted too and gives the same header and the same body; and that a set refused as 12, or refused as 13, is
 -- refused by the same number in every rearrangement. Other numbers are exempt." The results of every call of the compiled `read_set` and of
--- `ulm_set`. What a rearrangement is, and which numbers are the others, stands in Arrival of `set_order`.
+-- `ulm_set`. What a rearrangement is, and which numbers are the others, stands in Theorems of `set_order`.
 use Prim.Native.Nat.{ℕ}
 use mathlib.Core.Path.{_≡_}
 use mathlib.Core.List.{List, [], _∷_, _++_, flatten, List·Memᴰ}
@@ -16,8 +16,8 @@ use Rattle.frame.specs.Session.{bodyIn}
 use Rattle.header.specs.declared.Header.{Header}
 use Rattle.header.specs.Theorems.{Lone}
 use Rattle.header_form.specs.Theorems.{Long}
-use Rattle.set_spec.specs.Theorems.{WholeFrames, Frames}
-use Rattle.set_order.specs.Arrival.{Rearranged, Merged, AfterAll, InTurn}
+use Rattle.set_spec.specs.Theorems.{Frames}
+use Rattle.set_order.specs.Theorems.{Rearranged, Merged, AfterAll, InTurn, BothInTurn, Differ}
 use Rattle.set.specs.declared.SetAnswer.{SetAnswer}
 use Rattle.set.specs.declared.SetAnswer.the-variants.{Set, Refused}
 use Rattle.set.specs.Told.{tellSet}
@@ -70,21 +70,6 @@ pub record Reordered (c d : Call) : Type 0 where
   pub frames : Rearranged (now (c .buf)) (now (d .buf))
   pub room : length (now (c .out)) ≡ length (now (d .out))
 
--- the call d refuses, as the call before it did as n, by one of 2 to 11
-pub record TurnsDown (n : ℕ) (d : Call) : Type 0 where
-  pub own : InTurn n
-  pub number : ℕ
-  pub other : InTurn number
-  pub refuses : Refuses d number
-
--- frames that every call refuses as m, and in another order as n
-pub record Exempt (m n : ℕ) : Type 0 where
-  pub frames : List ℕ
-  pub frames′ : List ℕ
-  pub rearranged : Rearranged frames frames′
-  pub one : (c : Call) → now (c .buf) ≡ frames → Refuses c m
-  pub other : (c : Call) → now (c .buf) ≡ frames′ → Refuses c n
-
 pub record OrderOfArrival : Type 0 where
   -- ---- every call accepts with one body, or refuses, so that what follows is about every call
   pub accepts : (c : Call) (h : Header) (long : Bytes) (after : List ℕ) → Reads c (Set h long) after → (body : List ℕ) × Accepts c h body
@@ -97,8 +82,8 @@ pub record OrderOfArrival : Type 0 where
   -- ---- "any rearrangement of its whole frames, with output of the same length"
   pub anyOrder : (c d : Call) → Reordered c d → SameAnswer c d
   -- two lines: the frames came by the lines a and b, merged in one way for c and in another for d
-  pub twoLines : (c d : Call) (a b each each′ : List (List ℕ)) → WholeFrames each → Merged a b each → Merged a b each′
-      → now (c .buf) ≡ flatten each → now (d .buf) ≡ flatten each′ → length (now (c .out)) ≡ length (now (d .out)) → SameAnswer c d
+  pub twoLines : (c d : Call) (a b each each′ : List (List ℕ)) → Frames (now (c .buf)) each → Merged a b each → Merged a b each′
+      → flatten each′ ≡ now (d .buf) → length (now (c .out)) ≡ length (now (d .out)) → SameAnswer c d
   -- ---- "to stand for K1's lone segments": whatever the two bytes of a lone segment are in the other order
   pub anyNumber : (c d : Call) (frames : List ℕ) → Rearranged (now (c .buf)) frames → ButLoneNumber frames (now (d .buf))
       → length (now (c .out)) ≡ length (now (d .out)) → SameAnswer c d
@@ -109,9 +94,10 @@ pub record OrderOfArrival : Type 0 where
   pub long : (c : Call) (each : List (List ℕ)) (f : List ℕ) → Settled c → Frames (now (c .buf)) each → List·Memᴰ f each → Long (bodyIn f)
       → each ≡ f ∷ []
   -- ---- "Other numbers are exempt": of whole frames they are 2 to 11, in every order one of them
-  pub others : (c d : Call) (n : ℕ) → Rearranged (now (c .buf)) (now (d .buf)) → Refuses c n → (AfterAll n → ⊥) → TurnsDown n d
+  pub others : (c d : Call) (n : ℕ) → Rearranged (now (c .buf)) (now (d .buf)) → Refuses c n → (AfterAll n → ⊥)
+      → BothInTurn n (Refuses d)
   -- what comes after such frames does not mend it
   pub stays : (c d : Call) (each : List (List ℕ)) (rest : List ℕ) (n : ℕ) → Frames (now (c .buf)) each → now (d .buf) ≡ now (c .buf) ++ rest
       → Refuses c n → (AfterAll n → ⊥) → Refuses d n
   -- and for any two of them there are frames that are refused as the one in one order and as the other in another
-  pub exempt : (m n : ℕ) → InTurn m → InTurn n → Exempt m n
+  pub exempt : (m n : ℕ) → InTurn m → InTurn n → Differ m n (λ frames k. (c : Call) → now (c .buf) ≡ frames → Refuses c k)

@@ -2,7 +2,7 @@
 use Prim.Native.Nat.{ℕ, _+_, _-_, _/_, _≤_, _<_}
 use native.Mathlib.Omega.{arith}
 use mathlib.Core.Path.{_≡_, refl, sym, ap, _∙_}
-use mathlib.Core.Bool.{Bool, true, false, not}
+use mathlib.Core.Bool.{Bool, true, false}
 use mathlib.Core.List.{List}
 use lib.Dec.{ltb, eqb}
 use lib.ListN.{length, getD, take, drop}
@@ -52,9 +52,12 @@ module _ (b : List ℕ) (l : Long b) where
   abbrev times : List Check
   times = timeChecks (s .date) (s .milliseconds)
 
-  pub is-long : isLong s ≡ true
+  is-long : isLong s ≡ true
   unfolding storedIn
   is-long = rw (eq-eqb (num 2 b 0) (longMark .0) (l .mark), eq-eqb (num 1 b 3) radialType (l .radial))
+
+  pub counts-once : countOf s ≡ 1
+  counts-once = rw is-long
 
   kind-is : s .kind ≡ radialType
   unfolding storedIn
@@ -66,9 +69,8 @@ module _ (b : List ℕ) (l : Long b) where
       let forms : someBroken (formChecksOf s (length b)) ≡ someBroken lengths =
       ap (λ (ks : List Check). someBroken ks) (form-long (s .size) (s .kind) (s .segments) (s .number) (length b) is-long)
       in
-      let one : countOf s ≡ 1 = rw is-long in
       let alone : someBroken (segmentChecks (sizeOf s) (s .kind) (countOf s) (reportedNumber (countOf s) (s .number))) ≡ false =
-      radial-alone (sizeOf s) (s .kind) (countOf s) (s .number) kind-is ∙ rw one
+      radial-alone (sizeOf s) (s .kind) (countOf s) (s .number) kind-is ∙ rw counts-once
       in
       by-tests b (l .headed) ∙ rw (forms, permitted, alone)
     where

@@ -29,8 +29,8 @@ use Rattle.set_spec.proofs.OrderFree.{leader, all-agree, distinct}
 use Rattle.set_spec.proofs.Accepted.{accepting, finished}
 use Rattle.set_spec.proofs.OutputApart.{finish-answer}
 use Rattle.set_spec.proofs.TurnNumbers.{walk-numbers, whole-walk}
-use Rattle.set_order.specs.Arrival.{Rearranged, Merged, ended as no-more, byOne, byOther, TwoLines, AfterAll, OneList, AnyOrder, OneFrame}
-use Rattle.set_order.specs.Arrival.{InTurn, RefusedInTurn, OtherNumbers, Stays}
+use Rattle.set_order.specs.Theorems.{Rearranged, Merged, noMore, byOne, byOther, TwoLines, AfterAll, OneList, AnyOrder, OneFrame}
+use Rattle.set_order.specs.Theorems.{InTurn, BothInTurn, OtherNumbers, Stays}
 use Rattle.set_order.proofs.Rearrangement.{perm-mem, same-body, same-header, same-ends, same-answer, Again, again}
 
 -- ---- which numbers come from the walk, and which from its end
@@ -141,7 +141,7 @@ other-numbers frames frames′ out out′ n r e not-end = first-walk (walk [] (f
     whole′ f m = r .from .whole f (perm-mem (Permᴰ·symm (r .order)) f m)
 
     second-walk : walk [] (flatten (r .each)) ≡ refused n → (a : Answer (List Segment)) → walk [] (flatten (r .each′)) ≡ a
-        → RefusedInTurn n frames′ out′
+        → BothInTurn n (λ m. setOf frames′ out′ ≡ refusal out′ m)
     second-walk w (refused m) q = record {
       own = other-turn n (whole-walk (r .each) [] n (r .from .whole) w);
       number = m;
@@ -151,7 +151,7 @@ other-numbers frames frames′ out out′ n r e not-end = first-walk (walk [] (f
     second-walk w (given gs) q = never (cc (sym w ∙ again (r .each′) (r .each) (Permᴰ·symm (r .order)) whole′ gs q .walked))
 
     first-walk : (a : Answer (List Segment)) → walk [] (flatten (r .each)) ≡ a → finish a out .answer ≡ refused n
-        → RefusedInTurn n frames′ out′
+        → BothInTurn n (λ m. setOf frames′ out′ ≡ refusal out′ m)
     first-walk (refused k) w q = let z : k ≡ n = cc q in second-walk (w ∙ ap refused z) (walk [] (flatten (r .each′))) refl
     first-walk (given gs) w q = absurd (not-end (end-number gs out n q))
 
@@ -172,15 +172,10 @@ stays frames rest out out′ each n k e not-end = go (walk [] (flatten each)) re
 
 -- ---- two lines, merged
 merged : {a b each : List (List ℕ)} → Merged a b each → List·Permᴰ (a ++ b) each
-merged no-more = List·Permᴰ·nil
+merged noMore = List·Permᴰ·nil
 merged (byOne f m) = List·Permᴰ·cons refl (merged m)
 merged (byOther {a} {b} f m) = List·Permᴰ·trans (Permᴰ·middle f a b) (List·Permᴰ·cons refl (merged m))
 
 pub two-lines : TwoLines
-two-lines a b each each′ w m m′ = record {
-  each = each;
-  each′ = each′;
-  from = record { joined = refl; whole = w };
-  order = List·Permᴰ·trans (Permᴰ·symm (merged m)) (merged m′);
-  joined = refl;
-}
+two-lines a b each each′ frames frames′ k m m′ e =
+    record { each = each; each′ = each′; from = k; order = List·Permᴰ·trans (Permᴰ·symm (merged m)) (merged m′); joined = e }

@@ -20,7 +20,7 @@ use Rattle.set_spec.specs.Segment.{Segment, segmentIn, numbered}
 use Rattle.set_spec.specs.Walk.{turnChecks, walk, finish, setOf}
 use Rattle.set_spec.specs.Theorems.{WholeFrames}
 use Rattle.set_spec.proofs.FrameLists.{each-cons, front-walk}
-use Rattle.set_order.specs.Arrival.{InTurn, AnyTwoDiffer}
+use Rattle.set_order.specs.Theorems.{InTurn, AnyTwoDiffer}
 use Rattle.set_order.specs.Cases.{met, tooLong, breaking}
 
 -- a frame is whole, and is refused as n after the frame `met`

@@ -9,7 +9,7 @@ use Rattle.wire.specs.Sizes.{halfwords}
 use Rattle.header.specs.declared.Header.{Header}
 use Rattle.set_spec.specs.Walk.{SetSays, setOf}
 use Rattle.set_spec.specs.Theorems.{accepted}
-use Rattle.set_spec.specs.Cases.{frameOf, frameWith, headerWith, keepAlive}
+use Rattle.set_spec.specs.Cases.{segmentWith, frameWith, headerWith, keepAlive}
 
 -- frames, and what comes of them in this order with an output that holds sevens, and backwards with one that holds nines
 pub record Case : Type 0 where
@@ -100,9 +100,9 @@ breaking =
     ∷ (3, be 4 2 ++ (be 4 0 ++ (be 4 1048577 ++ tooLong)))
     ∷ (4, be 4 2 ++ (be 4 0 ++ be 4 0))
     ∷ (5, frameWith 8 2 2 0x3334)
-    ∷ (6, frameOf 9 14 16000 2 2 0x3334)
+    ∷ (6, segmentWith 9 14 16000 2 2 0x3334)
     ∷ (7, frameWith 9 2 3 0x3334)
-    ∷ (8, frameOf 9 9 0 2 2 0x3334)
+    ∷ (8, segmentWith 9 9 0 2 2 0x3334)
     ∷ (9, keepAlive)
     ∷ (10, frameWith 9 3 2 0x3334)
     ∷ (11, met)

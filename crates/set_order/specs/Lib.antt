@@ -1,3 +1,3 @@
 -- A set's frames in any order.
-pub mod Arrival
+pub mod Theorems
 pub mod Cases

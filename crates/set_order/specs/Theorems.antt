@@ -9,7 +9,7 @@ use Rattle.wire.specs.Answers.{refused, numberOf, refusal}
 use Rattle.header.specs.declared.Header.{Header}
 use Rattle.set_spec.specs.Walk.{setOf}
 use Rattle.set_spec.specs.Whole.{headerFrom}
-use Rattle.set_spec.specs.Theorems.{accepted, WholeFrames, Frames}
+use Rattle.set_spec.specs.Theorems.{accepted, Frames}
 
 -- ---- the frames
 
@@ -23,14 +23,14 @@ pub record Rearranged (frames frames′ : List ℕ) : Type 0 where
 
 -- "two lines": `each` is what came by the lines a and b, the order of each line kept
 pub data Merged : List (List ℕ) → List (List ℕ) → List (List ℕ) → Type 0 where
-  ended : Merged [] [] []
+  noMore : Merged [] [] []
   byOne : {a b each : List (List ℕ)} (f : List ℕ) → Merged a b each → Merged (f ∷ a) b (f ∷ each)
   byOther : {a b each : List (List ℕ)} (f : List ℕ) → Merged a b each → Merged a (f ∷ b) (f ∷ each)
 
 -- however the frames of two lines come together, it is a rearrangement
 abbrev pub TwoLines : Type 0
-TwoLines = (a b each each′ : List (List ℕ)) → WholeFrames each → Merged a b each → Merged a b each′
-    → Rearranged (flatten each) (flatten each′)
+TwoLines = (a b each each′ : List (List ℕ)) (frames frames′ : List ℕ) → Frames frames each → Merged a b each → Merged a b each′
+    → flatten each′ ≡ frames′ → Rearranged frames frames′
 
 -- ---- what does not depend on the order
 
@@ -64,17 +64,19 @@ pub record InTurn (n : ℕ) : Type 0 where
   pub least : 2 ≤ n
   pub most : n ≤ 11
 
--- whole frames that are refused by another number than 12 and 13 are refused by one of these, and so is every rearrangement of them,
--- whatever the outputs
-pub record RefusedInTurn (n : ℕ) (frames′ out′ : List ℕ) : Type 0 where
+-- n is one of these, and so is a number by which something else is refused: `refuses` says of a number that it is that one
+pub record BothInTurn (n : ℕ) (refuses : ℕ → Type 0) : Type 0 where
   pub own : InTurn n
   pub number : ℕ
   pub other : InTurn number
-  pub is : setOf frames′ out′ ≡ refusal out′ number
+  pub is : refuses number
+
+-- whole frames that are refused by another number than 12 and 13 are refused by one of these, and so is every rearrangement of them,
+-- whatever the outputs
 
 abbrev pub OtherNumbers : Type 0
 OtherNumbers = (frames frames′ out out′ : List ℕ) (n : ℕ) → Rearranged frames frames′ → setOf frames out .answer ≡ refused n
-    → (AfterAll n → ⊥) → RefusedInTurn n frames′ out′
+    → (AfterAll n → ⊥) → BothInTurn n (λ m. setOf frames′ out′ ≡ refusal out′ m)
 
 -- and what comes after such frames does not mend it
 abbrev pub Stays : Type 0
@@ -82,12 +84,12 @@ Stays = (frames rest out out′ : List ℕ) (each : List (List ℕ)) (n : ℕ) �
     → (AfterAll n → ⊥) → setOf (frames ++ rest) out′ ≡ refusal out′ n
 
 -- the exemption is needed for every two of them: some frames are refused as m, and in another order as n
-pub record Differ (m n : ℕ) : Type 0 where
+pub record Differ (m n : ℕ) (refuses : List ℕ → ℕ → Type 0) : Type 0 where
   pub frames : List ℕ
   pub frames′ : List ℕ
   pub rearranged : Rearranged frames frames′
-  pub one : (out : List ℕ) → setOf frames out ≡ refusal out m
-  pub other : (out : List ℕ) → setOf frames′ out ≡ refusal out n
+  pub one : refuses frames m
+  pub other : refuses frames′ n
 
 abbrev pub AnyTwoDiffer : Type 0
-AnyTwoDiffer = (m n : ℕ) → InTurn m → InTurn n → Differ m n
+AnyTwoDiffer = (m n : ℕ) → InTurn m → InTurn n → Differ m n (λ frames k. (out : List ℕ) → setOf frames out ≡ refusal out k)

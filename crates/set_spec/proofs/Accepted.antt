@@ -4,13 +4,13 @@ use mathlib.Core.Path.{_≡_, refl, sym, ap, subst, _∙_}
 use mathlib.Core.Bool.{true, not}
 use mathlib.Core.Option.{Option, none, some}
 use mathlib.Core.List.{List, [], map, flatten, List·Memᴰ}
-use lib.ListN.{length, take, drop}
-use lib.Seq.{take-at}
+use lib.ListN.{length, drop}
 use borrow.Author.Tests.{ltb-false, le-ltb, not-false}
 use Rattle.wire.specs.Checks.{first, AllHold}
 use Rattle.wire.specs.Answers.{Answer, refused, given, Outcome, refusal}
 use Rattle.wire.specs.Sizes.{bytes}
 use Rattle.wire.specs.Writing.{filled}
+use Rattle.wire.proofs.ListLaws.{same-parts}
 use Rattle.wire.proofs.CheckLaws.{never, all-hold, none-broken, decide-none}
 use Rattle.wire.proofs.AnswerLaws.{outcome-given}
 use Rattle.header.specs.declared.Header.{Header}
@@ -29,12 +29,6 @@ pub record Accepting (frames out : List ℕ) (h : Header) (body : List ℕ) : Ty
   pub header : headerNumbered gs 1 ≡ h
   pub contents : bodyOf gs ≡ body
 
--- two bodies of one length at the start of one output
-same-body : (a b out : List ℕ) → length a ≡ length b → filled a out ≡ filled b out → a ≡ b
-same-body a b out l e =
-    sym (take-at a (drop (length a) out) (length b) l) ∙ ap (λ (x : List ℕ). take (length b) x) e
-    ∙ take-at b (drop (length b) out) (length b) refl
-
 pub accepting : (frames out : List ℕ) (h : Header) (body : List ℕ) → setOf frames out ≡ accepted h body out → Accepting frames out h body
 unfolding setOf
 accepting frames out h body e = go (walk [] frames) refl e
@@ -52,7 +46,9 @@ accepting frames out h body e = go (walk [] frames) refl e
           walked = w;
           ends = all-hold (endChecks gs (length out)) (p .0);
           header = ap (λ (s : SetSays). s .header) (p .1);
-          contents = same-body (bodyOf gs) body out l (sym (p .2) ∙ ap (λ (o : Outcome (List ℕ) SetSays). o .output) q);
+          contents =
+              same-parts (bodyOf gs) body (drop (length (bodyOf gs)) out) (drop (length body) out) l
+              (sym (p .2) ∙ ap (λ (o : Outcome (List ℕ) SetSays). o .output) q) .0;
         }
 
 -- and back

@@ -4,11 +4,11 @@ use mathlib.Core.Path.{_≡_, refl, sym, ap, subst, _∙_}
 use mathlib.Core.Logic.{_⊎_, ⊎-elim}
 use mathlib.Core.List.{List, [], _∷_, _++_, map, flatten, append-assoc, append-nil, List·Memᴰ, List·Memᴰ·head, List·Memᴰ·tail, List·Memᴰ·cases-cons, List·Memᴰ·not-nil}
 use native.Mathlib.Omega.{arith}
-use lib.ListN.{length, take, drop, length-append}
-use lib.Seq.{take-at, drop-at}
+use lib.ListN.{length, length-append}
 use Rattle.wire.specs.Properties.{One}
 use Rattle.wire.specs.Checks.{decide, AllHold}
 use Rattle.wire.specs.Answers.{Answer, refused, given}
+use Rattle.wire.proofs.ListLaws.{same-parts}
 use Rattle.wire.proofs.CheckLaws.{never, passed, decide-none, all-hold, none-broken, all-hold-append, all-hold-join}
 use Rattle.frame.specs.Session.{after, wholeLong}
 use Rattle.frame.specs.Walk.{turns, answers}
@@ -46,11 +46,7 @@ turn-went gs gs′ rest later e =
 -- ---- a buffer is one list of whole frames at most
 -- two frames at the start of one buffer
 front-once : (f g t u : List ℕ) → length f ≡ wholeLong f → length g ≡ wholeLong g → f ++ t ≡ g ++ u → (f ≡ g) × (t ≡ u)
-front-once f g t u ef eg same =
-    let long : length f ≡ length g = sym (whole-same f t ef) ∙ ap wholeLong same ∙ whole-same g u eg in (
-      sym (take-at f t (length g) long) ∙ ap (λ (x : List ℕ). take (length g) x) same ∙ take-at g u (length g) refl,
-      sym (drop-at f t (length g) long) ∙ ap (λ (x : List ℕ). drop (length g) x) same ∙ drop-at g u (length g) refl,
-    )
+front-once f g t u ef eg same = same-parts f g t u (sym (whole-same f t ef) ∙ ap wholeLong same ∙ whole-same g u eg) same
 
 -- a frame has bytes
 not-empty : (f t : List ℕ) → length f ≡ wholeLong f → f ++ t ≡ [] → ⊥

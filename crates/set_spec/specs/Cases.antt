@@ -13,14 +13,14 @@ use Rattle.set_spec.specs.Theorems.{accepted}
 
 -- "Request 129, channel 0, sequence 5, date 16,000, 1,000 ms: `00000002 00000000 00000012 0009 00 09 0005 3E80 000003E8 0001 0001 0081`",
 -- with another size, type, date, N, segment number or data of two bytes in its place
-abbrev pub frameOf : ℕ → ℕ → ℕ → ℕ → ℕ → ℕ → List ℕ
-frameOf size kind date n k two =
+abbrev pub segmentWith : ℕ → ℕ → ℕ → ℕ → ℕ → ℕ → List ℕ
+segmentWith size kind date n k two =
     be 4 0x00000002 ++ (be 4 0x00000000 ++ (be 4 0x00000012
     ++ (be 2 size
     ++ (be 1 0x00 ++ (be 1 kind ++ (be 2 0x0005 ++ (be 2 date ++ (be 4 0x000003E8 ++ (be 2 n ++ (be 2 k ++ be 2 two))))))))))
 
 abbrev pub frameWith : ℕ → ℕ → ℕ → ℕ → List ℕ
-frameWith size n k two = frameOf size 0x09 0x3E80 n k two
+frameWith size n k two = segmentWith size 0x09 0x3E80 n k two
 
 abbrev pub headerWith : ℕ → ℕ → Header
 headerWith n k = record {

@@ -5,7 +5,7 @@ use mathlib.Core.List.{List, [], _∷_, _++_, append-assoc, append-nil, flatten}
 use native.Mathlib.Omega.{arith}
 use native.Mathlib.Numerals.{unary-clauses}
 use lib.ListN.{length, getD, take, drop, length-take, length-drop}
-use lib.Seq.{take-all, take-nil, ext-getD, getD-take, getD-drop}
+use lib.Seq.{take-all, take-nil, take-at, drop-at, ext-getD, getD-take, getD-drop}
 
 -- the part of a slice from a place on is what is left of its list
 pub part-is : (s : List ℕ) (p : ℕ) → take (length s - p) (drop p s) ≡ drop p s
@@ -40,6 +40,13 @@ drop-take (suc n) (suc m) [] = simp (unary-clauses, take-nil)
 drop-take (suc n) (suc m) (x ∷ l) = simp unary-clauses (drop-take n m l)
 
 -- ---- lists one after the other
+-- two lists that are joined of parts, the first ones as long
+pub same-parts : (a b t u : List ℕ) → length a ≡ length b → a ++ t ≡ b ++ u → (a ≡ b) × (t ≡ u)
+same-parts a b t u l e = (
+  sym (take-at a t (length b) l) ∙ ap (λ (x : List ℕ). take (length b) x) e ∙ take-at b u (length b) refl,
+  sym (drop-at a t (length b) l) ∙ ap (λ (x : List ℕ). drop (length b) x) e ∙ drop-at b u (length b) refl,
+)
+
 pub flatten-append : (fs gs : List (List ℕ)) → flatten (fs ++ gs) ≡ flatten fs ++ flatten gs
 unfolding flatten
 flatten-append [] gs = refl
