@@ -73,7 +73,6 @@ pub record BothInTurn (n : ℕ) (refuses : ℕ → Type 0) : Type 0 where
 
 -- whole frames that are refused by another number than 12 and 13 are refused by one of these, and so is every rearrangement of them,
 -- whatever the outputs
-
 abbrev pub OtherNumbers : Type 0
 OtherNumbers = (frames frames′ out out′ : List ℕ) (n : ℕ) → Rearranged frames frames′ → setOf frames out .answer ≡ refused n
     → (AfterAll n → ⊥) → BothInTurn n (λ m. setOf frames′ out′ ≡ refusal out′ m)
