@@ -1,4 +1,6 @@
 // Message 8 as C receives it, and its writer.
+#![tactic(auto)]
+
 ghost use Rattle.std.specs.Prelude.{◌≡◌};
 ghost use Rattle.censor.specs.Censor.{censor_of, censor_written};
 ghost use Rattle.c_lent.specs.Face.{Leaves, written_face};

@@ -1,4 +1,6 @@
 // The comparison of two messages 15, as C receives it.
+#![tactic(auto)]
+
 ghost use Rattle.std.specs.Prelude.{◌≡◌};
 ghost use Rattle.compare_spec.specs.Comparing.{comparison_of};
 ghost use Rattle.c_lent.specs.Face.{Leaves};

@@ -1,4 +1,6 @@
 // Frames and message headers as C receives them.
+#![tactic(auto)]
+
 ghost use Rattle.std.specs.Prelude.{◌≡◌};
 ghost use Rattle.wire.specs.Answers.{refused, given};
 ghost use Rattle.frame.specs.Session.{frame_at};

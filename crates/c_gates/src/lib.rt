@@ -1,4 +1,6 @@
 // The gates of a moment, and the value of a gate, as C receives them.
+#![tactic(auto)]
+
 ghost use Rattle.std.specs.Prelude.{◌≡◌};
 ghost use Rattle.wire.specs.Numbers.{be};
 ghost use Rattle.wire.specs.Answers.{refused};

@@ -1,4 +1,6 @@
 // What C receives from a function that writes: the refusal or the length, and what the lent memory then holds.
+#![tactic(auto)]
+
 ghost use Rattle.std.specs.Prelude.{◌≡◌};
 ghost use Rattle.wire.specs.Writing.{tell_write};
 ghost use Rattle.c_lent.specs.Face.{written_face};

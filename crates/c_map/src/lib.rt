@@ -1,4 +1,6 @@
 // Message 15 as C receives it, and the code at a place of it.
+#![tactic(auto)]
+
 ghost use Rattle.std.specs.Prelude.{◌≡◌};
 ghost use Rattle.map_spec.specs.Reading.{summary_of, code_of};
 ghost use Rattle.c_map.specs.Face.{map_face, map_code_face};

@@ -1,4 +1,6 @@
 // Radials and their blocks as C receives them.
+#![tactic(auto)]
+
 ghost use Rattle.std.specs.Prelude.{◌≡◌};
 ghost use Rattle.radial_spec.specs.Refusal.{radial_of};
 ghost use Rattle.radial_spec.specs.Lookups.{block_of};

@@ -1,4 +1,6 @@
 // Message 9 as C receives it, and its writer.
+#![tactic(auto)]
+
 ghost use Rattle.std.specs.Prelude.{◌≡◌};
 ghost use Rattle.request.specs.Request.{request_of, request_written};
 ghost use Rattle.c_lent.specs.Face.{Leaves, written_face};

@@ -1,4 +1,6 @@
 // Salvages as C receives them.
+#![tactic(auto)]
+
 ghost use Rattle.std.specs.Prelude.{◌≡◌};
 ghost use Rattle.c_lent.specs.Face.{Leaves};
 ghost use Rattle.salvage_spec.specs.Salvage.{salvage_of};

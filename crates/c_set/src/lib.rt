@@ -1,4 +1,6 @@
 // Sets as C receives them.
+#![tactic(auto)]
+
 ghost use Rattle.std.specs.Prelude.{◌≡◌};
 ghost use Rattle.set_spec.specs.Walk.{set_of};
 ghost use Rattle.c_lent.specs.Face.{Leaves};

@@ -1,4 +1,6 @@
 // The writer of frames, as C calls it.
+#![tactic(auto)]
+
 ghost use Rattle.writer.specs.Writing.{write_of};
 ghost use Rattle.c_lent.specs.Face.{Leaves, written_face};
 

@@ -1,4 +1,6 @@
 // Message 8, the censor zones: read from a body, and written as one.
+#![tactic(auto)]
+
 ghost use Rattle.std.specs.Prelude.{◌≡◌, ◌+◌, ◌*◌, ◌-◌, ◌≤◌, ◌++◌, length, replicate};
 ghost use Rattle.wire.specs.Numbers.{nums};
 ghost use Rattle.wire.specs.Tables.{run};

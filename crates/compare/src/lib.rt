@@ -1,4 +1,6 @@
 // Two clutter filter maps compared: both are checked, their differences counted and, where the output has room for all of them, listed.
+#![tactic(auto)]
+
 ghost use Rattle.std.specs.Prelude.{◌≡◌, ◌+◌, ◌*◌, ◌≤◌, true, [], ◌∷◌, ltb, leb, eqb, length};
 ghost use Rattle.form_spec.specs.Parts.{run_size};
 ghost use Rattle.wire.specs.Answers.{Promise};

@@ -1,4 +1,6 @@
 // A copy: one part of some bytes onto another of the same length.
+#![tactic(auto)]
+
 ghost use Rattle.std.specs.Prelude.{◌≡◌, length};
 ghost use Rattle.copy.specs.Copying.{copy_block, copy_run, copied};
 

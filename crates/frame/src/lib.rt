@@ -1,4 +1,6 @@
 // The session frame: a stream is read from a place in a lent buffer.
+#![tactic(auto)]
+
 ghost use Rattle.std.specs.Prelude.{◌≡◌, ◌+◌, ◌^◌, ◌<◌, length};
 ghost use Rattle.wire.specs.Answers.{rule};
 ghost use Rattle.frame.specs.Session.{frame, frame_checks, frame_in, frame_at};

@@ -1,4 +1,6 @@
 // The value of a gate: of a radial's moment, or of a code by itself.
+#![tactic(auto)]
+
 ghost use Rattle.std.specs.Prelude.{◌≡◌, false};
 ghost use Rattle.wire.specs.Numbers.{num};
 ghost use Rattle.wire.specs.Checks.{some_broken};

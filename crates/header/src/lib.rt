@@ -1,4 +1,6 @@
 // The message header: the 16 bytes that a data frame's body begins with.
+#![tactic(auto)]
+
 ghost use Rattle.std.specs.Prelude.{◌≡◌, []};
 ghost use Rattle.wire.specs.Numbers.{fetched};
 ghost use Rattle.wire.specs.Checks.{some_broken};

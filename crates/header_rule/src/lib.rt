@@ -1,4 +1,6 @@
 // The rules of a message header's values, 5 to 8: each takes the values that it is about, and says whether they break it.
+#![tactic(auto)]
+
 ghost use Rattle.std.specs.Prelude.{◌≡◌};
 ghost use Rattle.wire.specs.Checks.{some_broken};
 ghost use Rattle.header_rule.specs.Rules.{size_checks, length_in, length_checks, long_form, form_checks, not_permitted};

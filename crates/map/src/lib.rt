@@ -1,4 +1,6 @@
 // Message 15, the clutter filter map: a body is checked in one pass, which also tells where the azimuth asked for begins.
+#![tactic(auto)]
+
 ghost use Rattle.std.specs.Prelude.{◌≡◌, ◌≤◌, ltb};
 ghost use Rattle.form_spec.specs.Parts.{run_size};
 ghost use Rattle.wire.specs.Checks.{pick, AllHold};

@@ -1,4 +1,6 @@
 // The check of a clutter filter map's azimuths: a given number of them, zone by zone.
+#![tactic(auto)]
+
 ghost use Rattle.std.specs.Prelude.{◌≡◌, ◌*◌, ◌/◌, ◌≤◌, length};
 ghost use Rattle.map_spec.specs.Map.{most_zones, zone_size};
 ghost use Rattle.map_spec.specs.Reading.{azimuth_part};

@@ -1,4 +1,6 @@
 // A zone of a clutter filter map, fetched as one number of 32 bits: its code and its end.
+#![tactic(auto)]
+
 ghost use Rattle.std.specs.Prelude.{◌≡◌, ◌/◌, ◌%◌};
 ghost use Rattle.map_spec.specs.Map.{halfword_numbers};
 

@@ -1,4 +1,6 @@
 // What an accepted body of message 31 says, by value: its blocks, a moment by its name, and a gate's code.
+#![tactic(auto)]
+
 ghost use Rattle.std.specs.Prelude.{◌≡◌, ◌+◌, ◌-◌, ◌≤◌, length};
 ghost use Rattle.std.proofs.Math.Option.{some};
 ghost use Rattle.wire.specs.Numbers.{num, fetched};

@@ -1,4 +1,6 @@
 // The gates of a moment: that part of the lent body which holds exactly its gate words. Nothing is copied.
+#![tactic(auto)]
+
 ghost use Rattle.std.specs.Prelude.{◌+◌, ◌≤◌, length};
 ghost use Rattle.wire.specs.Numbers.{num};
 ghost use Rattle.radial_spec.specs.Lookups.{gates_of};

@@ -1,4 +1,6 @@
 // A moment's head: a moment's first 28 bytes by value, and how many bytes the moment takes.
+#![tactic(auto)]
+
 ghost use Rattle.std.specs.Prelude.{◌≡◌};
 ghost use Rattle.radial_spec.specs.Description.{moment_bytes};
 ghost use Rattle.radial_head.specs.Told.{fetched_head, head_told, key_of};

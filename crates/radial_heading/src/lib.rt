@@ -1,4 +1,6 @@
 // The heading of a radial: what the header of an accepted body says, handed back by value.
+#![tactic(auto)]
+
 ghost use Rattle.std.specs.Prelude.{◌≡◌, ◌≤◌, length};
 ghost use Rattle.radial_spec.specs.Description.{header_size};
 ghost use Rattle.radial_spec.specs.Refusal.{count_in, description, radial_of};

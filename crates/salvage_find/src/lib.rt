@@ -1,4 +1,6 @@
 // Frames found in a damaged recording: the one that stands at a place, and the next place at which one does.
+#![tactic(auto)]
+
 ghost use Rattle.std.specs.Prelude.{◌≡◌, false, ◌+◌, ◌≤◌, length};
 ghost use Rattle.salvage_spec.specs.Walk.{whole_at, next_kept};
 ghost use Rattle.salvage_find.specs.Steps.{block, beyond, Unmarked, NoneFrom, FoundFrom};

@@ -1,5 +1,7 @@
 // Joins a buffer of frames, in any order, into a lent output. The first pass walks the frames and notes where each segment's
 // data lies, the second copies. Nothing is written until 12 and 13 are checked.
+#![tactic(auto)]
+
 ghost use Rattle.std.specs.Prelude.{◌≡◌, ◌*◌, ◌≤◌, eqb, length};
 ghost use Rattle.wire.specs.Checks.{pick, some_broken};
 ghost use Rattle.wire.specs.Answers.{Promise};

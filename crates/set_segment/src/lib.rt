@@ -1,4 +1,6 @@
 // The segment at a place of a buffer: a data frame with a header that passes.
+#![tactic(auto)]
+
 ghost use Rattle.std.specs.Prelude.{◌≡◌};
 ghost use Rattle.set_spec.specs.Segment.{segment_at};
 ghost use Rattle.set_segment.specs.Told.{tell_segment};

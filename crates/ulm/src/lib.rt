@@ -1,5 +1,7 @@
 // The library as C sees it: each function takes lent memory and returns a struct by value, whose first field is 0
 // or the number of the refusal. include/ulm.h declares them. The crate that each calls says what it does.
+#![tactic(auto)]
+
 ghost use Rattle.std.specs.Prelude.{◌≡◌};
 ghost use Rattle.frame.specs.Session.{frame_at};
 ghost use Rattle.header.specs.Header.{header_of};

@@ -1,4 +1,6 @@
 // Cases: questions to the library, a line each, and its answers compared or written.
+#![tactic(auto)]
+
 mod args;
 mod cases;
 mod entries;

@@ -1,4 +1,6 @@
 // The program: does what the command line asks for and answers the exit status.
+#![tactic(auto)]
+
 use ulmarzhe_text::page::SHEET;
 use ulmarzhe_text::status::{NOT_DONE, WRONG_WORDS};
 use ulmarzhe_text::window::WINDOW;

@@ -1,4 +1,6 @@
 // A damaged recording salvaged: the command reads the words after it and answers how it ended. It is lent the program's window and sheet.
+#![tactic(auto)]
+
 mod clean;
 mod damaged;
 

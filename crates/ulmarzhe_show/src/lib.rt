@@ -1,5 +1,7 @@
 // Recordings and maps shown to people: a function for each command, which reads the words after the command and answers how it ended.
 // It is lent the program's window and sheet.
+#![tactic(auto)]
+
 mod date;
 mod gates;
 mod listing;

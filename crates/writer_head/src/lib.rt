@@ -1,4 +1,6 @@
 // What stands before a segment's data: the session's 12 bytes and the header's 16.
+#![tactic(auto)]
+
 ghost use Rattle.std.specs.Prelude.{◌≡◌, ◌^◌, ◌<◌};
 ghost use Rattle.header_rule.specs.Rules.{too_large};
 ghost use Rattle.writer_head.specs.Head.{heads};

@@ -5,18 +5,20 @@ use borrow.Author.Rules.{rules}
 use lib.ListN.{length-set}
 use Rattle.wire.specs.Numbers.{be}
 use Rattle.wire.proofs.SheetLaws.{laid_sets}
-use Rattle.wire.proofs.put32.Statement.{statement}
-use Rattle.wire.proofs.put32.Tie as tie
+use Rattle.wire.proofs.put32.Goals as goal
 
-returns : tie.Need-returns
+pub returns : goal.returns
 returns c =
     let e1 : c.args.at + 1 ≡ suc c.args.at = omega arith in
     let e2 : c.args.at + 2 ≡ suc (suc c.args.at) = omega arith in
     let e3 : c.args.at + 3 ≡ suc (suc (suc c.args.at)) = omega arith in
     rw (e1, e2, e3) (laid_sets (be 4 c.args.x) c.args.out.now c.args.at c.requires)
 
-pub put32-spec : {M : Type 1} → statement M
-put32-spec =
-    tie.close (tie.spec (λ c. search rules) (λ c. search rules) (λ c. search rules) (λ c. search rules)
-    (λ c. simp length-set (omega arith)) (λ c. search rules) (λ c. search rules) (λ c. simp length-set (omega arith))
-    (λ c. search rules) (λ c. search rules) (λ c. simp length-set (omega arith)) (λ c. search rules) returns)
+pub bounds-out-at-2 : goal.bounds-out-at-2
+bounds-out-at-2 c = simp length-set (omega arith)
+
+pub bounds-out-at-3 : goal.bounds-out-at-3
+bounds-out-at-3 c = simp length-set (omega arith)
+
+pub bounds-out-at-4 : goal.bounds-out-at-4
+bounds-out-at-4 c = simp length-set (omega arith)

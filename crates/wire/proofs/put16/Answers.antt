@@ -5,15 +5,12 @@ use borrow.Author.Rules.{rules}
 use lib.ListN.{length-set}
 use Rattle.wire.specs.Numbers.{be}
 use Rattle.wire.proofs.SheetLaws.{laid_sets}
-use Rattle.wire.proofs.put16.Statement.{statement}
-use Rattle.wire.proofs.put16.Tie as tie
+use Rattle.wire.proofs.put16.Goals as goal
 
-returns : tie.Need-returns
+pub returns : goal.returns
 returns c =
     let e1 : c.args.at + 1 ≡ suc c.args.at = omega arith in
     rw (e1) (laid_sets (be 2 c.args.x) c.args.out.now c.args.at c.requires)
 
-pub put16-spec : {M : Type 1} → statement M
-put16-spec =
-    tie.close (tie.spec (λ c. search rules) (λ c. search rules) (λ c. search rules) (λ c. search rules)
-    (λ c. simp length-set (omega arith)) (λ c. search rules) returns)
+pub bounds-out-at-2 : goal.bounds-out-at-2
+bounds-out-at-2 c = simp length-set (omega arith)

@@ -1,0 +1,11 @@
+use Prim.Native.Nat.{◌+◌}
+use native.Mathlib.Omega.{arith}
+use Rattle.wire.proofs.NumberLaws.{num-one, num_beside}
+use borrow.Author.Rules.{rules}
+use Rattle.wire.proofs.whole16.Goals as goal
+
+pub returns : goal.returns
+returns c =
+    let args = c.args in
+    let b = args.b.now in
+    omega (arith, num_beside 1 1 b args.at, num-one b args.at, num-one b (args.at + 1))
