@@ -9,7 +9,7 @@ ghost use Rattle.c_censor.specs.Face.{censor_face};
 use c_lent::UlmWritten;
 
 #[repr(C)]
-#[derive(Drop)]
+#[derive(Clone, Copy)]
 pub struct UlmCensor {
     pub refusal: u32,
     pub count: u32,

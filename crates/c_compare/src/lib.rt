@@ -9,7 +9,7 @@ ghost use Rattle.c_compare.specs.Face.{comparison_face};
 use compare::CompareAnswer;
 
 #[repr(C)]
-#[derive(Drop)]
+#[derive(Clone, Copy)]
 pub struct UlmComparison {
     pub refusal: u32,
     pub old_elevations: u32,

@@ -11,7 +11,7 @@ use frame::FrameAnswer;
 use header::{Header, HeaderAnswer};
 
 #[repr(C)]
-#[derive(Drop)]
+#[derive(Clone, Copy)]
 pub struct UlmFrame {
     pub refusal: u32,
     pub found: u32,
@@ -23,7 +23,7 @@ pub struct UlmFrame {
 }
 
 #[repr(C)]
-#[derive(Drop)]
+#[derive(Clone, Copy)]
 pub struct UlmHeader {
     pub refusal: u32,
     pub size: u32,

@@ -15,7 +15,7 @@ use radial::MomentAnswer;
 use radial_head::{MOMENT_HEAD, MomentHead};
 
 #[repr(C)]
-#[derive(Drop)]
+#[derive(Clone, Copy)]
 pub struct UlmGates {
     pub refusal: u32,
     pub gates: u32,
@@ -29,7 +29,7 @@ pub struct UlmGates {
 }
 
 #[repr(C)]
-#[derive(Drop)]
+#[derive(Clone, Copy)]
 pub struct UlmGate {
     pub refusal: u32,
     pub kind: u32,

@@ -8,7 +8,7 @@ ghost use Rattle.c_lent.specs.Face.{written_face};
 use wire::WriteAnswer;
 
 #[repr(C)]
-#[derive(Drop)]
+#[derive(Clone, Copy)]
 pub struct UlmWritten {
     pub refusal: u32,
     pub length: u64,

@@ -8,7 +8,7 @@ ghost use Rattle.c_map.specs.Face.{map_face, map_code_face};
 use map::{CodeAnswer, MapAnswer};
 
 #[repr(C)]
-#[derive(Drop)]
+#[derive(Clone, Copy)]
 pub struct UlmMap {
     pub refusal: u32,
     pub date: u32,
@@ -17,7 +17,7 @@ pub struct UlmMap {
 }
 
 #[repr(C)]
-#[derive(Drop)]
+#[derive(Clone, Copy)]
 pub struct UlmMapCode {
     pub refusal: u32,
     pub code: u32,

@@ -11,7 +11,7 @@ use radial::{BlockAnswer, Lying};
 use radial_head::MomentHead;
 
 #[repr(C)]
-#[derive(Drop)]
+#[derive(Clone, Copy)]
 pub struct UlmRadial {
     pub refusal: u32,
     pub station: u32,
@@ -31,7 +31,7 @@ pub struct UlmRadial {
 }
 
 #[repr(C)]
-#[derive(Drop)]
+#[derive(Clone, Copy)]
 pub struct UlmBlock {
     pub refusal: u32,
     pub found: u32,

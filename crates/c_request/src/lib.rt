@@ -10,7 +10,7 @@ use c_lent::UlmWritten;
 use request::RequestAnswer;
 
 #[repr(C)]
-#[derive(Drop)]
+#[derive(Clone, Copy)]
 pub struct UlmRequest {
     pub refusal: u32,
     pub code: u32,

@@ -9,7 +9,7 @@ ghost use Rattle.c_salvage.specs.Face.{salvage_face};
 use salvage::SalvageAnswer;
 
 #[repr(C)]
-#[derive(Drop)]
+#[derive(Clone, Copy)]
 pub struct UlmSalvage {
     pub refusal: u32,
     pub kept: u64,

@@ -10,7 +10,7 @@ use c_frame::UlmHeader;
 use set::SetAnswer;
 
 #[repr(C)]
-#[derive(Drop)]
+#[derive(Clone, Copy)]
 pub struct UlmSet {
     pub refusal: u32,
     pub size: u32,

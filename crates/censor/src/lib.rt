@@ -39,7 +39,7 @@ const MOST_SEGMENT: u16 = 5;
 const MOST_CODE: u16 = 2;
 
 // The refusal, or 0; the count of regions; and six halfwords for each region as stored, then 0.
-#[derive(Drop)]
+#[derive(Clone, Copy)]
 pub struct Censor {
     pub number: u8,
     pub count: u16,

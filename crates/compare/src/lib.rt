@@ -29,14 +29,14 @@ const MOST_RUNS: usize = 2 * MOST_ZONES - 1;
 pub const MOST: usize = DIFFERENCE_SIZE * (MOST_ELEVATIONS * (AZIMUTHS * MOST_RUNS));
 
 // The elevation segments of the old and of the new map and the number of differences, or the number of refusal.
-#[derive(Drop)]
+#[derive(Clone, Copy)]
 pub enum CompareAnswer {
     Compared(u16, u16, u32),
     Refused(u8),
 }
 
 // Azimuths in a row: how many, and how many bytes they take.
-#[derive(Drop)]
+#[derive(Clone, Copy)]
 struct Run {
     azimuths: usize,
     bytes: usize,

@@ -9,7 +9,7 @@ ghost use Rattle.frame.specs.Told.{tell_frame};
 use wire::{Bytes, refusal};
 
 // A frame as it stands in the buffer: its body begins at `start`, the next frame at `next`.
-#[derive(Drop)]
+#[derive(Clone, Copy)]
 pub struct Frame {
     pub kind: u32,
     pub second: u32,
@@ -18,7 +18,7 @@ pub struct Frame {
     pub next: usize,
 }
 
-#[derive(Drop)]
+#[derive(Clone, Copy)]
 pub enum FrameAnswer {
     End,
     Read(Frame),

@@ -11,7 +11,7 @@ ghost use Rattle.gate_value.specs.Told.{tell_gate};
 use radial::{CodeAnswer, Name};
 use wire::{INFINITE, SIGN, refusal};
 
-#[derive(Drop)]
+#[derive(Clone, Copy)]
 pub enum GateAnswer {
     Value(f32),
     BelowThreshold,

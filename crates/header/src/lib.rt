@@ -12,7 +12,7 @@ ghost use Rattle.header.specs.Told.{tell_header};
 use wire::{Halfwords, refusal};
 
 // The values reported of a checked header. `kind` is the type of Table I: `type` is a keyword.
-#[derive(Drop)]
+#[derive(Clone, Copy)]
 pub struct Header {
     pub size: Halfwords,
     pub channel: u8,
@@ -26,7 +26,7 @@ pub struct Header {
 
 // The values at the start of a message as stored: not yet checked. Where N is 1 the segment number has no meaning; in the long form
 // `segments` and `number` are the two halves of the length.
-#[derive(Drop)]
+#[derive(Clone, Copy)]
 pub struct Stored {
     size: Halfwords,
     channel: u8,
@@ -38,7 +38,7 @@ pub struct Stored {
     number: u16,
 }
 
-#[derive(Drop)]
+#[derive(Clone, Copy)]
 pub enum HeaderAnswer {
     Read(Header),
     Refused(u8),

@@ -52,12 +52,12 @@ module _ (b : List ℕ) (l : Long b) where
   abbrev times : List Check
   times = time_checks s.date s.milliseconds
 
-  is_long : is_long s ≡ true
+  is_long_lem : is_long s ≡ true
   unfolding stored_in
-  is_long = rw (eq-eqb (num 2 b 0) long_mark.0 l.mark, eq-eqb (num 1 b 3) radial_type l.radial)
+  is_long_lem = rw (eq-eqb (num 2 b 0) long_mark.0 l.mark, eq-eqb (num 1 b 3) radial_type l.radial)
 
   pub counts_once : count_of s ≡ 1
-  counts_once = rw is_long
+  counts_once = rw is_long_lem
 
   kind_is : s.kind ≡ radial_type
   unfolding stored_in
@@ -67,7 +67,7 @@ module _ (b : List ℕ) (l : Long b) where
   decides : header_of b ≡ pick (some_broken lengths) (refused 5) (pick (some_broken times) (refused 8) (given (header_in b)))
   decides =
       let forms : some_broken (form_checks_of s (length b)) ≡ some_broken lengths =
-      ap (λ (ks : List Check). some_broken ks) (form_long s.size s.kind s.segments s.number (length b) is_long)
+      ap (λ (ks : List Check). some_broken ks) (form_long s.size s.kind s.segments s.number (length b) is_long_lem)
       in
       let alone : some_broken (segment_checks (size_of s) s.kind (count_of s) (reported_number (count_of s) s.number)) ≡ false =
       radial_alone (size_of s) s.kind (count_of s) s.number kind_is ∙ rw counts_once
@@ -117,7 +117,7 @@ module _ (b : List ℕ) (l : Long b) where
   counts : LengthHolds b → CountsAsOne b (header_in b)
   unfolding header_in
   counts h =
-      let shape = long_shape s is_long in
+      let shape = long_shape s is_long_lem in
       let size : (header_in b).size.0 ≡ z.0 / 2 = ap (λ (x : Header). x.size.0) shape in
       record {
         size = omega (arith, size, length_told, h.told, h.even);

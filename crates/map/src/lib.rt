@@ -24,21 +24,21 @@ pub const AZIMUTHS: usize = 360;
 pub const HEAD_SIZE: usize = 3 * FIELD_SIZE;
 
 // A checked map's date, minutes and number of elevation segments, or the number of refusal.
-#[derive(Drop)]
+#[derive(Clone, Copy)]
 pub enum MapAnswer {
     Map(u16, u16, u16),
     Refused(u8),
 }
 
 // The code at the elevation segment, azimuth and kilometre asked for, or the number of refusal.
-#[derive(Drop)]
+#[derive(Clone, Copy)]
 pub enum CodeAnswer {
     Code(u16),
     Refused(u8),
 }
 
 // The azimuths checked, and where the one asked for begins.
-#[derive(Drop)]
+#[derive(Clone, Copy)]
 struct Found {
     step: Step,
     place: usize,

@@ -25,7 +25,7 @@ pub const ZONE_SIZE: usize = 2 * FIELD_SIZE;
 const NO_END: usize = LAST_KILOMETRE + 2;
 
 // A part of the map that was checked: the bytes that it takes, or the number of refusal.
-#[derive(Drop)]
+#[derive(Clone, Copy)]
 pub enum Step {
     Next(usize),
     Stop(u8),

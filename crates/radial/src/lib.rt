@@ -24,14 +24,14 @@ use wire::refusal;
 pub const ROOM: usize = (MOST_BLOCKS - CONSTANTS) as usize;
 
 // Where a constant block lies in the body.
-#[derive(Drop)]
+#[derive(Clone, Copy)]
 pub struct Span {
     pub place: u32,
     pub length: u16,
 }
 
 // What a body says: `refusal` is 0, or the number of the refusal and all else 0.
-#[derive(Drop)]
+#[derive(Clone, Copy)]
 pub struct Radial {
     pub refusal: u8,
     pub count: u16,
@@ -46,33 +46,33 @@ pub struct Radial {
 pub type Name = [u8; 4];
 
 // Where the moment asked for begins.
-#[derive(Drop)]
+#[derive(Clone, Copy)]
 enum PlaceAnswer {
     At(u32),
     Refused(u8),
 }
 
-#[derive(Drop)]
+#[derive(Clone, Copy)]
 pub enum MomentAnswer {
     Moment(MomentHead),
     Refused(u8),
 }
 
 // A gate's code, with the head of its moment, which holds scale and offset.
-#[derive(Drop)]
+#[derive(Clone, Copy)]
 pub struct Coded {
     pub code: u16,
     pub head: MomentHead,
 }
 
-#[derive(Drop)]
+#[derive(Clone, Copy)]
 pub enum CodeAnswer {
     Code(Coded),
     Refused(u8),
 }
 
 // A block's name, place and length.
-#[derive(Drop)]
+#[derive(Clone, Copy)]
 pub struct Lying {
     pub name: u32,
     pub place: u32,
@@ -80,7 +80,7 @@ pub struct Lying {
 }
 
 // A block that does not exist is not a refusal, since no number covers it.
-#[derive(Drop)]
+#[derive(Clone, Copy)]
 pub enum BlockAnswer {
     Constant(Lying),
     Moment(Lying, MomentHead),

@@ -70,21 +70,21 @@ const NAMES: usize = 6;
 const PERMITTED: [[u8; 4]; NAMES] = [*b"DREF", *b"DVEL", *b"DSW ", *b"DZDR", *b"DPHI", *b"DRHO"];
 
 // The radial length and the block count.
-#[derive(Drop)]
+#[derive(Clone, Copy)]
 enum Start {
     Checked(usize, u16),
     Refused(u8),
 }
 
 // Where a constant block ends.
-#[derive(Drop)]
+#[derive(Clone, Copy)]
 enum Found {
     Ends(usize),
     Refused(u8),
 }
 
 // The bit of a moment's name, and where the moment ends.
-#[derive(Drop)]
+#[derive(Clone, Copy)]
 enum Got {
     Moment(u32, usize),
     Refused(u8),

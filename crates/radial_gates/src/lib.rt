@@ -11,7 +11,7 @@ use radial::{MomentAnswer, Name};
 use radial_head::MOMENT_HEAD;
 
 // A refusal's number or 0, the gate count, and where the gates lie.
-#[derive(Drop)]
+#[derive(Clone, Copy)]
 struct Located {
     number: u8,
     gates: u16,

@@ -9,7 +9,7 @@ ghost use Rattle.radial_heading.specs.Told.{header_of, no_header, heading_shown}
 use radial_check::{COUNT_PLACE, HEADER_SIZE, SIZE_PLACE};
 
 // The header's values, as stored. Angles are given as their 32 bits.
-#[derive(Drop)]
+#[derive(Clone, Copy)]
 pub struct Header {
     pub station: u32,
     pub time: u32,
@@ -27,7 +27,7 @@ pub struct Header {
 }
 
 // The header of an accepted radial and its block count. `refusal` is 0, or the number of the refusal and all else is 0.
-#[derive(Drop)]
+#[derive(Clone, Copy)]
 pub struct Heading {
     pub refusal: u8,
     pub count: u16,

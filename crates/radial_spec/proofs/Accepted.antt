@@ -26,9 +26,9 @@ use Rattle.radial_spec.specs.Refusal.{moments_checks, constant_checks, end_at}
 use Rattle.radial_spec.specs.Refusal.{radial_checks, radial_of}
 use Rattle.radial_spec.specs.Theorems.{Exactly, Unique}
 use Rattle.radial_spec.proofs.Pieces.{AllSpell, AllWithin, all_spell, all_stand, all_fit}
-use Rattle.radial_spec.proofs.Blocks.{block_reads, block_holds, block_size_lem, block_lies, block_spelt, block_end, block_is}
+use Rattle.radial_spec.proofs.Blocks.{block_reads, block_holds, block_size_lem, block_lies, block_spelt, block_end_lem, block_is}
 use Rattle.radial_spec.proofs.Blocks.{block_read, moment_reads, moment_holds, moment_size_lem, moment_lies, moment_spelt, moment_name}
-use Rattle.radial_spec.proofs.Blocks.{moment_end, moment_is, moment-read}
+use Rattle.radial_spec.proofs.Blocks.{moment_end_lem, moment_is, moment-read}
 
 -- ---- read: the moments
 pub moments_length : (b : List ℕ) (q n : ℕ) → length (moments_at b q n) ≡ n
@@ -152,7 +152,7 @@ moments_hold : (b : List ℕ) (z from q : ℕ) (seen : List ℕ) (ms : List Mome
     → AllSpell b (moment_pieces ms) → AllHold (moments_checks z b from q seen (length ms))
 moments_hold b z from q seen [] lie p s = tt
 moments_hold b z from q seen (m ∷ ms) lie p s =
-    let end : pointer b q + moment_says (part b q) ≡ moment_end m = rw p.0 (moment_end b m s.0) in
+    let end : pointer b q + moment_says (part b q) ≡ moment_end m = rw p.0 (moment_end_lem b m s.0) in
     let name : name_in (part b q) ≡ m.name = rw p.0 (moment_name b m s.0) in
     let later = moments_hold b z (moment_end m) (q + 4) (seen ++ (m.name ∷ [])) ms lie.1 p.1 s.1 in
     moment_holds q z from (pointer b q) (part b q) seen
@@ -165,7 +165,7 @@ module _ (b : List ℕ) (q name : ℕ) (k : Block) (e : pointer b q ≡ k.place)
   constant_is = rw e (block_is b name k s)
 
   constant-end : end_at b q ≡ block_end k
-  constant-end = rw e (block_end b name k s)
+  constant-end = rw e (block_end_lem b name k s)
 
   constant_holds : (from least : ℕ) (rest : List Check) → BlockLies from least (size_in b) k → AllHold rest
       → AllHold (constant_checks b from q name least rest)

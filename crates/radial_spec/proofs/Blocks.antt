@@ -87,8 +87,8 @@ module _ (b : List ℕ) (name : ℕ) (k : Block) (s : Spells b k.place (block_fi
   block_says_lem : block_says (drop k.place b) ≡ block_size k
   block_says_lem = (part_spells (block_fields name k) b k.place s).1.0
 
-  pub block_end : k.place + block_says (drop k.place b) ≡ block_end k
-  block_end = ap (λ (n : ℕ). k.place + n) block_says_lem
+  pub block_end_lem : k.place + block_says (drop k.place b) ≡ block_end k
+  block_end_lem = ap (λ (n : ℕ). k.place + n) block_says_lem
 
   pub block_is : block_at k.place (drop k.place b) ≡ k
   block_is =
@@ -202,8 +202,8 @@ module _ (b : List ℕ) (m : Moment) (s : Spells b m.place (moment_fields m)) wh
   moment_says_lem : moment_says (drop m.place b) ≡ moment_size m
   moment_says_lem = cc (moment_part.1.1.0, moment_word)
 
-  pub moment_end : m.place + moment_says (drop m.place b) ≡ moment_end m
-  moment_end = ap (λ (n : ℕ). m.place + n) moment_says_lem
+  pub moment_end_lem : m.place + moment_says (drop m.place b) ≡ moment_end m
+  moment_end_lem = ap (λ (n : ℕ). m.place + n) moment_says_lem
 
   pub moment_is : moment_at m.place (drop m.place b) ≡ m
   moment_is =

@@ -15,7 +15,7 @@ const SIZE: usize = 2;
 
 const WRITTEN: u32 = SIZE as u32;
 
-#[derive(Drop)]
+#[derive(Clone, Copy)]
 pub enum RequestAnswer {
     Code(u16),
     Refused(u8),

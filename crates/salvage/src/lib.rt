@@ -17,20 +17,20 @@ use wire::refusal;
 const LEAST: usize = HEAD + HEADER;
 
 // The frames kept, the bytes written and the runs listed, or the number of refusal.
-#[derive(Drop)]
+#[derive(Clone, Copy)]
 pub enum SalvageAnswer {
     Salvaged(usize, usize, usize),
     Refused(u8),
 }
 
 // Frames in a row: where the last one ends, and how many there are.
-#[derive(Drop)]
+#[derive(Clone, Copy)]
 struct Stretch {
     next: usize,
     frames: usize,
 }
 
-#[derive(Drop)]
+#[derive(Clone, Copy)]
 struct Totals {
     kept: usize,
     long: usize,

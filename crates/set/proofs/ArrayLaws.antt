@@ -56,12 +56,12 @@ module _ (s starts ends : List ℕ) where
       → length (take (get_or ends k 0 - get_or starts k 0) (drop (get_or starts k 0) s)) ≡ get_or ends k 0 - get_or starts k 0
   part-long k a b = length-take-le (get_or ends k 0 - get_or starts k 0) (drop (get_or starts k 0) s) (rw length-drop (omega arith))
 
-  pub parts_long : Parts starts ends → Within s ends → (n : ℕ) → n ≤ most_segments → length (parts s starts ends n) ≡ parts_long starts ends n
+  pub parts_long_lem : Parts starts ends → Within s ends → (n : ℕ) → n ≤ most_segments → length (parts s starts ends n) ≡ parts_long starts ends n
   unfolding parts parts_long
-  parts_long p w zero l = refl
-  parts_long p w (suc n) l =
+  parts_long_lem p w zero l = refl
+  parts_long_lem p w (suc n) l =
       length-append (parts s starts ends n) (take (get_or ends n 0 - get_or starts n 0) (drop (get_or starts n 0) s))
-      ∙ rw (parts_long p w n (omega arith), part-long n (p n (omega arith)).0 (w n (omega arith)))
+      ∙ rw (parts_long_lem p w n (omega arith), part-long n (p n (omega arith)).0 (w n (omega arith)))
 
 -- ---- the parts joined in an output: it holds the first k of them and then what it held before
 pub record Joining (s starts ends : List ℕ) (n : ℕ) (out₀ out : List ℕ) (place k : ℕ) : Type 0 where
@@ -79,7 +79,7 @@ pub record NextFits (s starts ends out : List ℕ) (place k : ℕ) : Type 0 wher
 module _ {s starts ends : List ℕ} {n : ℕ} {out₀ : List ℕ} (j : Joinable s starts ends n out₀) {out : List ℕ} {place k : ℕ}
     (g : Joining s starts ends n out₀ out place k) where
   filled-long : length (parts s starts ends k) ≡ place
-  filled-long = parts_long s starts ends j.lie j.within k (omega arith) ∙ sym g.filled
+  filled-long = parts_long_lem s starts ends j.lie j.within k (omega arith) ∙ sym g.filled
 
   -- one part more
   module _ (low : k < n) where
@@ -120,7 +120,7 @@ module _ {s starts ends : List ℕ} {n : ℕ} {out₀ : List ℕ} (j : Joinable 
         let written : take place out ++ (ys ++ drop (place + more - place) (drop place out))
         ≡ parts s starts ends (k + 1) ++ drop (place + more) out₀ =
         rw (a, b, copied-part ys e, back, parts_more s starts ends k, append_assoc, drop-drop) in
-        let l = parts_long s starts ends j.lie j.within (k + 1) (omega arith) in
+        let l = parts_long_lem s starts ends j.lie j.within (k + 1) (omega arith) in
         let d = length-drop (place + more) out₀ in
         record {
           up_to = omega arith;

@@ -22,7 +22,7 @@ use Rattle.set.specs.declared.Gathered.TheVariants.{Ended, Refused as Broken}
 use Rattle.set.specs.declared.SetAnswer.TheVariants.{Set, Refused}
 use Rattle.set.specs.Told.{tell_set}
 use Rattle.set.specs.Steps.{Tells, Met, GatheredBy, Gathers, Parts, Within, all_set, parts_long, parts, Joinable}
-use Rattle.set.proofs.ArrayLaws.{parts_long}
+use Rattle.set.proofs.ArrayLaws.{parts_long_lem}
 
 -- ---- what the first pass left, by its answer
 module _ {s : List ℕ} {flags : List Bool} {starts ends : List ℕ} {r : Gathered} (g : Gathers s flags starts ends r) where
@@ -79,7 +79,7 @@ module _ {s : List ℕ} {heads : Heads} {flags : List Bool} {starts ends : List 
   is_body = parts_is m.tells n most ∙ ap (λ (i : ℕ). joined gs i) (sym m.tells.count)
 
   is_long : parts_long starts ends n ≡ length (body_of gs)
-  is_long = sym (parts_long s starts ends parts_lie parts_within n most) ∙ ap length is_body
+  is_long = sym (parts_long_lem s starts ends parts_lie parts_within n most) ∙ ap length is_body
 
   module _ (out : List ℕ) where
     ended : set_of s out ≡ outcome (end_checks gs (length out)) out (says gs) (filled (body_of gs) out)

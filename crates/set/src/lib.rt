@@ -18,7 +18,7 @@ use set_segment::SegmentAnswer;
 use wire::{Bytes, refusal};
 
 // Segment 1's header, and the length of the joined data.
-#[derive(Drop)]
+#[derive(Clone, Copy)]
 pub enum SetAnswer {
     Set(Header, Bytes),
     Refused(u8),
@@ -27,19 +27,19 @@ pub enum SetAnswer {
 const MOST_SEGMENTS: usize = header_rule::MOST_SEGMENTS as usize;
 
 // The header of the set's first frame, and that of segment 1.
-#[derive(Drop)]
+#[derive(Clone, Copy)]
 struct Heads {
     first: Header,
     one: Header,
 }
 
-#[derive(Drop)]
+#[derive(Clone, Copy)]
 enum Turn {
     Next(Heads, usize),
     Refused(u8),
 }
 
-#[derive(Drop)]
+#[derive(Clone, Copy)]
 enum Gathered {
     Ended(Heads),
     Refused(u8),

@@ -10,7 +10,7 @@ use header::{HEADER, Header, HeaderAnswer};
 use wire::refusal;
 
 // A segment in the buffer: its header, where its data begins, and where its frame ends.
-#[derive(Drop)]
+#[derive(Clone, Copy)]
 pub enum SegmentAnswer {
     Read(Header, usize, usize),
     Refused(u8),

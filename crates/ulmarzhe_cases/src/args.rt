@@ -5,7 +5,7 @@ use ulmarzhe_text::words;
 const NUMBERS: usize = 6;
 
 // Where the digits of a word stand, or the bytes that they were turned into.
-#[derive(Drop)]
+#[derive(Clone, Copy)]
 pub struct Span {
     pub from: usize,
     pub to: usize,
@@ -13,7 +13,7 @@ pub struct Span {
 
 // A line's question. `title`: where the line's name ends; `answer`: where its expected answer begins; `asks`: it has none; `good`: it is
 // well formed; `at`: where the next word begins; `digits`: the digits of the last word that has some; `before`: those of the word before.
-#[derive(Drop)]
+#[derive(Clone, Copy)]
 pub struct Args {
     pub entry: usize,
     pub title: usize,

@@ -5,7 +5,7 @@ use ulmarzhe_text::{window, words};
 
 // A line that is `found` begins where the reading looks and ends at `end`. `skips`: it is too long for the window, and its rest is
 // skipped. `done`: no line is left.
-#[derive(Drop)]
+#[derive(Clone, Copy)]
 pub struct Line {
     pub reading: Reading,
     pub end: usize,

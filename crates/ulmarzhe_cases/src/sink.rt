@@ -6,7 +6,7 @@ use ulmarzhe_text::part::{part, sum};
 use ulmarzhe_text::{output, page, words};
 
 // `asks`: the text is written to `out`. Otherwise `same`: the text so far equals the expected text; `done`: how much was compared.
-#[derive(Drop)]
+#[derive(Clone, Copy)]
 pub struct Sink {
     pub asks: bool,
     pub same: bool,

@@ -1,6 +1,6 @@
 // An answer in numbers: `which` text of a list it has, the numbers in that text, and how many bytes of the output and blocks of a radial
 // or runs of a damaged recording follow.
-#[derive(Drop)]
+#[derive(Clone, Copy)]
 pub struct Told {
     pub which: usize,
     pub values: [u64; 14],

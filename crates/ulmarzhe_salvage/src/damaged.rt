@@ -17,7 +17,7 @@ const STEP: u64 = 16 * MEBIBYTE;
 // A salvage so far. `out`: its account; `file`: where frames are written; `end`: where the last kept frame ends; `frames` and `bytes`: how
 // many are kept. `undecided`: the next window is needed to decide about the rest. `next`: the place at which progress is shown next;
 // `length`: the recording's.
-#[derive(Drop)]
+#[derive(Clone, Copy)]
 pub struct Salvage {
     pub reading: Reading,
     pub out: Output,
@@ -31,7 +31,7 @@ pub struct Salvage {
 }
 
 // Frames that follow one another, and where the last one ends.
-#[derive(Drop)]
+#[derive(Clone, Copy)]
 struct Frames {
     count: u64,
     end: usize,

@@ -1,7 +1,7 @@
 // A date, in days of which the first is 1 January 1970, and a time of day, as people write them.
 ghost use Rattle.std.specs.Prelude.{◌≤◌};
 
-#[derive(Drop)]
+#[derive(Clone, Copy)]
 pub struct Stamp {
     pub year: u64,
     pub month: u64,

@@ -17,7 +17,7 @@ const ELEVATIONS: usize = 5;
 
 const CELLS: usize = (ELEVATIONS + 1) * (PAIRS + 1);
 
-#[derive(Drop)]
+#[derive(Clone, Copy)]
 struct Difference {
     elevation: u16,
     azimuth: u16,

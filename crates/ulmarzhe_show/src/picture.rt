@@ -9,7 +9,7 @@ use ulmarzhe_text::{output, page};
 use wire::refusal;
 
 // How many rows a picture has, how many gates its longest row has, and whether a code takes two bytes.
-#[derive(Drop)]
+#[derive(Clone, Copy)]
 pub struct Picture {
     pub rows: u64,
     pub most: u16,
@@ -25,7 +25,7 @@ pub fn empty() -> Picture {
 }
 
 // The moment of a radial, where it has one. `refused`: the message or the radial is refused.
-#[derive(Drop)]
+#[derive(Clone, Copy)]
 struct Shown {
     there: bool,
     refused: bool,

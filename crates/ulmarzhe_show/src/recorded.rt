@@ -21,7 +21,7 @@ pub const SURVEY: u8 = 2;
 pub const ROWS: u8 = 3;
 
 // What a frame carries.
-#[derive(Drop)]
+#[derive(Clone, Copy)]
 pub enum Carried {
     Radial,
     Other,
@@ -29,7 +29,7 @@ pub enum Carried {
 }
 
 // A walk through a recording: what is written of it, whether the walk is done, and what a picture of it is like.
-#[derive(Drop)]
+#[derive(Clone, Copy)]
 pub struct Walk {
     pub reading: Reading,
     pub out: Output,
@@ -38,7 +38,7 @@ pub struct Walk {
 }
 
 // What the frame reader answers at the place that is looked at.
-#[derive(Drop)]
+#[derive(Clone, Copy)]
 pub struct Found {
     pub reading: Reading,
     pub answer: FrameAnswer,

@@ -4,7 +4,7 @@ use crate::status::{DONE, NO, NOT_DONE};
 use crate::{page, status};
 
 // How far the page is filled, and how the command has ended so far.
-#[derive(Drop)]
+#[derive(Clone, Copy)]
 pub struct Output {
     pub at: usize,
     pub status: u8,

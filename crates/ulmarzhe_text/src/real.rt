@@ -7,7 +7,7 @@ use wire::{INFINITE, SIGN};
 const LIMB: u64 = 1000000000000000000;
 
 // The parts of a finite float without its sign: whole units in three limbs, the highest first, and the decimals as one number.
-#[derive(Drop)]
+#[derive(Clone, Copy)]
 struct Parts {
     high: u64,
     middle: u64,
@@ -16,7 +16,7 @@ struct Parts {
 }
 
 // `which` text of the list in `show` a float has, and the numbers in it.
-#[derive(Drop)]
+#[derive(Clone, Copy)]
 struct Text {
     which: usize,
     values: [u64; 5],
@@ -38,7 +38,7 @@ pub fn show(sheet: &mut [u8; SHEET], at: usize, bits: u32) -> usize {
 
 // A float with two decimals, in numbers. `plain`: at most eighteen digits stand before the decimals; `sign`: the byte of a minus or of a
 // space.
-#[derive(Drop)]
+#[derive(Clone, Copy)]
 pub struct Angle {
     pub plain: bool,
     pub sign: u64,

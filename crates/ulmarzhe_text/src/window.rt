@@ -9,7 +9,7 @@ const AT_ONCE: usize = 262144;
 
 // What is looked at begins at `from` in the window. The window is filled up to `fill`, and its first byte is the file's byte at `base`.
 // `ended`: nothing is left to read; `failed`: it could not be read.
-#[derive(Drop)]
+#[derive(Clone, Copy)]
 pub struct Reading {
     pub fd: i32,
     pub base: u64,

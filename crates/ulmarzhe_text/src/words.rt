@@ -8,7 +8,7 @@ use crate::window::WINDOW;
 pub const MANY: usize = 64;
 
 // What a word says as a number, where it is one.
-#[derive(Drop)]
+#[derive(Clone, Copy)]
 pub struct Number {
     pub good: bool,
     pub value: u64,

@@ -11,10 +11,10 @@ ghost use Rattle.wire.specs.Sheets.{laid};
 pub mod refusal;
 
 // A count of bytes and a count of halfwords are different types. Only `to_halfwords` converts between them.
-#[derive(Drop)]
+#[derive(Clone, Copy)]
 pub struct Bytes(pub u32);
 
-#[derive(Drop)]
+#[derive(Clone, Copy)]
 pub struct Halfwords(pub u32);
 
 // The most bytes of a message, which are also the most of a session's body.
@@ -27,7 +27,7 @@ pub fn to_halfwords(size: Bytes) -> Halfwords
 }
 
 // What a writer answers: the length of what it wrote, or the refusal.
-#[derive(Drop)]
+#[derive(Clone, Copy)]
 pub enum WriteAnswer {
     Written(Bytes),
     Refused(u8),

@@ -10,7 +10,7 @@ use header_rule::{LONG_MARK, MOST_SIZE};
 use wire::{Bytes, Halfwords};
 
 // The values that every segment repeats. `kind` is the type of Table I: `type` is a keyword.
-#[derive(Drop)]
+#[derive(Clone, Copy)]
 pub struct Given {
     pub channel: u8,
     pub kind: u8,
