@@ -9,7 +9,7 @@ use lib.Dec.{eqb}
 use lib.ListN.{length, get_or, drop}
 use Rattle.wire.specs.Numbers.{num, Octets}
 use Rattle.wire.specs.Checks.{pick}
-use Rattle.wire.specs.Tables.{field, render, Spells}
+use Rattle.wire.specs.Tables.{field, render, total, Spells}
 use Rattle.wire.specs.Answers.{given}
 use Rattle.wire.proofs.CheckLaws.{never}
 use Rattle.wire.proofs.ListLaws.{same_bytes}
@@ -18,7 +18,7 @@ use Rattle.wire.proofs.AnswerLaws.{rule_given}
 use Rattle.wire.proofs.NumberLaws.{nums-length, nums_at}
 use Rattle.radial_spec.specs.Description.{header_size, constants, RVOL, RELV, RRAD, moment_head, most_gates, word_sizes, Member, Piece}
 use Rattle.radial_spec.specs.Description.{Moment, Description, block_count, gates}
-use Rattle.radial_spec.specs.Description.{word_bytes, gate_bytes, moment_size, moment_pieces, pieces, InPieces, Named, AllStand}
+use Rattle.radial_spec.specs.Description.{word_bytes, gate_bytes, moment_fields, moment_size, moment_pieces, pieces, InPieces, Named, AllStand}
 use Rattle.radial_spec.specs.Description.{Layout, MomentsLie, block_end, moment_end, first_pointer, moment_pointer}
 use Rattle.radial_spec.specs.Refusal.{size_in, pointer, part, moment_at, moments_at, count_in, description, radial_checks, radial_of}
 use Rattle.radial_spec.specs.Refusal.{head_in}
@@ -139,7 +139,10 @@ found_named name (x ∷ ms) m e i lo hi = go (eqb x.name name) e (λ k. found_na
   where
     go : (t : Bool) → pick t (given x) (moment_named name ms) ≡ given m → (moment_named name ms ≡ given m → InPieces (moment_pieces ms) i)
         → InPieces (moment_pieces (x ∷ ms)) i
-    go true k later = let q : x ≡ m = cc k in inl (rw q (lo, omega (arith, moment-total m)))
+    go true k later =
+        let q : x ≡ m = cc k in
+        let within : i < m.place + total (moment_fields m) = omega (arith, moment-total m) in
+        inl (subst (λ (y : Moment). (y.place ≤ i) × (i < y.place + total (moment_fields y))) (sym q) (lo, within))
     go false k later = inr (later k)
 
 -- a block that is found is one of the blocks

@@ -1,0 +1,25 @@
+use Prim.Native.Nat.{ℕ}
+use mathlib.Core.Path.{ap, ◌∙◌}
+use lib.Ieee.{binary32, of_bits}
+use borrow.Author.Rules.{rules}
+use Rattle.radial_head.proofs.head_of.Goals as goal
+
+pub returns : goal.returns
+returns c =
+    let key = c.key_of-key in
+    λ i. record {
+      name = (key.ensures i).name;
+      place = c.args.place;
+      reserved = c.fetch32.ensures i;
+      gates = (key.ensures i).gates;
+      first = c.fetch16.ensures i;
+      interval = c.fetch16-2.ensures i;
+      overlay = c.fetch16-3.ensures i;
+      noise = c.fetch16-4.ensures i;
+      flags = c.fetch8.ensures i;
+      word = (key.ensures i).word;
+      scale = (c.float_of.ensures ∙ ap (λ (n : ℕ). of_bits binary32 n) c.fetch32-scale.ensures) i;
+      offset = (c.float_of-2.ensures ∙ ap (λ (n : ℕ). of_bits binary32 n) c.fetch32-offset.ensures) i;
+      scale_bits = c.fetch32-scale.ensures i;
+      offset_bits = c.fetch32-offset.ensures i;
+    }
