@@ -1,9 +1,0 @@
-use Rattle.wire.proofs.TestLaws.{tests}
-use borrow.Author.Rules.{rules}
-use Rattle.writer_head.proofs.high_field.Statement.{statement}
-use Rattle.writer_head.proofs.high_field.Tie as tie
-
-pub high-field-spec : {M : Type 1} → statement M
-high-field-spec =
-    tie.close (tie.spec (λ c κs. search rules) (λ c. search rules) (λ c. search rules) (λ c. search (rules, tests))
-    (λ c. search (rules, tests)))
