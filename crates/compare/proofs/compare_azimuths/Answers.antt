@@ -32,67 +32,125 @@ loop-index-init c =
 
 pub compare_zones-count-requires : goal.compare_zones-count-requires
 compare_zones-count-requires c =
-    let h = head (run c.before.before.before) in
-    let n = standing c.before.before.before in
-    (checked_part (old h) _ n.0.passes, checked_part (new h) _ n.1.passes, n.2)
+    let a = c.args in
+    let old = a.old.now in
+    let new = a.new.now in
+    let l = c.loop-index in
+    let run = c.pass-run.result in
+    let same = c.same_bytes-same in
+    let index = l.index + run.azimuths in
+    let i = l.i + run.bytes in
+    let j = l.j + run.bytes in
+    let most : index ≤ azimuths * a.elevations = omega arith in
+    let bytes : run.bytes ≡ _ = c.pass-run.ensures.2 ∙ run-part old l.i run.azimuths in
+    let stands : Reached old new a.out.now index l.out i j l.count =
+        subst (λ (x : ℕ). Reached old new a.out.now index l.out (l.i + x) (l.j + x) l.count) (sym bytes)
+        (reached-past old new c.requires run.azimuths same.result l.invariant.6 most
+        (parts_same same.result old new l.i l.j same.ensures.2) (omega arith)) in
+    let left : index < azimuths * a.elevations = omega arith in
+    let in_old = stands-old old new c.requires stands left in
+    let in_new = stands-new old new c.requires stands left in
+    let few = reached-few old new c.requires stands left in
+    (checked_part old _ in_old.passes, checked_part new _ in_new.passes, few)
 
 pub overflow_add-i-then-index-total : goal.overflow_add-i-then-index-total
 overflow_add-i-then-index-total c =
-    let size_old : let p = run (one_old c) in
-    c.size_of-i.result ≡ azimuth_part.size (drop (i p) (old (head p))) =
-    c.size_of-i.ensures ∙ checked_size (old (head (run (one_old c)))) _ (standing (one_old c)).0.passes in
-    let t = one_old c in
-    record { fits = omega (arith, size_old, (standing t).0.within, (start (head (run t))).good.0.0) }
+    let a = c.args in
+    let old = a.old.now in
+    let new = a.new.now in
+    let l = c.loop-index in
+    let run = c.pass-run.result in
+    let same = c.same_bytes-same in
+    let index = l.index + run.azimuths in
+    let i = l.i + run.bytes in
+    let j = l.j + run.bytes in
+    let most : index ≤ azimuths * a.elevations = omega arith in
+    let bytes : run.bytes ≡ _ = c.pass-run.ensures.2 ∙ run-part old l.i run.azimuths in
+    let stands : Reached old new a.out.now index l.out i j l.count =
+        subst (λ (x : ℕ). Reached old new a.out.now index l.out (l.i + x) (l.j + x) l.count) (sym bytes)
+        (reached-past old new c.requires run.azimuths same.result l.invariant.6 most
+        (parts_same same.result old new l.i l.j same.ensures.2) (omega arith)) in
+    let left : index < azimuths * a.elevations = omega arith in
+    let in_old = stands-old old new c.requires stands left in
+    let in_new = stands-new old new c.requires stands left in
+    let size_old : c.size_of-i.result ≡ azimuth_part.size (drop i old) = c.size_of-i.ensures ∙ checked_size old _ in_old.passes in
+    record { fits = omega (arith, size_old, in_old.within, c.well_formed.0.0) }
 
 pub overflow_add-j-then-index-total : goal.overflow_add-j-then-index-total
 overflow_add-j-then-index-total c =
-    let size_new : let p = run (one c) in
-    c.size_of-j.result ≡ azimuth_part.size (drop (j p) (new (head p))) =
-    c.size_of-j.ensures ∙ checked_size (new (head (run (one c)))) _ (standing (one c)).1.passes in
-    let t = one c in
-    record { fits = omega (arith, size_new, (standing t).1.within, (start (head (run t))).good.1.0) }
+    let a = c.args in
+    let old = a.old.now in
+    let new = a.new.now in
+    let l = c.loop-index in
+    let run = c.pass-run.result in
+    let same = c.same_bytes-same in
+    let index = l.index + run.azimuths in
+    let i = l.i + run.bytes in
+    let j = l.j + run.bytes in
+    let most : index ≤ azimuths * a.elevations = omega arith in
+    let bytes : run.bytes ≡ _ = c.pass-run.ensures.2 ∙ run-part old l.i run.azimuths in
+    let stands : Reached old new a.out.now index l.out i j l.count =
+        subst (λ (x : ℕ). Reached old new a.out.now index l.out (l.i + x) (l.j + x) l.count) (sym bytes)
+        (reached-past old new c.requires run.azimuths same.result l.invariant.6 most
+        (parts_same same.result old new l.i l.j same.ensures.2) (omega arith)) in
+    let left : index < azimuths * a.elevations = omega arith in
+    let in_old = stands-old old new c.requires stands left in
+    let in_new = stands-new old new c.requires stands left in
+    let size_new : c.size_of-j.result ≡ azimuth_part.size (drop j new) = c.size_of-j.ensures ∙ checked_size new _ in_new.passes in
+    record { fits = omega (arith, size_new, in_new.within, c.well_formed.1.0) }
 
 pub loop-index-preserved-then-index-total : goal.loop-index-preserved-then-index-total
 loop-index-preserved-then-index-total c =
-    let size_old : let p = run (one_old c) in
-    c.size_of-i.result ≡ azimuth_part.size (drop (i p) (old (head p))) =
-    c.size_of-i.ensures ∙ checked_size (old (head (run (one_old c)))) _ (standing (one_old c)).0.passes in
-    let size_new : let p = run (one c) in
-    c.size_of-j.result ≡ azimuth_part.size (drop (j p) (new (head p))) =
-    c.size_of-j.ensures ∙ checked_size (new (head (run (one c)))) _ (standing (one c)).1.passes in
-    let t = one c in
-    let p = run t in
-    let h = head p in
-    let l = h.loop in
-    let n = standing t in
+    let a = c.args in
+    let old = a.old.now in
+    let new = a.new.now in
+    let l = c.loop-index in
+    let run = c.pass-run.result in
+    let same = c.same_bytes-same in
+    let index = l.index + run.azimuths in
+    let i = l.i + run.bytes in
+    let j = l.j + run.bytes in
+    let most : index ≤ azimuths * a.elevations = omega arith in
+    let bytes : run.bytes ≡ _ = c.pass-run.ensures.2 ∙ run-part old l.i run.azimuths in
+    let stands : Reached old new a.out.now index l.out i j l.count =
+        subst (λ (x : ℕ). Reached old new a.out.now index l.out (l.i + x) (l.j + x) l.count) (sym bytes)
+        (reached-past old new c.requires run.azimuths same.result l.invariant.6 most
+        (parts_same same.result old new l.i l.j same.ensures.2) (omega arith)) in
+    let left : index < azimuths * a.elevations = omega arith in
+    let in_old = stands-old old new c.requires stands left in
+    let in_new = stands-new old new c.requires stands left in
+    let size_old : c.size_of-i.result ≡ azimuth_part.size (drop i old) = c.size_of-i.ensures ∙ checked_size old _ in_old.passes in
+    let size_new : c.size_of-j.result ≡ azimuth_part.size (drop j new) = c.size_of-j.ensures ∙ checked_size new _ in_new.passes in
     let z = c.compare_zones-count in (
-      l.inv.0,
-      l.inv.1,
+      l.invariant.0,
+      l.invariant.1,
       omega arith,
-      omega (arith, size_old, n.0.within),
-      omega (arith, size_new, n.1.within),
-      z.auto.1.1.1.1.0 ∙ l.inv.5,
-      reached-next (old h) (new h) (start h).pre (passed p).3 (left t)
-          (z.ensures ∙ parts_listed (1 + index p / azimuths) (index p % azimuths) (old h) (new h) (i p) (j p)
-          (sheet (difference_size * l.count) l.out))
-          (ap (λ (x : ℕ). i p + x) (size_old)) (ap (λ (x : ℕ). j p + x) (size_new)),
+      omega (arith, size_old, in_old.within),
+      omega (arith, size_new, in_new.within),
+      z.auto.out ∙ l.invariant.5,
+      reached-next old new c.requires stands left
+          (z.ensures ∙ parts_listed (1 + index / azimuths) (index % azimuths) old new i j (sheet (difference_size * l.count) l.out))
+          (ap (λ (x : ℕ). i + x) size_old) (ap (λ (x : ℕ). j + x) size_new),
     )
 
 pub loop-index-preserved : goal.loop-index-preserved
 loop-index-preserved c =
-    let l = (head c.before.before.before.before).loop in
-    let r = passed c.before.before.before.before in
-    (l.inv.0, l.inv.1, omega arith, r.0, r.1, l.inv.5, r.3)
+    let a = c.args in
+    let old = a.old.now in
+    let new = a.new.now in
+    let l = c.loop-index in
+    let run = c.pass-run.result in
+    let same = c.same_bytes-same in
+    let index = l.index + run.azimuths in
+    let i = l.i + run.bytes in
+    let j = l.j + run.bytes in
+    let most : index ≤ azimuths * a.elevations = omega arith in
+    let bytes : run.bytes ≡ _ = c.pass-run.ensures.2 ∙ run-part old l.i run.azimuths in
+    let stands : Reached old new a.out.now index l.out i j l.count =
+        subst (λ (x : ℕ). Reached old new a.out.now index l.out (l.i + x) (l.j + x) l.count) (sym bytes)
+        (reached-past old new c.requires run.azimuths same.result l.invariant.6 most
+        (parts_same same.result old new l.i l.j same.ensures.2) (omega arith)) in
+    (l.invariant.0, l.invariant.1, omega arith, omega arith, omega arith, l.invariant.5, stands)
 
 pub returns : goal.returns
-returns c =
-    reached-done (old c.before) (new c.before) (start c.before).requires c.loop-index.invariant.6 (omega arith)
-
--- LEFT helper: -- what the function began with, on the way to the loop's head
--- -- the loop's head, and the places behind the azimuths that are passed over
--- -- an azimuth is left: where it stands in both, and that there are not too many differences before it
--- -- the bytes that it takes
--- abbrev one-old : tie.After-size-of invariant-loop decreases-loop → tie.Then1 invariant-loop decreases-loop
--- one-old c = c.before.before.before.before.before.before.before.before
--- LEFT helper: abbrev one : tie.After-size-of2 invariant-loop decreases-loop → tie.Then1 invariant-loop decreases-loop
--- one c = one-old c.before.before
+returns c = reached-done c.args.old.now c.args.new.now c.requires c.loop-index.invariant.6 (omega arith)

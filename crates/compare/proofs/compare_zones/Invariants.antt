@@ -20,13 +20,3 @@ invariant-loop-next l =
 
 abbrev pub decreases-loop-next : goal.decreases-loop-next
 decreases-loop-next l = kilometres - l.next
-module _ (k : tie.After-slice-known invariant-loop decreases-loop) where
-  abbrev start : tie.Start invariant-loop decreases-loop
-  start = k.before.before.before
-  abbrev l.old : List ℕ
-  l.old = start.args.old.now
-  abbrev l.new : List ℕ
-  l.new = start.args.new.now
-  octets : Octets l.old × Octets l.new
-  octets = (λ l.i. (k.before.before.shared-slice-known.given l.i).fits, λ l.i. (k.before.shared-slice-known2.given l.i).fits)
-

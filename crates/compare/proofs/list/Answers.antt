@@ -17,10 +17,10 @@ pub returns-then-not-lists : goal.returns-then-not-lists
 returns-then-not-lists c =
     let a = c.args in
     list_none a.elevation a.azimuth a.first a.next a.old a.new a.count a.out.now a.lists
-    (not-true _ c.if-not-lists.true)
+    c.if-not-lists.true
 
 pub overflow_sub-last : goal.overflow_sub-last
-overflow_sub-last c = c.requires.1 (not-false _ c.if-not-lists.false)
+overflow_sub-last c = c.requires.1 c.if-not-lists.false
 
 pub returns : goal.returns
 returns c =
@@ -30,5 +30,5 @@ returns c =
     let a = c.args in
     list-laid a.elevation a.azimuth a.first a.next a.old a.new a.count a.out.now a.lists
     (6 * a.count + 6 - 6 * a.count)
-    put.new.0 (not-false _ if2.false) (omega arith) put.ensures
+    put.new.out if2.false (omega arith) put.ensures
     if1.false
