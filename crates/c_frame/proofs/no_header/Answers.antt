@@ -1,6 +1,5 @@
 use Rattle.wire.specs.Numbers.{num}
 use Rattle.header.specs.Header.{stored_in, header_in}
-use borrow.Author.Rules.{rules}
 use Rattle.c_frame.proofs.no_header.Goals as goal
 
 pub returns : goal.returns

@@ -1,5 +1,4 @@
 use mathlib.Core.Path.{refl}
-use borrow.Author.Rules.{rules}
 use Rattle.c_frame.proofs.show_header.Goals as goal
 
 pub returns : goal.returns
