@@ -1,4 +1,3 @@
-use borrow.Author.Rules.{rules}
 use Rattle.c_map.proofs.map.Goals as goal
 
 pub returns-in-Map : goal.returns-in-Map

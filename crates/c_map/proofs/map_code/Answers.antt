@@ -1,4 +1,3 @@
-use borrow.Author.Rules.{rules}
 use Rattle.c_map.proofs.map_code.Goals as goal
 
 pub returns-in-Code : goal.returns-in-Code

@@ -1,4 +1,3 @@
-use borrow.Author.Rules.{rules}
 use Rattle.c_request.proofs.request.Goals as goal
 
 pub returns-in-Code : goal.returns-in-Code

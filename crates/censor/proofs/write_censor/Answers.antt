@@ -1,5 +1,4 @@
 use mathlib.Core.Path.{◌≡◌, refl, sym, ap, ◌∙◌}
-use borrow.Author.Rules.{rules}
 use Rattle.wire.proofs.ListLaws.{part_is}
 use Rattle.censor.specs.Censor.{count, fields}
 use Rattle.censor.specs.Steps.{regions_broken}

@@ -6,7 +6,6 @@ use Rattle.compare.specs.declared.CompareAnswer.TheVariants.{Refused}
 use Rattle.compare.specs.Told.{tell_compare}
 use Rattle.compare.specs.Steps.{Counts}
 use Rattle.compare.proofs.EntryLaws.{map-counts, first-refused, second_refused}
-use borrow.Author.Rules.{rules}
 use Rattle.compare.proofs.compare.Goals as goal
 
 pub compare_checked-requires : goal.compare_checked-requires

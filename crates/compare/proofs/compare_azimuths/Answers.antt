@@ -1,20 +1,16 @@
-use Prim.Native.Nat.{ℕ, ◌+◌, ◌*◌, ◌-◌, ◌/◌, ◌%◌, ◌≤◌, ◌<◌}
+use Prim.Native.Nat.{ℕ, ◌+◌, ◌*◌, ◌/◌, ◌%◌, ◌≤◌, ◌<◌}
 use native.Mathlib.Omega.{arith}
 use mathlib.Core.Path.{◌≡◌, refl, sym, ap, ◌∙◌, subst}
-use mathlib.Core.List.{List}
-use lib.ListN.{length, drop}
+use lib.ListN.{drop}
 use Rattle.wire.specs.Sheets.{sheet}
-use Rattle.map_spec.specs.Map.{azimuths, most_elevations, kilometres}
+use Rattle.map_spec.specs.Map.{azimuths}
 use Rattle.map_spec.specs.Reading.{azimuth_part}
-use Rattle.map_spec.specs.Places.{AzimuthStands}
 use Rattle.map_spec.proofs.CheckFacts.{map_facts}
 use Rattle.compare_spec.specs.Comparing.{difference_size}
-use Rattle.compare.specs.Steps.{most_counted}
 use Rattle.compare.proofs.EntryLaws.{enough_old}
 use Rattle.compare.proofs.AzimuthWalk.{Reached, reached-start, reached-next, reached-past, reached-few, reached-done}
 use Rattle.compare.proofs.AzimuthWalk.{stands-old, stands-new, checked_part, checked_size, run-part}
 use Rattle.compare.proofs.AzimuthWalk.{parts_same, parts_listed}
-use borrow.Author.Rules.{rules}
 use Rattle.compare.proofs.compare_azimuths.Goals as goal
 
 pub loop-index-init : goal.loop-index-init
@@ -44,9 +40,9 @@ compare_zones-count-requires c =
     let most : index ≤ azimuths * a.elevations = omega arith in
     let bytes : run.bytes ≡ _ = c.pass-run.ensures.2 ∙ run-part old l.i run.azimuths in
     let stands : Reached old new a.out.now index l.out i j l.count =
-        subst (λ (x : ℕ). Reached old new a.out.now index l.out (l.i + x) (l.j + x) l.count) (sym bytes)
-        (reached-past old new c.requires run.azimuths same.result l.invariant.6 most
-        (parts_same same.result old new l.i l.j same.ensures.2) (omega arith)) in
+    subst (λ (x : ℕ). Reached old new a.out.now index l.out (l.i + x) (l.j + x) l.count) (sym bytes)
+    (reached-past old new c.requires run.azimuths same.result l.invariant.6 most
+    (parts_same same.result old new l.i l.j same.ensures.2) (omega arith)) in
     let left : index < azimuths * a.elevations = omega arith in
     let in_old = stands-old old new c.requires stands left in
     let in_new = stands-new old new c.requires stands left in
@@ -67,9 +63,9 @@ overflow_add-i-then-index-total c =
     let most : index ≤ azimuths * a.elevations = omega arith in
     let bytes : run.bytes ≡ _ = c.pass-run.ensures.2 ∙ run-part old l.i run.azimuths in
     let stands : Reached old new a.out.now index l.out i j l.count =
-        subst (λ (x : ℕ). Reached old new a.out.now index l.out (l.i + x) (l.j + x) l.count) (sym bytes)
-        (reached-past old new c.requires run.azimuths same.result l.invariant.6 most
-        (parts_same same.result old new l.i l.j same.ensures.2) (omega arith)) in
+    subst (λ (x : ℕ). Reached old new a.out.now index l.out (l.i + x) (l.j + x) l.count) (sym bytes)
+    (reached-past old new c.requires run.azimuths same.result l.invariant.6 most
+    (parts_same same.result old new l.i l.j same.ensures.2) (omega arith)) in
     let left : index < azimuths * a.elevations = omega arith in
     let in_old = stands-old old new c.requires stands left in
     let in_new = stands-new old new c.requires stands left in
@@ -90,9 +86,9 @@ overflow_add-j-then-index-total c =
     let most : index ≤ azimuths * a.elevations = omega arith in
     let bytes : run.bytes ≡ _ = c.pass-run.ensures.2 ∙ run-part old l.i run.azimuths in
     let stands : Reached old new a.out.now index l.out i j l.count =
-        subst (λ (x : ℕ). Reached old new a.out.now index l.out (l.i + x) (l.j + x) l.count) (sym bytes)
-        (reached-past old new c.requires run.azimuths same.result l.invariant.6 most
-        (parts_same same.result old new l.i l.j same.ensures.2) (omega arith)) in
+    subst (λ (x : ℕ). Reached old new a.out.now index l.out (l.i + x) (l.j + x) l.count) (sym bytes)
+    (reached-past old new c.requires run.azimuths same.result l.invariant.6 most
+    (parts_same same.result old new l.i l.j same.ensures.2) (omega arith)) in
     let left : index < azimuths * a.elevations = omega arith in
     let in_old = stands-old old new c.requires stands left in
     let in_new = stands-new old new c.requires stands left in
@@ -113,9 +109,9 @@ loop-index-preserved-then-index-total c =
     let most : index ≤ azimuths * a.elevations = omega arith in
     let bytes : run.bytes ≡ _ = c.pass-run.ensures.2 ∙ run-part old l.i run.azimuths in
     let stands : Reached old new a.out.now index l.out i j l.count =
-        subst (λ (x : ℕ). Reached old new a.out.now index l.out (l.i + x) (l.j + x) l.count) (sym bytes)
-        (reached-past old new c.requires run.azimuths same.result l.invariant.6 most
-        (parts_same same.result old new l.i l.j same.ensures.2) (omega arith)) in
+    subst (λ (x : ℕ). Reached old new a.out.now index l.out (l.i + x) (l.j + x) l.count) (sym bytes)
+    (reached-past old new c.requires run.azimuths same.result l.invariant.6 most
+    (parts_same same.result old new l.i l.j same.ensures.2) (omega arith)) in
     let left : index < azimuths * a.elevations = omega arith in
     let in_old = stands-old old new c.requires stands left in
     let in_new = stands-new old new c.requires stands left in
@@ -147,9 +143,9 @@ loop-index-preserved c =
     let most : index ≤ azimuths * a.elevations = omega arith in
     let bytes : run.bytes ≡ _ = c.pass-run.ensures.2 ∙ run-part old l.i run.azimuths in
     let stands : Reached old new a.out.now index l.out i j l.count =
-        subst (λ (x : ℕ). Reached old new a.out.now index l.out (l.i + x) (l.j + x) l.count) (sym bytes)
-        (reached-past old new c.requires run.azimuths same.result l.invariant.6 most
-        (parts_same same.result old new l.i l.j same.ensures.2) (omega arith)) in
+    subst (λ (x : ℕ). Reached old new a.out.now index l.out (l.i + x) (l.j + x) l.count) (sym bytes)
+    (reached-past old new c.requires run.azimuths same.result l.invariant.6 most
+    (parts_same same.result old new l.i l.j same.ensures.2) (omega arith)) in
     (l.invariant.0, l.invariant.1, omega arith, omega arith, omega arith, l.invariant.5, stands)
 
 pub returns : goal.returns

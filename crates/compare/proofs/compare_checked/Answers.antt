@@ -4,7 +4,7 @@ use mathlib.Core.Path.{◌≡◌, sym, ap, ◌∙◌}
 use mathlib.Core.List.{List}
 use lib.ListN.{length}
 use Rattle.wire.specs.Numbers.{Octets}
-use borrow.Author.Tests.{leb-true, leb-false, not-true, not-false}
+use borrow.Author.Tests.{leb-true, leb-false}
 use Rattle.wire.specs.Writing.{filled}
 use Rattle.wire.specs.Sheets.{sheet}
 use Rattle.wire.proofs.AnswerLaws.{kept}
@@ -15,7 +15,6 @@ use Rattle.compare.specs.declared.CompareAnswer.TheVariants.{Compared, Refused}
 use Rattle.compare.specs.Told.{tell_compare}
 use Rattle.compare.specs.Steps.{listing, list_of, Checked}
 use Rattle.compare.proofs.EntryLaws.{present_is, counted, listed, room_most, room-refused, all-given}
-use borrow.Author.Rules.{rules}
 use Rattle.compare.proofs.compare_checked.Goals as goal
 
 -- both bodies are checked
@@ -68,7 +67,7 @@ overflow_cast-result c =
     let out = a.out.now in
     let w = c.compare_azimuths-count in
     let walked : sheet (difference_size * w.result) w.new.out ≡ listing (differences (map_in old) (map_in new)) (sheet 0 out) =
-        w.ensures ∙ ap (λ (l : List ℕ). listing (differences (map_in old) (map_in new)) (sheet 0 l)) c.has_room.ensures.1 in
+    w.ensures ∙ ap (λ (l : List ℕ). listing (differences (map_in old) (map_in new)) (sheet 0 l)) c.has_room.ensures.1 in
     let all : difference_size * w.result ≡ length (list_of old new) = counted old new _ out _ walked in
     let most = room_most checked old_octets new_octets in
     record { fits = omega (arith, most, all) }
@@ -82,7 +81,7 @@ returns c =
     let out = a.out.now in
     let w = c.compare_azimuths-count in
     let walked : sheet (difference_size * w.result) w.new.out ≡ listing (differences (map_in old) (map_in new)) (sheet 0 out) =
-        w.ensures ∙ ap (λ (l : List ℕ). listing (differences (map_in old) (map_in new)) (sheet 0 l)) c.has_room.ensures.1 in
+    w.ensures ∙ ap (λ (l : List ℕ). listing (differences (map_in old) (map_in new)) (sheet 0 l)) c.has_room.ensures.1 in
     let all : difference_size * w.result ≡ length (list_of old new) = counted old new _ out _ walked in
     let enough = leb-true (length (list_of old new)) (length out) (sym c.has_room.ensures.0 ∙ c.if-not-has_room.false) in
     kept tell_compare (comparison_of old new out) (Compared a.older a.newer w.result) _ (filled (list_of old new) out)

@@ -1,16 +1,15 @@
-use Prim.Native.Nat.{ℕ, ◌+◌, ◌-◌, ◌≤◌, ◌<◌}
+use Prim.Native.Nat.{ℕ, ◌+◌, ◌≤◌}
 use native.Mathlib.Omega.{arith}
 use mathlib.Core.Path.{◌≡◌, refl, ◌∙◌}
 use mathlib.Core.List.{List}
 use lib.ListN.{length}
 use Rattle.wire.specs.Numbers.{Octets}
 use Rattle.wire.specs.Checks.{AllHold}
-use Rattle.map_spec.specs.Map.{last_kilometre, kilometres, field_size, zone_size, most_azimuth_size}
+use Rattle.map_spec.specs.Map.{field_size, zone_size}
 use Rattle.map_spec.specs.Reading.{value, azimuth_part}
 use Rattle.map_spec.specs.Places.{zone_at}
 use Rattle.map_spec.proofs.ZoneWalk.{facing_first, facing-place, facing-there, code_half, end_half}
-use Rattle.compare.proofs.TurnLaws.{Walking, walking_start, turn_low, walking-next, walking-done}
-use borrow.Author.Rules.{rules}
+use Rattle.compare.proofs.TurnLaws.{walking_start, turn_low, walking-next, walking-done}
 use Rattle.compare.proofs.compare_zones.Goals as goal
 
 -- the first zone of a body is there
@@ -62,9 +61,9 @@ list-listed-requires c =
     let o = c.four_at-zone_old in
     let n = c.four_at-zone_new in
     let code_old : c.code_of-code.result ≡ (zone_at old l.i).code =
-        c.code_of-code.ensures ∙ code_half old old_octets l.i o.result o.ensures in
+    c.code_of-code.ensures ∙ code_half old old_octets l.i o.result o.ensures in
     let code_new : c.code_of-other.result ≡ (zone_at new l.j).code =
-        c.code_of-other.ensures ∙ code_half new new_octets l.j n.result n.ensures in
+    c.code_of-other.ensures ∙ code_half new new_octets l.j n.result n.ensures in
     (omega arith, turn_low c.requires.0 c.requires.1 l.invariant.4 c.loop-next-test.true code_old code_new)
 
 pub overflow_add-next : goal.overflow_add-next
@@ -77,16 +76,16 @@ overflow_add-next c =
     let o = c.four_at-zone_old in
     let n = c.four_at-zone_new in
     let code_old : c.code_of-code.result ≡ (zone_at old l.i).code =
-        c.code_of-code.ensures ∙ code_half old old_octets l.i o.result o.ensures in
+    c.code_of-code.ensures ∙ code_half old old_octets l.i o.result o.ensures in
     let code_new : c.code_of-other.result ≡ (zone_at new l.j).code =
-        c.code_of-other.ensures ∙ code_half new new_octets l.j n.result n.ensures in
+    c.code_of-other.ensures ∙ code_half new new_octets l.j n.result n.ensures in
     let end_old : c.end_of-end_old.result ≡ (zone_at old l.i).end =
-        c.end_of-end_old.ensures ∙ end_half old old_octets l.i o.result o.ensures in
+    c.end_of-end_old.ensures ∙ end_half old old_octets l.i o.result o.ensures in
     let end_new : c.end_of-end_new.result ≡ (zone_at new l.j).end =
-        c.end_of-end_new.ensures ∙ end_half new new_octets l.j n.result n.ensures in
+    c.end_of-end_new.ensures ∙ end_half new new_octets l.j n.result n.ensures in
     let turned =
-        walking-next c.requires.0 c.requires.1 l.invariant.4 c.loop-next-test.true code_old code_new end_old end_new
-        c.least-end.ensures c.past-i.ensures c.past-j.ensures c.begun-first.ensures c.list-listed.ensures in
+    walking-next c.requires.0 c.requires.1 l.invariant.4 c.loop-next-test.true code_old code_new end_old end_new
+    c.least-end.ensures c.past-i.ensures c.past-j.ensures c.begun-first.ensures c.list-listed.ensures in
     record { fits = omega (arith, turned.1) }
 
 pub loop-next-smaller : goal.loop-next-smaller
@@ -99,16 +98,16 @@ loop-next-smaller c =
     let o = c.four_at-zone_old in
     let n = c.four_at-zone_new in
     let code_old : c.code_of-code.result ≡ (zone_at old l.i).code =
-        c.code_of-code.ensures ∙ code_half old old_octets l.i o.result o.ensures in
+    c.code_of-code.ensures ∙ code_half old old_octets l.i o.result o.ensures in
     let code_new : c.code_of-other.result ≡ (zone_at new l.j).code =
-        c.code_of-other.ensures ∙ code_half new new_octets l.j n.result n.ensures in
+    c.code_of-other.ensures ∙ code_half new new_octets l.j n.result n.ensures in
     let end_old : c.end_of-end_old.result ≡ (zone_at old l.i).end =
-        c.end_of-end_old.ensures ∙ end_half old old_octets l.i o.result o.ensures in
+    c.end_of-end_old.ensures ∙ end_half old old_octets l.i o.result o.ensures in
     let end_new : c.end_of-end_new.result ≡ (zone_at new l.j).end =
-        c.end_of-end_new.ensures ∙ end_half new new_octets l.j n.result n.ensures in
+    c.end_of-end_new.ensures ∙ end_half new new_octets l.j n.result n.ensures in
     let turned =
-        walking-next c.requires.0 c.requires.1 l.invariant.4 c.loop-next-test.true code_old code_new end_old end_new
-        c.least-end.ensures c.past-i.ensures c.past-j.ensures c.begun-first.ensures c.list-listed.ensures in
+    walking-next c.requires.0 c.requires.1 l.invariant.4 c.loop-next-test.true code_old code_new end_old end_new
+    c.least-end.ensures c.past-i.ensures c.past-j.ensures c.begun-first.ensures c.list-listed.ensures in
     omega (arith, turned.0)
 
 pub loop-next-preserved : goal.loop-next-preserved
@@ -121,16 +120,16 @@ loop-next-preserved c =
     let o = c.four_at-zone_old in
     let n = c.four_at-zone_new in
     let code_old : c.code_of-code.result ≡ (zone_at old l.i).code =
-        c.code_of-code.ensures ∙ code_half old old_octets l.i o.result o.ensures in
+    c.code_of-code.ensures ∙ code_half old old_octets l.i o.result o.ensures in
     let code_new : c.code_of-other.result ≡ (zone_at new l.j).code =
-        c.code_of-other.ensures ∙ code_half new new_octets l.j n.result n.ensures in
+    c.code_of-other.ensures ∙ code_half new new_octets l.j n.result n.ensures in
     let end_old : c.end_of-end_old.result ≡ (zone_at old l.i).end =
-        c.end_of-end_old.ensures ∙ end_half old old_octets l.i o.result o.ensures in
+    c.end_of-end_old.ensures ∙ end_half old old_octets l.i o.result o.ensures in
     let end_new : c.end_of-end_new.result ≡ (zone_at new l.j).end =
-        c.end_of-end_new.ensures ∙ end_half new new_octets l.j n.result n.ensures in
+    c.end_of-end_new.ensures ∙ end_half new new_octets l.j n.result n.ensures in
     let turned =
-        walking-next c.requires.0 c.requires.1 l.invariant.4 c.loop-next-test.true code_old code_new end_old end_new
-        c.least-end.ensures c.past-i.ensures c.past-j.ensures c.begun-first.ensures c.list-listed.ensures in
+    walking-next c.requires.0 c.requires.1 l.invariant.4 c.loop-next-test.true code_old code_new end_old end_new
+    c.least-end.ensures c.past-i.ensures c.past-j.ensures c.begun-first.ensures c.list-listed.ensures in
     let w = turned.2 in
     let end = c.least-end.result in (
       facing-place old c.requires.0 c.past-i.result (end + 1) w.left_old w.at_old,

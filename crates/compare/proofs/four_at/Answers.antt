@@ -1,5 +1,4 @@
 use Rattle.map_spec.proofs.ZoneWalk.{four-fetched}
-use borrow.Author.Rules.{rules}
 use Rattle.compare.proofs.four_at.Goals as goal
 
 pub returns : goal.returns

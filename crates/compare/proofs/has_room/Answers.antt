@@ -1,4 +1,4 @@
-use Prim.Native.Nat.{ℕ, ◌*◌, ◌≤◌}
+use Prim.Native.Nat.{ℕ, ◌*◌}
 use native.Mathlib.Omega.{arith}
 use mathlib.Core.Path.{◌≡◌, refl, sym, ap, ◌∙◌}
 use mathlib.Core.List.{List}
@@ -7,10 +7,9 @@ use lib.ListN.{length}
 use Rattle.wire.specs.Numbers.{Octets}
 use borrow.Author.Tests.{le-leb}
 use Rattle.wire.proofs.ListLaws.{none-put}
-use Rattle.compare_spec.specs.Comparing.{difference_size, most_halfwords}
+use Rattle.compare_spec.specs.Comparing.{difference_size}
 use Rattle.compare.specs.Steps.{list_of}
 use Rattle.compare.proofs.EntryLaws.{counted, room_most}
-use borrow.Author.Rules.{rules}
 use Rattle.compare.proofs.has_room.Goals as goal
 
 pub returns-then-out-ge-MOST : goal.returns-then-out-ge-MOST

@@ -1,7 +1,5 @@
-use borrow.Author.Rules.{rules}
 use Prim.Native.Nat.{◌+◌, ◌*◌, ◌-◌}
 use native.Mathlib.Omega.{arith}
-use borrow.Author.Tests.{not-true, not-false}
 use Rattle.compare.proofs.SheetLaws.{byte_one, list_counted, list_none, list-laid}
 use Rattle.compare.proofs.list.Goals as goal
 

@@ -1,10 +1,6 @@
-use borrow.Author.Rules.{rules}
-use Prim.Native.Nat.{◌-◌, ◌≤◌}
 use native.Mathlib.Omega.{arith}
-use mathlib.Core.Path.{◌≡◌, sym}
-use lib.ListN.{length}
+use mathlib.Core.Path.{sym}
 use Rattle.map_spec.specs.Reading.{azimuth_part}
-use Rattle.form_spec.specs.Parts.{run_size}
 use Rattle.form_spec.proofs.PartLaws.{run_none}
 use Rattle.compare.proofs.AzimuthWalk.{run_on}
 use Rattle.compare.proofs.pass.Goals as goal

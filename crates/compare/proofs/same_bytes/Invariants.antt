@@ -1,11 +1,6 @@
-use borrow.Author.Rules.{rules}
-use Prim.Native.Nat.{◌+◌, ◌-◌, ◌≤◌}
-use native.Mathlib.Omega.{arith}
-use mathlib.Core.Path.{sym, ◌∙◌}
+use Prim.Native.Nat.{◌-◌, ◌≤◌}
 use lib.ListN.{length}
-use Rattle.map_spec.specs.Map.{zone_size}
 use Rattle.compare.specs.Steps.{Same}
-use Rattle.compare.proofs.SameBytes.{same_more}
 use Rattle.compare.proofs.same_bytes.Given as goal
 
 abbrev pub invariant-loop-at : goal.invariant-loop-at
@@ -13,4 +8,3 @@ invariant-loop-at l = (l.end ≤ length l.old) × (l.end ≤ length l.new) × (l
 
 abbrev pub decreases-loop-at : goal.decreases-loop-at
 decreases-loop-at l = l.end - l.at
-

@@ -6,7 +6,6 @@ use Rattle.map_spec.specs.Map.{head_size, azimuths}
 use Rattle.map_check.specs.declared.Step.TheVariants.{Next}
 use Rattle.map.specs.Steps.{head_step}
 use Rattle.map.proofs.BodyLaws.{head-stop, head-long, head_most, azimuths-stop, azimuths-fit, place-fits, body-left, body-found, least_low, body_none}
-use borrow.Author.Rules.{rules}
 use Rattle.map.proofs.check_body.Goals as goal
 
 pub overflow_mul-all : goal.overflow_mul-all

@@ -2,7 +2,6 @@ use mathlib.Core.Path.{◌≡◌, sym, ◌∙◌}
 use borrow.Author.Tests.{lt-ltb, le-ltb}
 use Rattle.map.specs.Steps.{head_step}
 use Rattle.map.proofs.BodyLaws.{segmentsFetched, minutesFetched, head-fetched}
-use borrow.Author.Rules.{rules}
 use Rattle.map.proofs.check_head.Goals as goal
 
 pub returns-then-body-lt-FIELD_SIZE : goal.returns-then-body-lt-FIELD_SIZE

@@ -2,7 +2,6 @@ use mathlib.Core.Path.{◌≡◌, sym, ap, ◌∙◌}
 use Rattle.wire.specs.Answers.{given}
 use Rattle.map_spec.specs.Reading.{Summary}
 use Rattle.map.proofs.BodyLaws.{map-stop, map-given}
-use borrow.Author.Rules.{rules}
 use Rattle.map.proofs.check_map.Goals as goal
 
 pub returns-in-Next : goal.returns-in-Next

@@ -11,7 +11,6 @@ use Rattle.map_spec.specs.Places.{AzimuthStands}
 use Rattle.map_check.specs.declared.Step.TheVariants.{Next}
 use Rattle.map.specs.Steps.{body_step}
 use Rattle.map.proofs.BodyLaws.{query_stop, asked-none, asked-high, asked-azimuth, asked-far, asked-given, asked-stands}
-use borrow.Author.Rules.{rules}
 use Rattle.map.proofs.code_at.Goals as goal
 
 pub returns-then-elevation-eq0 : goal.returns-then-elevation-eq0
@@ -84,8 +83,7 @@ zone_code-code-requires c =
     asked-stands a.body.now c.in-Next.count (accepted) a.elevation a.azimuth a.kilometre
     c.if-elevation-eq0.false c.if-count-elevation.false c.if-azimuth-ge-AZIMUTHS.false c.index_of.result
     c.check_body-found.result.place c.index_of.ensures
-    (c.check_body-found.ensures.placed c.in-Next.count (accepted)) in
-    (
+    (c.check_body-found.ensures.placed c.in-Next.count (accepted)) in (
       subst (λ (x : List ℕ). AllHold (azimuth_part.checks x))
           (sym (part_is c.args.body.now c.check_body-found.result.place)) (stands).passes,
       c.if-kilometre-gt-LAST_KILOMETRE.false,

@@ -9,7 +9,6 @@ use Rattle.map_spec.proofs.Accepted.{azimuth_long}
 use Rattle.map_check.specs.declared.Step.TheVariants.{Next}
 use Rattle.map_check.specs.Told.{run_step}
 use Rattle.map.proofs.StepLaws.{first_stops, first_ends, second-stops, second-passes, run_fits, none_found}
-use borrow.Author.Rules.{rules}
 use Rattle.map.proofs.find_azimuth.Goals as goal
 
 pub slice_bounds-check_azimuths-count : goal.slice_bounds-check_azimuths-count

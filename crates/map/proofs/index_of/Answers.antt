@@ -1,5 +1,4 @@
 use borrow.Author.Tests.{lt-ltb, le-ltb, le-leb, lt-leb, eq-eqb, ne_eqb}
-use borrow.Author.Rules.{rules}
 use Rattle.map.proofs.index_of.Goals as goal
 
 pub returns-then-elevation-eq0 : goal.returns-then-elevation-eq0

@@ -1,17 +1,13 @@
-use Prim.Native.Nat.{◌≤◌}
 use native.Mathlib.Omega.{arith}
-use Rattle.map_spec.specs.Map.{most_azimuth_size}
-use Rattle.map.proofs.QueryLaws.{Looking, looking_start, looking-place, looking-here, looking-on, looking-done}
-use borrow.Author.Rules.{rules}
+use Rattle.map.proofs.QueryLaws.{looking_start, looking-place, looking-here, looking-on, looking-done}
 use Rattle.map.proofs.zone_code.Goals as goal
 
 pub loop-left-init : goal.loop-left-init
-loop-left-init c =
-    (
-      omega arith,
-      looking_start c.args.part.now c.requires.0 c.args.kilometre c.requires.1 c.fetch16-left.result
-          c.fetch16-left.ensures,
-    )
+loop-left-init c = (
+  omega arith,
+  looking_start c.args.part.now c.requires.0 c.args.kilometre c.requires.1 c.fetch16-left.result
+      c.fetch16-left.ensures,
+)
 
 pub returns-then-kilometre-end_of : goal.returns-then-kilometre-end_of
 returns-then-kilometre-end_of c =

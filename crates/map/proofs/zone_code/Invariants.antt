@@ -1,8 +1,6 @@
 use Prim.Native.Nat.{◌≤◌}
-use native.Mathlib.Omega.{arith}
 use Rattle.map_spec.specs.Map.{most_azimuth_size}
-use Rattle.map.proofs.QueryLaws.{Looking, looking_start, looking-place, looking-here, looking-on, looking-done}
-use borrow.Author.Rules.{rules}
+use Rattle.map.proofs.QueryLaws.{Looking}
 use Rattle.map.proofs.zone_code.Given as goal
 
 abbrev pub invariant-loop-left : goal.invariant-loop-left
@@ -10,4 +8,3 @@ invariant-loop-left l = (l.at ≤ most_azimuth_size) × Looking l.part l.kilomet
 
 abbrev pub decreases-loop-left : goal.decreases-loop-left
 decreases-loop-left l = l.left
-

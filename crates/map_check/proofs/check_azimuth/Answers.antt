@@ -1,5 +1,4 @@
 use Rattle.map_check.proofs.StepLaws.{azimuth_cut, azimuth_none, azimuth-many, azimuth-short, azimuth-wrong, azimuth-right}
-use borrow.Author.Rules.{rules}
 use Rattle.map_check.proofs.check_azimuth.Goals as goal
 
 pub returns-then-part-lt-FIELD_SIZE : goal.returns-then-part-lt-FIELD_SIZE

@@ -6,8 +6,8 @@ use lib.ListN.{length, drop}
 use Rattle.wire.proofs.ListLaws.{part_is}
 use Rattle.map_spec.specs.Reading.{azimuth_part}
 use Rattle.map_spec.proofs.Accepted.{azimuth_long}
-use Rattle.map_check.specs.Told.{part_step, run_step}
-use Rattle.map_check.proofs.StepLaws.{walk, walk_start, walk_turn, walk-stop, walk_done, part-fits}
+use Rattle.map_check.specs.Told.{part_step}
+use Rattle.map_check.proofs.StepLaws.{walk_start, walk_turn, walk-stop, walk_done, part-fits}
 use borrow.Author.Rules.{rules}
 use Rattle.map_check.proofs.check_azimuths.Goals as goal
 

@@ -1,5 +1,4 @@
 use Rattle.map_check.proofs.RisingLaws.{cut_high, cut-code, cut_short}
-use borrow.Author.Rules.{rules}
 use Rattle.map_check.proofs.cut_zones.Goals as goal
 
 pub returns-then-next_end : goal.returns-then-next_end

@@ -1,9 +1,6 @@
-use Prim.Native.Nat.{◌-◌, ◌≤◌}
-use lib.ListN.{length}
 use mathlib.Core.Path.{sym, ◌∙◌}
 use Rattle.wire.specs.Numbers.{Octets}
-use Rattle.map_spec.specs.Map.{halfword_numbers}
-use Rattle.map_check.proofs.RisingLaws.{Rising, rising_none, rising_start, rising-broken, rising-on, rising-done}
+use Rattle.map_check.proofs.RisingLaws.{rising_none, rising_start, rising-broken, rising-on, rising-done}
 use borrow.Author.Rules.{rules}
 use Rattle.map_check.proofs.next_end.Goals as goal
 
@@ -16,8 +13,7 @@ returns-then-zones-lt-ZONE_SIZE c =
 pub loop-at-init : goal.loop-at-init
 loop-at-init c =
     let octets : Octets c.args.zones.now =
-    λ i. (c.shared_slice_known-1.given i).fits in
-    (
+    λ i. (c.shared_slice_known-1.given i).fits in (
       search rules,
       search rules,
       rising_start c.args.zones.now (octets) c.fetch32-zone.result c.fetch32-zone.ensures c.if-zones-lt-ZONE_SIZE.false,
@@ -35,8 +31,7 @@ pub loop-at-preserved : goal.loop-at-preserved
 loop-at-preserved c =
     let octets : Octets c.args.zones.now =
     λ i. (c.shared_slice_known-1.given i).fits in
-    let l = c.loop-at in
-    (
+    let l = c.loop-at in (
       search rules,
       search rules,
       rising-on c.args.zones.now (octets) l.zone l.from l.at l.invariant.2 l.invariant.0 c.end_of.result
