@@ -1,7 +1,7 @@
 -- The gates of a moment, and the value of a gate, as C receives them. "On a refusal every other field is 0."
 use Rattle.std.specs.Prelude.{ℕ, ◌+◌}
 use Rattle.wire.specs.Answers.{Answer, refused, given}
-use Rattle.radial_spec.specs.Description.{moment_head, Moment, gates, gate_bytes}
+use Rattle.radial_spec.specs.Description.{moment_head, Moment, gate_bytes}
 use Rattle.radial_spec.specs.Refusal.{Head, stored_head}
 use Rattle.gate_value.specs.Value.{float, Worth, below_threshold, range_folded, worth}
 use Rattle.c_gates.specs.declared.UlmGates.{UlmGates}

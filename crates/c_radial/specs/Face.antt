@@ -2,7 +2,7 @@
 use Rattle.std.specs.Prelude.{ℕ}
 use Rattle.std.proofs.Math.Option.{Option, none, some}
 use Rattle.wire.specs.Answers.{Answer, refused, given}
-use Rattle.radial_spec.specs.Description.{Moment, Description, block_count, gates}
+use Rattle.radial_spec.specs.Description.{Moment, Description, block_count}
 use Rattle.radial_spec.specs.Refusal.{Head, head_by, stored_head}
 use Rattle.radial_spec.specs.Lookups.{Asked, no_such, lies}
 use Rattle.c_radial.specs.declared.UlmRadial.{UlmRadial}

@@ -10,6 +10,7 @@ use Rattle.radial_spec.specs.Lookups.{Part, gates_of}
 use Rattle.radial_gates.specs.declared.LentGates.{LentGates}
 use Rattle.radial_gates.specs.Told.{part_of, LiesAt, SamePart, Lent}
 use Rattle.radial_gates.proofs.gates.Reads as gates
+use Rattle.radial_gates.proofs.lent.Reads as lent_reads
 use Rattle.radial_gates.specs.contracts.lent as lent
 
 pub same-part : (body r r₂ : Bor (List ℕ)) (p : Part) → LiesAt body r p → LiesAt body r₂ p → SamePart r r₂
@@ -32,10 +33,13 @@ pub gates-one : (κs body name r r₂ last last₂ : _) → gates.Learnt κs (bo
     → SamePart r r₂
 gates-one κs body name r r₂ last last₂ l l₂ = same-part body r r₂ (part_of (gates_of body.now (num 4 name 0))) l l₂
 
--- `lent` returns a struct that holds a reference, so it has no `Learnt`: the clause itself is welded
-pub lent_says : {M : Type 1} (𝓤 H κs A mem run body name body' name' r : _)
-    → lent.ensures-1 {M = M} 𝓤 H κs A mem run body name body' name' r ≡ fact 𝓤 (Lent body'.entry (num 4 name 0) r)
-lent_says 𝓤 H κs A mem run body name body' name' r = refl
+-- `lent` returns a struct that holds a reference: the clause itself is welded, and what a call learns from it
+pub lent_says : {M : Type 1} (𝓤 𝓛 κs mem run body name body' name' r : _)
+    → lent.ensures-1 {M = M} {𝓤 = 𝓤} 𝓛 κs mem run body name body' name' r ≡ fact 𝓤 (Lent body'.entry (num 4 name 0) r)
+lent_says 𝓤 𝓛 κs mem run body name body' name' r = refl
+
+pub lent_told : (κs body name r last : _) → lent_reads.Learnt κs (body, (name, tt)) r last → Lent body (num 4 name 0) r
+lent_told κs body name r last l = l
 
 pub lent_one : (body name r r₂ : _) → Lent body (num 4 name 0) r → Lent body (num 4 name 0) r₂
     → (r.number ≡ r₂.number) × (r.gates ≡ r₂.gates) × SamePart r.part r₂.part
