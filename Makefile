@@ -2,7 +2,7 @@
 #
 #   make show                   proves and builds the program, and shows the sample recording by it
 #   make program                proves and builds the program: build/ulmarzhe
-#   make lib                    proves crate ulm and writes build/libulm.a and build/ulm.h
+#   make lib                    proves the library and writes build/libulm.a and build/ulm.h
 #   make install PREFIX=DIR     puts program, manual, archive, header and a pkg-config file under DIR
 #   make check                  the tests in C and Rust, against ARCHIVE, and those of the program
 #   make fuzz SECONDS=60 SEED=7 the differential test for as long as asked
@@ -46,9 +46,9 @@ test:
 	bash .ci/run
 
 lib:
-	rt staticlib ulm
+	cd crates/ulm_c && rt lib
 	mkdir -p build
-	cp target/staticlib/libulm.a build/libulm.a
+	cp crates/ulm_c/out/libulm_c.a build/libulm.a
 	cp include/ulm.h build/ulm.h
 
 install: $(ARCHIVE) $(PROGRAM)

@@ -1,5 +1,4 @@
-// The library as C sees it: each function takes lent memory and returns a struct by value, whose first field is 0
-// or the number of the refusal. include/ulm.h declares them. The crate that each calls says what it does.
+// What C links: the functions of `ulm`, exported, each with the clauses that it has there. include/ulm.h declares them.
 #![tactic(auto)]
 
 ghost use Rattle.std.specs.Prelude.{◌≡◌};
