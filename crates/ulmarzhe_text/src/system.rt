@@ -7,6 +7,7 @@ use std::env::{Env, FillError};
 use std::fs;
 use std::fs::{File, OpenOptions};
 use std::io::{Cursor, Error, IsTerminal, Print, Result, Write};
+use std::path::PathBuf;
 
 // The room for a file's name and the zero byte that C puts at its end.
 pub const NAME: usize = 4096;
@@ -74,6 +75,11 @@ pub fn create(rt: &HostRuntime, path: &[u8]) -> Result<File> {
     let mut how = OpenOptions::new();
     how.write(true).create_new(true);
     how.open(rt, text_of(path)?)
+}
+
+// The name that a link has in it.
+pub fn read_link(rt: &HostRuntime, path: &[u8]) -> Result<PathBuf> {
+    fs::read_link(rt, text_of(path)?)
 }
 
 pub fn rename(rt: &HostRuntime, from: &[u8], to: &[u8]) -> Result<()> {
