@@ -56,6 +56,10 @@ module _ (ns : List ℕ) (i n : ℕ) (more : i < length ns) where
       ap (λ (l : List ℕ). bit_from i l n) (drop-cons ns i 0 more)
       ∙ ap (λ (k : ℕ). pick (eqb n (get_or ns i 0)) (2 ^ i) (bit_from k (drop k ns) n)) (sym (add-one i))
 
+-- the code's table: each name by its bytes
+abbrev pub named : List (List ℕ)
+named = (0x44 ∷ 0x52 ∷ 0x45 ∷ 0x46 ∷ []) ∷ (0x44 ∷ 0x56 ∷ 0x45 ∷ 0x4C ∷ []) ∷ (0x44 ∷ 0x53 ∷ 0x57 ∷ 0x20 ∷ []) ∷ (0x44 ∷ 0x5A ∷ 0x44 ∷ 0x52 ∷ []) ∷ (0x44 ∷ 0x50 ∷ 0x48 ∷ 0x49 ∷ []) ∷ (0x44 ∷ 0x52 ∷ 0x48 ∷ 0x4F ∷ []) ∷ []
+
 -- the walk stands at name i of the code's table, which is the rule's list: by one test that is computed
 pub record Seeking (table : List (List ℕ)) (n bit i : ℕ) : Type 0 where
   pub rows : all_below (λ (k : ℕ). eqb (fetched 4 (get_or table k []) 0) (get_or permitted k 0)) (length permitted) ≡ true

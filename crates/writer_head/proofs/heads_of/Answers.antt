@@ -8,7 +8,6 @@ use Rattle.frame.specs.Session.{head_table, data_kind}
 use Rattle.writer_head.specs.Head.{header_for, heads}
 use Rattle.writer_head.specs.Steps.{size_written, high_written, low_written}
 use Rattle.writer_head.proofs.HeadLaws.{header-bytes}
-use borrow.Author.Rules.{rules}
 use Rattle.writer_head.proofs.heads_of.Goals as goal
 
 -- `heads_of` meets its contract: its bytes are those of the two tables. Assumes nothing.

@@ -1,0 +1,17 @@
+use borrow.Author.Rules.{rules}
+use Prim.Native.Nat.{◌-◌, ◌≤◌}
+use native.Mathlib.Omega.{arith}
+use mathlib.Core.Path.{◌≡◌, sym}
+use lib.ListN.{length}
+use Rattle.map_spec.specs.Reading.{azimuth_part}
+use Rattle.form_spec.specs.Parts.{run_size}
+use Rattle.form_spec.proofs.PartLaws.{run_none}
+use Rattle.compare.proofs.AzimuthWalk.{run_on}
+use Rattle.compare.proofs.pass.Given as goal
+
+abbrev pub invariant-loop-count : goal.invariant-loop-count
+invariant-loop-count l = (l.same ≤ length l.part) × (l.at ≤ l.same) × (l.count ≤ l.most) × (l.at ≡ run_size azimuth_part l.count l.part)
+
+abbrev pub decreases-loop-count : goal.decreases-loop-count
+decreases-loop-count l = l.most - l.count
+

@@ -1,0 +1,13 @@
+use Prim.Native.Nat.{◌≤◌}
+use native.Mathlib.Omega.{arith}
+use Rattle.map_spec.specs.Map.{most_azimuth_size}
+use Rattle.map.proofs.QueryLaws.{Looking, looking_start, looking-place, looking-here, looking-on, looking-done}
+use borrow.Author.Rules.{rules}
+use Rattle.map.proofs.zone_code.Given as goal
+
+abbrev pub invariant-loop-left : goal.invariant-loop-left
+invariant-loop-left l = (l.at ≤ most_azimuth_size) × Looking l.part l.kilometre l.left l.at
+
+abbrev pub decreases-loop-left : goal.decreases-loop-left
+decreases-loop-left l = l.left
+

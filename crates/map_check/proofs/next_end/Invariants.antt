@@ -1,0 +1,15 @@
+use Prim.Native.Nat.{◌-◌, ◌≤◌}
+use lib.ListN.{length}
+use mathlib.Core.Path.{sym, ◌∙◌}
+use Rattle.wire.specs.Numbers.{Octets}
+use Rattle.map_spec.specs.Map.{halfword_numbers}
+use Rattle.map_check.proofs.RisingLaws.{Rising, rising_none, rising_start, rising-broken, rising-on, rising-done}
+use borrow.Author.Rules.{rules}
+use Rattle.map_check.proofs.next_end.Given as goal
+
+abbrev pub invariant-loop-at : goal.invariant-loop-at
+invariant-loop-at l = (l.at ≤ length l.zones) × (l.from ≤ halfword_numbers) × Rising l.zones l.zone l.from l.at
+
+abbrev pub decreases-loop-at : goal.decreases-loop-at
+decreases-loop-at l = length l.zones - l.at
+
