@@ -139,12 +139,7 @@ pub fn ulm_map(body: &[u8]) -> UlmMap
     c_map::map(body)
 }
 
-pub fn ulm_map_code(
-    body: &[u8],
-    elevation: u64,
-    azimuth: u64,
-    kilometre: u64,
-) -> UlmMapCode
+pub fn ulm_map_code(body: &[u8], elevation: u64, azimuth: u64, kilometre: u64) -> UlmMapCode
     ensures { result ≡ map_code_face (code_of body.now elevation azimuth kilometre) }
 {
     c_map::map_code(body, elevation, azimuth, kilometre)

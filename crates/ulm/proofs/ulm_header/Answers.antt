@@ -1,7 +1,6 @@
 use mathlib.Core.Path.{sym, ap, ◌∙◌}
 use Rattle.c_frame.specs.Face.{header_face}
 use Rattle.header.proofs.HeaderLaws.{short_read}
-use borrow.Author.Rules.{rules}
 use Rattle.ulm.proofs.ulm_header.Goals as goal
 
 pub returns-then-accepts_short : goal.returns-then-accepts_short
