@@ -7,4 +7,3 @@ invariant-loop-k l = l.k ≤ 7
 
 abbrev pub decreases-loop-k : goal.decreases-loop-k
 decreases-loop-k l = 7 - l.k
-

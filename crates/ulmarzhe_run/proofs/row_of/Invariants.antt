@@ -7,4 +7,3 @@ invariant-loop-k l = l.k ≤ 10
 
 abbrev pub decreases-loop-k : goal.decreases-loop-k
 decreases-loop-k l = 10 - l.k
-
