@@ -57,10 +57,7 @@ head_at-requires c =
     counted _ c.requires _ c.fetch16-count.ensures in
     let later : constants < c.args.k =
     omega (arith, c.if-k-eq0.false, c.if-k-eq1.false, c.if-k-eq2.false, c.if-k-eq3.false) in
-    let known : c.args.k ≤ count_in
-    c.args.body.now =
-    rw (← count_is) c.if-count-k.false in
-    block_inside _ c.requires _ _ (later) (known) c.fetch32-place.ensures
+    block_inside _ c.requires _ _ (later) (rw (← count_is) c.if-count-k.false) c.fetch32-place.ensures
 
 pub returns : goal.returns
 returns c =
@@ -68,9 +65,7 @@ returns c =
     counted _ c.requires _ c.fetch16-count.ensures in
     let later : constants < c.args.k =
     omega (arith, c.if-k-eq0.false, c.if-k-eq1.false, c.if-k-eq2.false, c.if-k-eq3.false) in
-    let known : c.args.k ≤ count_in
-    c.args.body.now =
-    rw (← count_is) c.if-count-k.false in
+    let known : c.args.k ≤ count_in c.args.body.now = rw (← count_is) c.if-count-k.false in
     c.moment_block.ensures
     ∙ ap (λ (h : MomentHead). given (some (moment_told h))) c.head_at.ensures
-    ∙ block-moment _ c.requires _ _ (later) (known) c.fetch32-place.ensures
+    ∙ block-moment _ c.requires _ _ later known c.fetch32-place.ensures
