@@ -35,7 +35,7 @@ pub fn run_lines(
             return end(rt, l, status);
         }
         status = status::worse(status, run_line(rt, l, window, sheet));
-        if status == NOT_DONE {
+        if NOT_DONE <= status {
             return status;
         }
         l = lines::next(l, window);

@@ -26,7 +26,7 @@ pub fn run(rt: &HostRuntime, window: &mut [u8; WINDOW], sheet: &mut [u8; SHEET])
     let mut i = 2;
     while i < count {
         status = status::worse(status, run_file(rt, i, window, sheet));
-        if status == NOT_DONE {
+        if NOT_DONE <= status {
             return status;
         }
         i += 1;

@@ -10,7 +10,7 @@ use ulmarzhe_text::output::Output;
 use ulmarzhe_text::page::SHEET;
 use ulmarzhe_text::status::{DONE, NOT_DONE, WRONG_WORDS};
 use ulmarzhe_text::window::WINDOW;
-use ulmarzhe_text::{files, output, system, words};
+use ulmarzhe_text::{files, output, status, system, words};
 
 pub fn salvage_recording(
     rt: &HostRuntime,
@@ -87,9 +87,10 @@ fn keep_frames(
 
 // Writes the account, and gives CLEAN its name.
 fn end(rt: &HostRuntime, out: Output, clean: &[u8], over: bool, sheet: &mut [u8; SHEET]) -> u8 {
-    if output::end(rt, out, sheet) != DONE {
+    let status = output::end(rt, out, sheet);
+    if status != DONE {
         clean::remove_part(rt, clean, sheet);
-        return NOT_DONE;
+        return status::worse(status, NOT_DONE);
     }
     if clean::take_name(rt, clean, over, sheet) {
         return DONE;

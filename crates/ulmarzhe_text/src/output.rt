@@ -1,8 +1,8 @@
 // Standard output: text is gathered on the page, which is written out when it is filled beyond a place.
 use crate::page::SHEET;
-use crate::status::{DONE, NO, NOT_DONE};
+use crate::status::{DONE, NO, NOT_DONE, NOT_READ};
 use crate::{page, status, system};
-use std::io::{Error, Print};
+use std::io::{Error, ErrorKind, Print};
 
 // How far the page is filled, and how the command has ended so far.
 #[derive(Clone, Copy)]
@@ -38,7 +38,7 @@ pub fn fail(o: Output) -> Output {
 }
 
 pub fn has_failed(o: Output) -> bool {
-    o.status == NOT_DONE
+    NOT_DONE <= o.status
 }
 
 // Writes the page out where it is filled beyond a place. Once something failed nothing more is written.
@@ -60,8 +60,14 @@ pub fn write(rt: &HostRuntime, o: Output, bytes: &[u8]) -> Output {
     }
 }
 
-// Says why standard output cannot be written, and drops what is on the page.
+// Says why standard output cannot be written, unless nobody reads it, and drops what is on the page.
 fn tell_failure(rt: &HostRuntime, o: Output, why: Error) -> Output {
+    if why.kind() == ErrorKind::BrokenPipe {
+        return Output {
+            at: 0,
+            status: NOT_READ,
+        };
+    }
     system::tell(rt, b"standard output", why);
     fail(fill(o, 0))
 }
