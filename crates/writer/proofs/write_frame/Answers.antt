@@ -1,3 +1,4 @@
+-- `write_frame` meets its contract: the heads, then the data, and the rest as it was. Assumes nothing.
 use Rattle.writer.proofs.FrameLaws.{heads-length, frame_done}
 use Rattle.writer_head.specs.Head.{heads_size}
 use lib.Seq.{length-take-le}
@@ -7,7 +8,6 @@ use Rattle.copy.proofs.CopyLaws.{copied-same}
 use borrow.Author.Rules.{rules}
 use Rattle.writer.proofs.write_frame.Goals as goal
 
--- `write_frame` meets its contract: the heads, then the data, and the rest as it was. Assumes nothing.
 pub slice_bounds-copy-end-3 : goal.slice_bounds-copy-end-3
 slice_bounds-copy-end-3 c =
     let args = c.args in

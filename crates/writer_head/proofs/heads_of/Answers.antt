@@ -1,3 +1,4 @@
+-- `heads_of` meets its contract: its bytes are those of the two tables. Assumes nothing.
 use mathlib.Core.Path.{◌≡◌, sym, ap, ◌∙◌}
 use mathlib.Core.List.{List, ◌++◌}
 use Prim.Native.Nat.{ℕ, ◌%◌}
@@ -10,7 +11,6 @@ use Rattle.writer_head.specs.Steps.{size_written, high_written, low_written}
 use Rattle.writer_head.proofs.HeadLaws.{header-bytes}
 use Rattle.writer_head.proofs.heads_of.Goals as goal
 
--- `heads_of` meets its contract: its bytes are those of the two tables. Assumes nothing.
 pub high_field-high-requires : goal.high_field-high-requires
 high_field-high-requires c = omega (arith, ap (λ (h : Halfwords). h.0) c.to_halfwords-half.ensures)
 
