@@ -1,5 +1,4 @@
 use Prim.Native.Nat.{◌-◌, ◌≤◌}
-use borrow.Author.Rules.{rules}
 use Rattle.ulmarzhe_run.proofs.put_help.Given as goal
 
 abbrev pub invariant-loop-k : goal.invariant-loop-k
@@ -7,4 +6,3 @@ invariant-loop-k l = l.k ≤ 7
 
 abbrev pub decreases-loop-k : goal.decreases-loop-k
 decreases-loop-k l = 7 - l.k
-
