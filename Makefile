@@ -33,14 +33,11 @@ show: program
 	$(PROGRAM) picture examples/sample.rec REF > build/sample.pgm
 	@echo 'build/sample.pgm is the picture of REF'
 
-# A C main over the crate ulmarzhe_run, since the language's own has no exit status. `rt` says which archive of its kit is to be linked
-# beside that crate's.
+# `rt run` proves and builds the program and then runs it: here it is asked for its help.
 program:
-	rt check ulmarzhe
 	mkdir -p build/obj
-	rt staticlib ulmarzhe_run >build/obj/said || { cat build/obj/said; exit 1; }
-	$(CC) $(FLAGS) -O2 program/main.c target/staticlib/libulmarzhe_run.a \
-	    "$$(sed -n 's/.*; link \(.*\) beside it$$/\1/p' build/obj/said)" $(LINK) -o $(PROGRAM)
+	cd crates/ulmarzhe && rt run -- help >/dev/null 2>../../build/obj/said || { cat ../../build/obj/said; exit 1; }
+	install -m 755 crates/ulmarzhe/out/ulmarzhe $(PROGRAM)
 
 test:
 	bash .ci/run

@@ -1,5 +1,4 @@
 use Prim.Native.Nat.{◌-◌, ◌≤◌}
-use borrow.Author.Rules.{rules}
 use Rattle.ulmarzhe_run.proofs.put_commands.Given as goal
 
 abbrev pub invariant-loop-k : goal.invariant-loop-k

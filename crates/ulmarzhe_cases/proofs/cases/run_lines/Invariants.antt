@@ -1,4 +1,3 @@
-use borrow.Author.Rules.{rules}
 use Rattle.ulmarzhe_cases.proofs.cases.run_lines.Given as goal
 
 abbrev pub invariant-loop-turns : goal.invariant-loop-turns

@@ -1,6 +1,4 @@
-use lib.ListN.{length}
 use Prim.Native.Nat.{◌-◌}
-use borrow.Author.Rules.{rules}
 use Rattle.ulmarzhe_cases.proofs.sink.say_bytes.Given as goal
 
 abbrev pub invariant-loop-i : goal.invariant-loop-i

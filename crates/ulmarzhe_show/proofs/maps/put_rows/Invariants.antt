@@ -1,4 +1,4 @@
-use Rattle.std.proofs.Common.{◌-◌, ◌≤◌, rules}
+use Rattle.std.proofs.Common.{◌-◌, ◌≤◌}
 use Rattle.ulmarzhe_show.proofs.maps.put_rows.Given as goal
 
 abbrev pub invariant-loop-pair : goal.invariant-loop-pair

@@ -1,4 +1,3 @@
-use Rattle.std.proofs.Common.{rules}
 use Rattle.ulmarzhe_show.proofs.recorded.find.Given as goal
 
 abbrev pub invariant-loop-turns : goal.invariant-loop-turns
