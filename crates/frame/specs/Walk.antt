@@ -1,6 +1,6 @@
 -- "Each frame in turn": one walk over a buffer from a place to the end. The reading of a set, a salvage and the order of a set's
 -- checks are instances of it.
-use Rattle.std.specs.Prelude.{ℕ, zero, suc, ◌+◌, List, [], ◌∷◌, ◌++◌, length, drop}
+use Rattle.std.specs.Prelude.{ℕ, zero, suc, List, [], ◌∷◌, ◌++◌, length, drop}
 use Rattle.wire.specs.Checks.{CheckOf, decide}
 use Rattle.wire.specs.Answers.{AnswerOf, refused, given}
 

@@ -1,6 +1,5 @@
 use Rattle.wire.proofs.FloatLaws.{zero_by_zero, nan_read, no_nan}
 use mathlib.Core.Path.{sym, ◌∙◌}
-use borrow.Author.Rules.{rules}
 use Rattle.wire.proofs.float_of.Goals as goal
 
 pub float_from_bits-result : goal.float_from_bits-result

@@ -1,7 +1,6 @@
 use Prim.Native.Nat.{suc, ◌+◌}
 use native.Mathlib.Omega.{arith}
 use mathlib.Core.Path.{◌≡◌}
-use borrow.Author.Rules.{rules}
 use lib.ListN.{length-set}
 use Rattle.wire.specs.Numbers.{be}
 use Rattle.wire.proofs.SheetLaws.{laid_sets}

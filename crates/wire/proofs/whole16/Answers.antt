@@ -1,7 +1,6 @@
 use Prim.Native.Nat.{◌+◌}
 use native.Mathlib.Omega.{arith}
 use Rattle.wire.proofs.NumberLaws.{num-one, num_beside}
-use borrow.Author.Rules.{rules}
 use Rattle.wire.proofs.whole16.Goals as goal
 
 pub returns : goal.returns

@@ -1,6 +1,5 @@
 use native.Mathlib.Omega.{arith}
 use Rattle.wire.proofs.NumberLaws.{num_beside}
-use borrow.Author.Rules.{rules}
 use Rattle.wire.proofs.whole32.Goals as goal
 
 pub returns : goal.returns
