@@ -8,7 +8,7 @@ use lib.Dec.{ltb, eqb}
 use lib.ListN.{length}
 use borrow.Author.Tests.{ltb-false, eqb-true, not-false, le-ltb, eq-eqb}
 use Rattle.wire.specs.Numbers.{num, Octets}
-use Rattle.wire.specs.Checks.{Check, first, AllHold}
+use Rattle.wire.specs.Checks.{Check, AllHold}
 use Rattle.wire.specs.Tables.{total, Spells}
 use Rattle.wire.specs.Answers.{refused, given}
 use Rattle.wire.proofs.CheckLaws.{all_hold, none_broken, decide-none}
