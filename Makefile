@@ -2,7 +2,7 @@
 #
 #   make show                   proves and builds the program, and shows the sample recording by it
 #   make program                proves and builds the program: build/ulmarzhe
-#   make lib                    proves crate ulm and writes build/libulm.a and build/ulm.h
+#   make lib                    proves the library and writes build/libulm.a and build/ulm.h
 #   make install PREFIX=DIR     puts program, manual, archive, header and a pkg-config file under DIR
 #   make check                  the tests in C and Rust, against ARCHIVE, and those of the program
 #   make fuzz SECONDS=60 SEED=7 the differential test for as long as asked
@@ -33,22 +33,19 @@ show: program
 	$(PROGRAM) picture examples/sample.rec REF > build/sample.pgm
 	@echo 'build/sample.pgm is the picture of REF'
 
-# A C main over the crate ulmarzhe_run, since the language's own has no exit status. `rt` says which archive of its kit is to be linked
-# beside that crate's.
+# `rt run` proves and builds the program and then runs it: here it is asked for its help.
 program:
-	rt check ulmarzhe
 	mkdir -p build/obj
-	rt staticlib ulmarzhe_run >build/obj/said || { cat build/obj/said; exit 1; }
-	$(CC) $(FLAGS) -O2 program/main.c target/staticlib/libulmarzhe_run.a \
-	    "$$(sed -n 's/.*; link \(.*\) beside it$$/\1/p' build/obj/said)" $(LINK) -o $(PROGRAM)
+	cd crates/ulmarzhe && rt run -- help >/dev/null 2>../../build/obj/said || { cat ../../build/obj/said; exit 1; }
+	install -m 755 crates/ulmarzhe/out/ulmarzhe $(PROGRAM)
 
 test:
 	bash .ci/run
 
 lib:
-	rt staticlib ulm
+	cd crates/ulm_c && rt lib
 	mkdir -p build
-	cp target/staticlib/libulm.a build/libulm.a
+	cp crates/ulm_c/out/libulm_c.a build/libulm.a
 	cp include/ulm.h build/ulm.h
 
 install: $(ARCHIVE) $(PROGRAM)

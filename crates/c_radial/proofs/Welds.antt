@@ -13,10 +13,10 @@ radial-says κs body r last l = l
 pub radial-one : (κs body r r₂ last last₂ : _) → radial.Learnt κs (body, tt) r last → radial.Learnt κs (body, tt) r₂ last₂ → r ≡ r₂
 radial-one κs body r r₂ last last₂ l l₂ = l ∙ sym l₂
 
-pub block_says_lem : (κs body block r last : _) → Block_of.Learnt κs (body, (block, tt)) r last → r ≡ block_face (block_of body.now block)
-block_says_lem κs body block r last l = l
+pub block-says : (κs body block r last : _) → Block_of.Learnt κs (body, (block, tt)) r last → r ≡ block_face (block_of body.now block)
+block-says κs body block r last l = l
 
-pub block_one : (κs body block r r₂ last last₂ : _) → Block_of.Learnt κs (body, (block, tt)) r last
+pub block-one : (κs body block r r₂ last last₂ : _) → Block_of.Learnt κs (body, (block, tt)) r last
     → Block_of.Learnt κs (body, (block, tt)) r₂ last₂
     → r ≡ r₂
-block_one κs body block r r₂ last last₂ l l₂ = l ∙ sym l₂
+block-one κs body block r r₂ last last₂ l l₂ = l ∙ sym l₂

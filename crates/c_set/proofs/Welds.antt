@@ -6,9 +6,9 @@ use Rattle.set_spec.specs.Walk.{set_of}
 use Rattle.c_set.specs.Face.{set_face}
 use Rattle.c_set.proofs.set.Reads as set
 
-pub set_says : (κs buf out r buf' out' : _) → set.Learnt κs (buf, (out, tt)) r (buf', (out', tt))
+pub set-says : (κs buf out r buf' out' : _) → set.Learnt κs (buf, (out, tt)) r (buf', (out', tt))
     → Leaves set_face (set_of buf.now out.now) r out'.now
-set_says κs buf out r buf' out' l = l
+set-says κs buf out r buf' out' l = l
 
 pub set-one : (κs buf out r r₂ buf' out' buf'' out'' : _) → set.Learnt κs (buf, (out, tt)) r (buf', (out', tt))
     → set.Learnt κs (buf, (out, tt)) r₂ (buf'', (out'', tt)) → (r ≡ r₂) × (out'.now ≡ out''.now)

@@ -1,11 +1,11 @@
 -- Demand 1. Assumes nothing.
-use Prim.Native.Nat.{ℕ, ◌+◌}
+use Prim.Native.Nat.{ℕ}
 use mathlib.Core.Path.{refl}
 use mathlib.Core.List.{List, ◌++◌}
 use lib.ListN.{drop}
 use Rattle.form_spec.specs.Forms.{numbers_in, body_checks}
 use Rattle.wire.specs.Numbers.{num}
-use Rattle.wire.specs.Answers.{given, number_of}
+use Rattle.wire.specs.Answers.{number_of}
 use Rattle.frame.specs.Session.{frame_at}
 use Rattle.frame.specs.Told.{tell_frame}
 use Rattle.frame.proofs.Welds.{frame_apart}

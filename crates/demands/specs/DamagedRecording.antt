@@ -4,7 +4,7 @@
 use Rattle.std.specs.Prelude.{ℕ, suc, ◌+◌, ◌*◌, ◌/◌, ◌≤◌, ◌<◌, ◌≡◌, length, take}
 use mathlib.Core.List.{List, flatten}
 use contract.Lifetimes.{Lfts}
-use denote.Ref.{MutBor, at_last}
+use denote.Ref.{Bor, MutBor, at_last}
 use Rattle.wire.specs.Properties.{One}
 use Rattle.wire.specs.Answers.{refused}
 use Rattle.wire.specs.Writing.{filled}
@@ -23,10 +23,10 @@ use Rattle.demands.specs.Notions.{Comes}
 -- a call of either: its lifetimes, the buffer and the outputs of bytes and of runs that it is lent, and the buffer as it leaves it
 pub record Call : Type 0 where
   pub κs : Lfts 3
-  pub buf : MutBor (List ℕ)
+  pub buf : Bor (List ℕ)
   pub out : MutBor (List ℕ)
   pub runs : MutBor (List ℕ)
-  pub buf' : MutBor (List ℕ)
+  pub buf' : Bor (List ℕ)
 
 -- what the contract says of a call that returned r and left these two in the outputs: of `salvage`, and of `ulm_salvage`
 abbrev pub Salvages : Call → SalvageAnswer → List ℕ × List ℕ → Type 0

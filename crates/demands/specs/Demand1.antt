@@ -4,7 +4,7 @@
 -- first broken check, all earlier ones hold; and a refusal leaves what was lent as it was. That each call ends with a result that meets the
 -- contract is the function's own proof, in its crate.
 use Rattle.std.specs.Prelude.{ℕ, ◌+◌, ◌≡◌, List, ◌++◌, length, drop}
-use denote.Ref.{MutBor, at_last}
+use denote.Ref.{Bor, at_last}
 use Rattle.wire.specs.Numbers.{num, Octets}
 use Rattle.form_spec.specs.Forms.{body_checks, list_checks, body_by}
 use Rattle.wire.specs.Answers.{refused, number_of}
@@ -63,20 +63,20 @@ use Rattle.demands.specs.Orders.{stream_checks, set_checks, moment_checks, coded
 
 -- ---- gates handed over: "an empty part where gates are handed over" on a refusal
 -- the part p of a lent body
-abbrev pub cut_at : MutBor (List ℕ) → Part → MutBor (List ℕ)
-cut_at body p = record { ref_ptr = (body.ref_ptr.0, body.ref_ptr.1 + p.place); ghost_name = body.ghost_name; now = bytes_in body.now p }
+abbrev pub cut_at : Bor (List ℕ) → Part → Bor (List ℕ)
+cut_at body p = record { ref_ptr = (body.ref_ptr.0, body.ref_ptr.1 + p.place); now = bytes_in body.now p }
 
 -- a part of the lent body meets the contract, any two that do have the same memory and bytes, and it lies where the rule says
-pub record KeptPart (P : MutBor (List ℕ) → Type 0) (body : MutBor (List ℕ)) (name : ℕ) : Type 0 where
+pub record KeptPart (P : Bor (List ℕ) → Type 0) (body : Bor (List ℕ)) (name : ℕ) : Type 0 where
   pub met : Octets body.now → P (cut_at body (part_of (gates_of body.now name)))
-  pub only : (r r₂ : MutBor (List ℕ)) → P r → P r₂ → SamePart r r₂
-  pub lies : (r : MutBor (List ℕ)) → P r → LiesAt body r (part_of (gates_of body.now name))
-  pub empty : (r : MutBor (List ℕ)) (n : ℕ) → P r → gates_of body.now name ≡ refused n → length r.now ≡ 0
+  pub only : (r r₂ : Bor (List ℕ)) → P r → P r₂ → SamePart r r₂
+  pub lies : (r : Bor (List ℕ)) → P r → LiesAt body r (part_of (gates_of body.now name))
+  pub empty : (r : Bor (List ℕ)) (n : ℕ) → P r → gates_of body.now name ≡ refused n → length r.now ≡ 0
   pub by_checks : ByChecks (moment_checks body.now name) (gates_of body.now name)
 
 -- number, count and part together; on a refusal "its number and count 0", and an empty part. `Lent body name` is the contract of `lent`
 -- itself
-pub record KeptLentGates (body : MutBor (List ℕ)) (name : ℕ) : Type 0 where
+pub record KeptLentGates (body : Bor (List ℕ)) (name : ℕ) : Type 0 where
   pub met : Octets body.now
       → Lent body name (record {
         number = number_of (moment_of body.now name);
@@ -122,7 +122,7 @@ pub record Demand1 : Type 0 where
       (code_shown (coded_of body.now (num 4 name 0) gate))
   -- `gates`, `lent`
   pub gates : (κs body name s : _) → KeptPart (λ r. gates_of_reads.Learnt κs (body, (name, tt)) r s) body (num 4 name 0)
-  pub lent : (body : MutBor (List ℕ)) (name : ℕ) → KeptLentGates body name
+  pub lent : (body : Bor (List ℕ)) (name : ℕ) → KeptLentGates body name
   -- `gate_value`, `value`
   pub gate : (κs body name gate s : _)
       → Kept (λ r. gate_value.Learnt κs (body, (name, (gate, tt))) r s) tell_gate (gate_checks body.now (num 4 name 0) gate)

@@ -3,7 +3,7 @@
 -- room, comes back with body, channel, type, sequence number, date and milliseconds". `Fits`, `Octets`: numbers given are of their types,
 -- bytes are bytes.
 use Rattle.std.specs.Prelude.{ℕ, ◌+◌, ◌*◌, ◌≤◌, ◌≡◌, ◌↔◌, List, [], ◌∷◌, length, take, drop}
-use denote.Ref.{at_last}
+use denote.Ref.{Bor, MutBor, at_last}
 use Rattle.form_spec.specs.Forms.{body_by}
 use Rattle.wire.specs.Numbers.{Octets}
 use Rattle.wire.specs.Tables.{render, Holds}
@@ -77,33 +77,33 @@ given_by channel kind sequence date ms = record { channel = channel; kind = kind
 
 pub record Demand2 : Type 1 where
   -- ---- what is read
-  pub frame : (κs stream place f s : _) → Octets stream.now → frame_at.Learnt κs (stream, (place, tt)) (Read f) s
+  pub frame : (κs : _) (stream : Bor (List ℕ)) (place f s : _) → Octets stream.now → frame_at.Learnt κs (stream, (place, tt)) (Read f) s
       → Holds stream.now place (render (head_table f.kind f.second f.size))
-  pub header : (κs message h s : _) → Octets message.now → read_header.Learnt κs (message, tt) (ReadHeader h) s → Stands message.now h
+  pub header : (κs : _) (message : Bor (List ℕ)) (h s : _) → Octets message.now → read_header.Learnt κs (message, tt) (ReadHeader h) s → Stands message.now h
   -- a segment's data begins after both heads, and its frame ends with its body
-  pub segment : (κs frames at h start next s : _) → segment_at.Learnt κs (frames, (at, tt)) (Segment h start next) s
+  pub segment : (κs : _) (frames : Bor (List ℕ)) (at h start next s : _) → segment_at.Learnt κs (frames, (at, tt)) (Segment h start next) s
       → (start ≡ at + (head_size + header_size)) × (next ≡ at + whole_long (drop at frames.now))
   -- messages 9, 8 and 15: the whole body, and nothing else
-  pub request : (κs body code s : _) → Octets body.now → read_request.Learnt κs (body, tt) (Code code) s
+  pub request : (κs : _) (body : Bor (List ℕ)) (code s : _) → Octets body.now → read_request.Learnt κs (body, tt) (Code code) s
       → body.now ≡ body_by request_form (code ∷ [])
-  pub censor : (κs body r s : _) → Octets body.now → read_censor.Learnt κs (body, tt) r s → r.number ≡ 0
+  pub censor : (κs : _) (body : Bor (List ℕ)) (r s : _) → Octets body.now → read_censor.Learnt κs (body, tt) r s → r.number ≡ 0
       → body.now ≡ body_by censor_form (r.count ∷ take (region_fields * r.count) r.regions)
-  pub map : (κs body date minutes elevations s : _) → Octets body.now → check_map.Learnt κs (body, tt) (Map date minutes elevations) s
+  pub map : (κs : _) (body : Bor (List ℕ)) (date minutes elevations s : _) → Octets body.now → check_map.Learnt κs (body, tt) (Map date minutes elevations) s
       → MapStands body.now (record { date = date; minutes = minutes; elevations = elevations })
   -- `read_set` accepts exactly the whole sets that the output has room for
-  pub whole : (κs frames out h long f after : _)
+  pub whole : (κs : _) (frames : Bor (List ℕ)) (out : MutBor (List ℕ)) (h long f after : _)
       → read_set.Learnt κs (frames, (out, tt)) (Set h long) (f, (at_last out after, tt)) ↔ Joins frames.now out.now h long after
   -- ---- what is written and read again
   -- what `write_message` accepted and wrote, given to `read_set` with room for the body, is answered with the header of what was given, N
   -- and number 1, and the length of the body; and the room holds the body and, after it, what it held. For every body and type.
-  pub back : (κs given body out size g b written : _) (κs' frames room r f after : _) → Fits given
+  pub back : (κs given : _) (body : Bor (List ℕ)) (out size g b written : _) (κs' : _) (frames : Bor (List ℕ)) (room : MutBor (List ℕ)) (r f after : _) → Fits given
       → write_message.Learnt κs (given, (body, (out, tt))) (Written size) (g, (b, (at_last out written, tt)))
       → frames.now ≡ take size.0 written
       → length body.now ≤ length room.now
       → read_set.Learnt κs' (frames, (room, tt)) r (f, (at_last room after, tt))
       → (r ≡ Set (header_back given body.now) (bytes (length body.now))) × (after ≡ filled body.now room.now)
   -- the same of `ulm_write` and `ulm_set`
-  pub back_in_c : (κs channel kind sequence date ms body out r c k q d m b written : _) (κs' frames room a f after : _)
+  pub back_in_c : (κs channel kind sequence date ms : _) (body : Bor (List ℕ)) (out r c k q d m b written : _) (κs' : _) (frames : Bor (List ℕ)) (room : MutBor (List ℕ)) (a f after : _)
       → Fits (given_by channel kind sequence date ms)
       → ulm_write.Learnt κs (channel, (kind, (sequence, (date, (ms, (body, (out, tt))))))) r
       (c, (k, (q, (d, (m, (b, (at_last out written, tt)))))))

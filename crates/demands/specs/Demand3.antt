@@ -2,8 +2,8 @@
 -- any reader, and agrees with the body at every byte that it names. Then there is only one, and it is what we hand over. With the length
 -- kept, altering any byte that the description does not name alters no answer about that radial."
 use Rattle.std.specs.Prelude.{ℕ, ◌≡◌, ◌↔◌, length, get_or}
+use denote.Ref.{Bor}
 use mathlib.Core.List.{List, map, Memᴰ}
-use Rattle.std.specs.Borrow.{Bor, MutBor}
 use Rattle.wire.specs.Numbers.{num, Octets}
 use Rattle.wire.specs.Tables.{field, render}
 use Rattle.wire.specs.Answers.{given}
@@ -45,7 +45,7 @@ pub record SameFromEach (body body' : Bor (List ℕ)) : Type 0 where
   pub whole : (κs k s : _) (l : Lying) → block_at.Learnt κs (body, (k, tt)) (Constant l) s
       → bytes_in body'.now (record { place = l.place; size = l.size }) ≡ bytes_in body.now (record { place = l.place; size = l.size })
   -- `gates`, `lent`: the part lies at the same place of its body, is as long, and holds the same bytes
-  pub gates : (κs κs' name r r' s s' : _) → gates_of_reads.Learnt κs (body, (name, tt)) r s → gates_of_reads.Learnt κs' (body', (name, tt)) r' s'
+  pub gates : (κs κs' name : _) (r r' : Bor (List ℕ)) (s s' : _) → gates_of_reads.Learnt κs (body, (name, tt)) r s → gates_of_reads.Learnt κs' (body', (name, tt)) r' s'
       → (part_of (gates_of body.now (num 4 name 0)) ≡ part_of (gates_of body'.now (num 4 name 0))) × (r.now ≡ r'.now)
   pub lent : (name : ℕ) (r r' : LentGates) → Lent body name r → Lent body' name r'
       → (r.number ≡ r'.number) × (r.gates ≡ r'.gates) × (part_of (gates_of body.now name) ≡ part_of (gates_of body'.now name))
@@ -74,20 +74,20 @@ pub record Demand3 : Type 0 where
   pub exactly : Exactly
   pub unique : Unique
   -- "it is what we hand over": by `read_radial` with the lent body, and by `ulm_radial` and `ulm_block`
-  pub handed : (κs body r s : _) (d : Description) → Octets body.now → read_radial.Learnt κs (body, tt) r s
+  pub handed : (κs : _) (body : Bor (List ℕ)) (r s : _) (d : Description) → Octets body.now → read_radial.Learnt κs (body, tt) r s
       → (handed r body.now ≡ given d) ↔ (Layout (length body.now) d × Agrees body.now d)
   pub handed_to_c : HandedToC
   -- each moment of the description is found under its own name, and nothing else is; its gates are handed over as the rendering of its
   -- codes
   pub found : FoundByName
   pub none : NoneNamed
-  pub looked_up : (κs body name r s : _) (d : Description) (m : Moment) → radial_of body.now ≡ given d → Memᴰ m d.moments
+  pub looked_up : (κs : _) (body : Bor (List ℕ)) (name r s : _) (d : Description) (m : Moment) → radial_of body.now ≡ given d → Memᴰ m d.moments
       → m.name ≡ num 4 name 0
       → moment_of_reads.Learnt κs (body, (name, tt)) r s → r ≡ Found (head_of m)
-  pub words : (κs body name r s : _) (m : Moment) → Octets body.now → moment_of body.now (num 4 name 0) ≡ given m
+  pub words : (κs : _) (body : Bor (List ℕ)) (name : _) (r : Bor (List ℕ)) (s : _) (m : Moment) → Octets body.now → moment_of body.now (num 4 name 0) ≡ given m
       → gates_of_reads.Learnt κs (body, (name, tt)) r s
       → r.now ≡ render (map (field (word_bytes m)) m.codes)
   -- what the description names, and what it does not
   pub named : NamedExactly
   pub places : UnnamedPlaces
-  pub unnamed : (body body' : MutBor (List ℕ)) (d : Description) → ButUnnamed body.now body'.now d → SameFromEach body body'
+  pub unnamed : (body body' : Bor (List ℕ)) (d : Description) → ButUnnamed body.now body'.now d → SameFromEach body body'

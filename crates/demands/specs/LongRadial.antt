@@ -2,7 +2,7 @@
 -- first, hold the length in bytes with the 16-byte header". Of every call of the compiled functions, as Notions says it; what Demand1,
 -- Demand2 and Wall say, they say of both forms.
 use Rattle.std.specs.Prelude.{ℕ, ◌+◌, ◌*◌, ◌≤◌, ◌<◌, ◌≡◌, ◌↔◌, List, length, get_or}
-use denote.Ref.{MutBor, at_last}
+use denote.Ref.{Bor, at_last}
 use Rattle.wire.specs.Numbers.{num, Octets}
 use Rattle.wire.specs.Checks.{pick}
 use Rattle.wire.specs.Answers.{given}
@@ -37,44 +37,44 @@ most_said = 65535
 
 pub record LongRadial : Type 1 where
   -- ---- the header: "even, 131,070 to 1,048,576, equal to the frame's body, otherwise 5"
-  pub accepted : (κs message r s : _) → Long message.now → read_header.Learnt κs (message, tt) r s
+  pub accepted : (κs : _) (message : Bor (List ℕ)) (r s : _) → Long message.now → read_header.Learnt κs (message, tt) r s
       → (r ≡ Read (header_in message.now)) ↔ (LengthHolds message.now × TimeHolds message.now)
-  pub counts : (κs message h s : _) → Long message.now → read_header.Learnt κs (message, tt) (Read h) s → CountsAsOne message.now h
-  pub wrong_length : (κs message r s : _) → Long message.now → (LengthHolds message.now → ⊥)
+  pub counts : (κs : _) (message : Bor (List ℕ)) (h s : _) → Long message.now → read_header.Learnt κs (message, tt) (Read h) s → CountsAsOne message.now h
+  pub wrong_length : (κs : _) (message : Bor (List ℕ)) (r s : _) → Long message.now → (LengthHolds message.now → ⊥)
       → read_header.Learnt κs (message, tt) r s → r ≡ Refused 5
-  pub wrong_time : (κs message r s : _) → Long message.now → LengthHolds message.now → (TimeHolds message.now → ⊥)
+  pub wrong_time : (κs : _) (message : Bor (List ℕ)) (r s : _) → Long message.now → LengthHolds message.now → (TimeHolds message.now → ⊥)
       → read_header.Learnt κs (message, tt) r s → r ≡ Refused 8
   -- "Only type 31 may use it: a type not permitted still gets 6, any other type with size 65,535 gets 7, and 5 isn't tested for them."
-  pub other : (κs message r s : _) → header_size ≤ length message.now → num 2 message.now 0 ≡ long_mark.0
+  pub other : (κs : _) (message : Bor (List ℕ)) (r s : _) → header_size ≤ length message.now → num 2 message.now 0 ≡ long_mark.0
       → (num 1 message.now 3 ≡ radial_type → ⊥) → read_header.Learnt κs (message, tt) r s
       → r ≡ Refused (pick (not_permitted (num 1 message.now 3)) 6 7)
   -- "without K1's freedom": with another number in any two of the four bytes of the length the message is refused as 5
-  pub fixed : (κs κs' message message' h r' s s' place : _) → Octets message.now → Octets message'.now → Long message.now
+  pub fixed : (κs κs' : _) (message message' : Bor (List ℕ)) (h r' s s' place : _) → Octets message.now → Octets message'.now → Long message.now
       → count_place ≤ place → place ≤ number_place → ButTwoBytes place message.now message'.now → (message.now ≡ message'.now → ⊥)
       → read_header.Learnt κs (message, tt) (Read h) s → read_header.Learnt κs' (message', tt) r' s' → r' ≡ Refused 5
   -- in both forms the size is the true one, and the form goes by it
-  pub size : (κs message h s : _) → read_header.Learnt κs (message, tt) (Read h) s
+  pub size : (κs : _) (message : Bor (List ℕ)) (h s : _) → read_header.Learnt κs (message, tt) (Read h) s
       → (h.size.0 * 2 ≡ length message.now) × (too_large h.size ≡ is_long (stored_in message.now))
   -- the same of `ulm_header`
-  pub accepted_for_c : (κs message r s : _) → Long message.now → ulm_header.Learnt κs (message, tt) r s
+  pub accepted_for_c : (κs : _) (message : Bor (List ℕ)) (r s : _) → Long message.now → ulm_header.Learnt κs (message, tt) r s
       → (r.refusal ≡ 0) ↔ (LengthHolds message.now × TimeHolds message.now)
-  pub counts_for_c : (κs message r s : _) → Long message.now → ulm_header.Learnt κs (message, tt) r s → r.refusal ≡ 0
+  pub counts_for_c : (κs : _) (message : Bor (List ℕ)) (r s : _) → Long message.now → ulm_header.Learnt κs (message, tt) r s → r.refusal ≡ 0
       → CountsInC message.now r
-  pub wrong_for_c : (κs message r s : _) → Long message.now → (LengthHolds message.now → ⊥) → ulm_header.Learnt κs (message, tt) r s
+  pub wrong_for_c : (κs : _) (message : Bor (List ℕ)) (r s : _) → Long message.now → (LengthHolds message.now → ⊥) → ulm_header.Learnt κs (message, tt) r s
       → r.refusal ≡ 5
-  pub late_for_c : (κs message r s : _) → Long message.now → LengthHolds message.now → (TimeHolds message.now → ⊥)
+  pub late_for_c : (κs : _) (message : Bor (List ℕ)) (r s : _) → Long message.now → LengthHolds message.now → (TimeHolds message.now → ⊥)
       → ulm_header.Learnt κs (message, tt) r s → r.refusal ≡ 8
-  pub other_for_c : (κs message r s : _) → header_size ≤ length message.now → num 2 message.now 0 ≡ long_mark.0
+  pub other_for_c : (κs : _) (message : Bor (List ℕ)) (r s : _) → header_size ≤ length message.now → num 2 message.now 0 ≡ long_mark.0
       → (num 1 message.now 3 ≡ radial_type → ⊥) → ulm_header.Learnt κs (message, tt) r s
       → r.refusal ≡ pick (not_permitted (num 1 message.now 3)) 6 7
-  pub fixed_for_c : (κs κs' message message' r r' s s' place : _) → Octets message.now → Octets message'.now → Long message.now
+  pub fixed_for_c : (κs κs' : _) (message message' : Bor (List ℕ)) (r r' s s' place : _) → Octets message.now → Octets message'.now → Long message.now
       → count_place ≤ place → place ≤ number_place → ButTwoBytes place message.now message'.now → (message.now ≡ message'.now → ⊥)
       → ulm_header.Learnt κs (message, tt) r s → r.refusal ≡ 0 → ulm_header.Learnt κs' (message', tt) r' s' → r'.refusal ≡ 5
   -- ---- the writer: "uses the long form exactly when the short one can't hold the length"
-  pub written : (κs given body out size g b after : _)
+  pub written : (κs given : _) (body : Bor (List ℕ)) (out size g b after : _)
       → write_message.Learnt κs (given, (body, (out, tt))) (Written size) (g, (b, (at_last out after, tt))) → given.kind ≡ radial_type
       → RadialForm body.now after
-  pub written_for_c : (κs channel kind sequence date ms body out r c k q d m b after : _)
+  pub written_for_c : (κs channel kind sequence date ms : _) (body : Bor (List ℕ)) (out r c k q d m b after : _)
       → ulm_write.Learnt κs (channel, (kind, (sequence, (date, (ms, (body, (out, tt))))))) r
       (c, (k, (q, (d, (m, (b, (at_last out after, tt)))))))
       → r.refusal ≡ 0
@@ -83,7 +83,7 @@ pub record LongRadial : Type 1 where
   -- ---- the radial: "The radial length field is unchanged, so the extra bytes are ones that the description doesn't name."
   pub never_named : (b : List ℕ) (d : Description) (i : ℕ) → Octets b → radial_of b ≡ given d → most_said ≤ i → Named d i → ⊥
   -- so, with the length kept, they alter no answer, and no gate on the wall lies there
-  pub beyond : (body body' : MutBor (List ℕ)) (d : Description) → Octets body.now → length body'.now ≡ length body.now
+  pub beyond : (body body' : Bor (List ℕ)) (d : Description) → Octets body.now → length body'.now ≡ length body.now
       → radial_of body.now ≡ given d
       → ((i : ℕ) → i < most_said → get_or body'.now i 0 ≡ get_or body.now i 0)
       → SameFromEach body body'

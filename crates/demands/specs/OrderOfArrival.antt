@@ -5,7 +5,7 @@
 use Rattle.std.specs.Prelude.{ℕ, ◌≡◌, length}
 use mathlib.Core.List.{List, [], ◌∷◌, ◌++◌, flatten, Memᴰ}
 use contract.Lifetimes.{Lfts}
-use denote.Ref.{MutBor, at_last}
+use denote.Ref.{Bor, MutBor, at_last}
 use Rattle.wire.specs.Properties.{One}
 use Rattle.wire.specs.Sizes.{bytes}
 use Rattle.wire.specs.Writing.{filled}
@@ -29,9 +29,9 @@ use Rattle.demands.specs.LoneSegment.{ButLoneNumber}
 -- a call of either: its lifetimes, the buffer and the output that it is lent, and the buffer as it leaves it
 pub record Call : Type 0 where
   pub κs : Lfts 2
-  pub buf : MutBor (List ℕ)
+  pub buf : Bor (List ℕ)
   pub out : MutBor (List ℕ)
-  pub buf' : MutBor (List ℕ)
+  pub buf' : Bor (List ℕ)
 
 -- what the contract says of a call that returned r and left this in the output: of `read_set`, and of `ulm_set`
 abbrev pub Reads : Call → SetAnswer → List ℕ → Type 0

@@ -2,7 +2,7 @@
 -- listed, over the codes of the two maps: sound, complete, of longest runs and in order.
 use Rattle.std.specs.Prelude.{ℕ, ◌*◌, ◌≤◌, ◌<◌, ◌≡◌, List, map, length}
 use contract.Lifetimes.{Lfts}
-use denote.Ref.{MutBor, at_last}
+use denote.Ref.{Bor, MutBor, at_last}
 use Rattle.wire.specs.Properties.{One}
 use Rattle.wire.specs.Numbers.{Octets}
 use Rattle.wire.specs.Answers.{refused, given}
@@ -23,11 +23,11 @@ use Rattle.demands.specs.Notions.{Comes}
 -- a call of either: its lifetimes, the two bodies and the output that it is lent, and the bodies as it leaves them
 pub record Call : Type 0 where
   pub κs : Lfts 3
-  pub old : MutBor (List ℕ)
-  pub new : MutBor (List ℕ)
+  pub old : Bor (List ℕ)
+  pub new : Bor (List ℕ)
   pub out : MutBor (List ℕ)
-  pub old' : MutBor (List ℕ)
-  pub new' : MutBor (List ℕ)
+  pub old' : Bor (List ℕ)
+  pub new' : Bor (List ℕ)
 
 -- what the contract says of a call that returned r and left `after` in the output: of `compare`, and of `ulm_compare_maps`
 abbrev pub Compares : Call → CompareAnswer → List ℕ → Type 0

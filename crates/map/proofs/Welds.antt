@@ -38,8 +38,8 @@ pub code_at-says : (κs body elevation azimuth kilometre r last : _)
     → tell_code r ≡ code_of body.now elevation azimuth kilometre
 code_at-says κs body elevation azimuth kilometre r last l = l
 
-pub code_at_one : (κs body elevation azimuth kilometre r r₂ last last₂ : _)
+pub code_at-one : (κs body elevation azimuth kilometre r r₂ last last₂ : _)
     → code_at.Learnt κs (body, (elevation, (azimuth, (kilometre, tt)))) r last
     → code_at.Learnt κs (body, (elevation, (azimuth, (kilometre, tt)))) r₂ last₂ → r ≡ r₂
-code_at_one κs body elevation azimuth kilometre r r₂ last last₂ l l₂ =
+code_at-one κs body elevation azimuth kilometre r r₂ last last₂ l l₂ =
     only_answer tell_code code_apart (code_of body.now elevation azimuth kilometre) r r₂ l l₂

@@ -74,9 +74,9 @@ pub read_radial-one : (κs body r r₂ last last₂ : _) → read_radial.Learnt 
     → read_radial.Learnt κs (body, tt) r₂ last₂ → r ≡ r₂
 read_radial-one κs body r r₂ last last₂ l l₂ = l ∙ sym l₂
 
-pub moment_says_lem : (κs body name r last : _) → moment.Learnt κs (body, (name, tt)) r last
+pub moment-says : (κs body name r last : _) → moment.Learnt κs (body, (name, tt)) r last
     → tell_moment r ≡ head_shown (moment_of body.now (num 4 name 0))
-moment_says_lem κs body name r last l = l
+moment-says κs body name r last l = l
 
 pub moment-one : (κs body name r r₂ last last₂ : _) → moment.Learnt κs (body, (name, tt)) r last
     → moment.Learnt κs (body, (name, tt)) r₂ last₂
@@ -88,13 +88,13 @@ pub code-says : (κs body name gate r last : _) → code.Learnt κs (body, (name
     → tell_coded r ≡ code_shown (coded_of body.now (num 4 name 0) gate)
 code-says κs body name gate r last l = l
 
-pub code_one : (κs body name gate r r₂ last last₂ : _) → code.Learnt κs (body, (name, (gate, tt))) r last
+pub code-one : (κs body name gate r r₂ last last₂ : _) → code.Learnt κs (body, (name, (gate, tt))) r last
     → code.Learnt κs (body, (name, (gate, tt))) r₂ last₂ → r ≡ r₂
-code_one κs body name gate r r₂ last last₂ l l₂ = only_answer tell_coded code_apart
+code-one κs body name gate r r₂ last last₂ l l₂ = only_answer tell_coded code_apart
     (code_shown (coded_of body.now (num 4 name 0) gate)) r r₂ l l₂
 
-pub block_says_lem : (κs body k r last : _) → block.Learnt κs (body, (k, tt)) r last → tell_block r ≡ block_shown (block_of body.now k)
-block_says_lem κs body k r last l = l
+pub block-says : (κs body k r last : _) → block.Learnt κs (body, (k, tt)) r last → tell_block r ≡ block_shown (block_of body.now k)
+block-says κs body k r last l = l
 
-pub block_one : (κs body k r r₂ last last₂ : _) → block.Learnt κs (body, (k, tt)) r last → block.Learnt κs (body, (k, tt)) r₂ last₂ → r ≡ r₂
-block_one κs body k r r₂ last last₂ l l₂ = only_answer tell_block block_apart (block_shown (block_of body.now k)) r r₂ l l₂
+pub block-one : (κs body k r r₂ last last₂ : _) → block.Learnt κs (body, (k, tt)) r last → block.Learnt κs (body, (k, tt)) r₂ last₂ → r ≡ r₂
+block-one κs body k r r₂ last last₂ l l₂ = only_answer tell_block block_apart (block_shown (block_of body.now k)) r r₂ l l₂

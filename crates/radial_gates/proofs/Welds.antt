@@ -34,13 +34,13 @@ pub gates-one : (κs body name r r₂ last last₂ : _) → gates.Learnt κs (bo
 gates-one κs body name r r₂ last last₂ l l₂ = same-part body r r₂ (part_of (gates_of body.now (num 4 name 0))) l l₂
 
 -- `lent` returns a struct that holds a reference: the clause itself is welded, and what a call learns from it
-pub lent_says : {M : Type 1} (𝓤 𝓛 κs mem run body name body' name' r : _)
+pub lent-says : {M : Type 1} (𝓤 𝓛 κs mem run body name body' name' r : _)
     → lent.ensures-1 {M = M} {𝓤 = 𝓤} 𝓛 κs mem run body name body' name' r ≡ fact 𝓤 (Lent body'.entry (num 4 name 0) r)
-lent_says 𝓤 𝓛 κs mem run body name body' name' r = refl
+lent-says 𝓤 𝓛 κs mem run body name body' name' r = refl
 
 pub lent_told : (κs body name r last : _) → lent_reads.Learnt κs (body, (name, tt)) r last → Lent body (num 4 name 0) r
 lent_told κs body name r last l = l
 
-pub lent_one : (body name r r₂ : _) → Lent body (num 4 name 0) r → Lent body (num 4 name 0) r₂
+pub lent-one : (body name r r₂ : _) → Lent body (num 4 name 0) r → Lent body (num 4 name 0) r₂
     → (r.number ≡ r₂.number) × (r.gates ≡ r₂.gates) × SamePart r.part r₂.part
-lent_one body name r r₂ l l₂ = same-lent body (num 4 name 0) r r₂ l l₂
+lent-one body name r r₂ l l₂ = same-lent body (num 4 name 0) r r₂ l l₂

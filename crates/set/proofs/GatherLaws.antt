@@ -1,12 +1,11 @@
 -- The loop of the first pass: what is left of the walk is the walk from the start. Assumes nothing.
-use Prim.Native.Nat.{ℕ, ◌+◌, ◌≤◌, ◌<◌}
+use Prim.Native.Nat.{ℕ, ◌≤◌, ◌<◌}
 use mathlib.Core.Path.{◌≡◌, refl, sym, ap, subst, ◌∙◌}
 use mathlib.Core.Bool.{Bool, false}
 use mathlib.Core.List.{List, [], ◌∷◌, ◌++◌}
 use native.Mathlib.Omega.{arith}
 use lib.ListN.{length, get_or, drop, replicate, length-drop, length-replicate, get_or-replicate}
 use Rattle.wire.specs.Numbers.{num}
-use Rattle.wire.specs.Checks.{first}
 use Rattle.wire.specs.Answers.{refused}
 use Rattle.frame.specs.Walk.{answers}
 use Rattle.frame.proofs.WalkLaws.{walked_end, walk_stops, walk_goes}

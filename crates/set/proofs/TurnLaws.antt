@@ -11,11 +11,11 @@ use lib.Seq.{get_or-set_same, get_or-set_other}
 use borrow.Author.Tests.{eqb-true, eqb-false, ne_eqb}
 use Rattle.wire.specs.Checks.{pick, check, first, some_broken}
 use Rattle.wire.proofs.CheckLaws.{all_hold, first-append-none, first-append-some, first-same-some, first-none, by_eq}
-use Rattle.frame.specs.Session.{session_limit, body_in, after}
+use Rattle.frame.specs.Session.{session_limit, body_in}
 use Rattle.header.specs.declared.Header.{Header}
 use Rattle.header_rule.specs.Rules.{most_segments}
 use Rattle.set_spec.specs.Segment.{Segment, segment_in, own_checks, agree_checks, numbered, found, or_nothing, header_numbered, data_numbered}
-use Rattle.set_spec.specs.Walk.{first_or, seen, met_checks, turn_checks, count}
+use Rattle.set_spec.specs.Walk.{first_or, seen, met_checks, turn_checks}
 use Rattle.set_spec.proofs.FrameFacts.{HeaderFits, header-fits}
 use Rattle.set_spec.proofs.PrefixLaws.{own_parts}
 use Rattle.set_spec.proofs.NumberedLaws.{not_found, numbered-same, numbered_other, first_more}

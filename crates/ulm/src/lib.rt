@@ -37,15 +37,13 @@ use c_request::UlmRequest;
 use c_salvage::UlmSalvage;
 use c_set::UlmSet;
 
-#[unsafe(no_mangle)]
-pub extern "C" fn ulm_frame(buf: &[u8], place: usize) -> UlmFrame
+pub fn ulm_frame(buf: &[u8], place: usize) -> UlmFrame
     ensures { result ≡ frame_face place (frame_at buf.now place) }
 {
     c_frame::frame(buf, place)
 }
 
-#[unsafe(no_mangle)]
-pub extern "C" fn ulm_header(msg: &[u8]) -> UlmHeader
+pub fn ulm_header(msg: &[u8]) -> UlmHeader
     ensures { result ≡ header_face (header_of msg.now) }
 {
     let s = header::stored_in(msg);
@@ -55,22 +53,19 @@ pub extern "C" fn ulm_header(msg: &[u8]) -> UlmHeader
     c_frame::header(msg)
 }
 
-#[unsafe(no_mangle)]
-pub extern "C" fn ulm_set(buf: &[u8], out: &mut [u8]) -> UlmSet
+pub fn ulm_set(buf: &[u8], out: &mut [u8]) -> UlmSet
     ensures { Leaves set_face (set_of buf.now out.old) result out.new }
 {
     c_set::set(buf, out)
 }
 
-#[unsafe(no_mangle)]
-pub extern "C" fn ulm_salvage(buf: &[u8], out: &mut [u8], runs: &mut [u64]) -> UlmSalvage
+pub fn ulm_salvage(buf: &[u8], out: &mut [u8], runs: &mut [u64]) -> UlmSalvage
     ensures { Leaves salvage_face (salvage_of buf.now out.old runs.old) result (out.new, runs.new) }
 {
     c_salvage::salvage(buf, out, runs)
 }
 
-#[unsafe(no_mangle)]
-pub extern "C" fn ulm_write(
+pub fn ulm_write(
     channel: u8,
     kind: u8,
     sequence: u16,
@@ -84,90 +79,73 @@ pub extern "C" fn ulm_write(
     c_write::write(channel, kind, sequence, date, ms, body, out)
 }
 
-#[unsafe(no_mangle)]
-pub extern "C" fn ulm_radial(body: &[u8]) -> UlmRadial
+pub fn ulm_radial(body: &[u8]) -> UlmRadial
     ensures { result ≡ radial_face (radial_of body.now) }
 {
     c_radial::radial(body)
 }
 
-#[unsafe(no_mangle)]
-pub extern "C" fn ulm_block(body: &[u8], block: u32) -> UlmBlock
+pub fn ulm_block(body: &[u8], block: u32) -> UlmBlock
     ensures { result ≡ block_face (block_of body.now block) }
 {
     c_radial::block(body, block)
 }
 
-#[unsafe(no_mangle)]
-pub extern "C" fn ulm_gates(body: &[u8], name: u32) -> UlmGates
+pub fn ulm_gates(body: &[u8], name: u32) -> UlmGates
     ensures { result ≡ gates_face (moment_of body.now name) }
 {
     c_gates::gates(body, name)
 }
 
-#[unsafe(no_mangle)]
-pub extern "C" fn ulm_gate(body: &[u8], name: u32, gate: u64) -> UlmGate
+pub fn ulm_gate(body: &[u8], name: u32, gate: u64) -> UlmGate
     ensures { result ≡ worth_face (gate_of body.now name gate) }
 {
     c_gates::gate(body, name, gate)
 }
 
-#[unsafe(no_mangle)]
-pub extern "C" fn ulm_value(code: u16, scale: u32, offset: u32) -> UlmGate
+pub fn ulm_value(code: u16, scale: u32, offset: u32) -> UlmGate
     ensures { result ≡ worth_face (value_of code scale offset) }
 {
     c_gates::value(code, scale, offset)
 }
 
-#[unsafe(no_mangle)]
-pub extern "C" fn ulm_request(body: &[u8]) -> UlmRequest
+pub fn ulm_request(body: &[u8]) -> UlmRequest
     ensures { result ≡ request_face (request_of body.now) }
 {
     c_request::request(body)
 }
 
-#[unsafe(no_mangle)]
-pub extern "C" fn ulm_write_request(list: &[u16], out: &mut [u8]) -> UlmWritten
+pub fn ulm_write_request(list: &[u16], out: &mut [u8]) -> UlmWritten
     ensures { Leaves written_face (request_written list.now out.old) result out.new }
 {
     c_request::write_request(list, out)
 }
 
-#[unsafe(no_mangle)]
-pub extern "C" fn ulm_censor(body: &[u8]) -> UlmCensor
+pub fn ulm_censor(body: &[u8]) -> UlmCensor
     ensures { result ≡ censor_face (censor_of body.now) }
 {
     c_censor::censor(body)
 }
 
-#[unsafe(no_mangle)]
-pub extern "C" fn ulm_write_censor(list: &[u16], out: &mut [u8]) -> UlmWritten
+pub fn ulm_write_censor(list: &[u16], out: &mut [u8]) -> UlmWritten
     ensures { Leaves written_face (censor_written list.now out.old) result out.new }
 {
     c_censor::write_censor(list, out)
 }
 
-#[unsafe(no_mangle)]
-pub extern "C" fn ulm_map(body: &[u8]) -> UlmMap
+pub fn ulm_map(body: &[u8]) -> UlmMap
     ensures { result ≡ map_face (summary_of body.now) }
 {
     c_map::map(body)
 }
 
-#[unsafe(no_mangle)]
-pub extern "C" fn ulm_map_code(
-    body: &[u8],
-    elevation: u64,
-    azimuth: u64,
-    kilometre: u64,
-) -> UlmMapCode
+pub fn ulm_map_code(body: &[u8], elevation: u64, azimuth: u64, kilometre: u64) -> UlmMapCode
     ensures { result ≡ map_code_face (code_of body.now elevation azimuth kilometre) }
 {
     c_map::map_code(body, elevation, azimuth, kilometre)
 }
 
-#[unsafe(no_mangle)]
-pub extern "C" fn ulm_compare_maps(old: &[u8], new: &[u8], out: &mut [u16]) -> UlmComparison
+pub fn ulm_compare_maps(old: &[u8], new: &[u8], out: &mut [u16]) -> UlmComparison
     ensures { Leaves comparison_face (comparison_of old.now new.now out.old) result out.new }
 {
     c_compare::compare_maps(old, new, out)

@@ -1,6 +1,8 @@
-// The program as `rt` runs it. The language's `main` returns no status, so the installed program calls this function from C.
+// The program: its answer is the exit status.
 #![tactic(auto)]
 
-fn main() {
-    ulmarzhe_run::ulmarzhe_run();
+use std::process::ExitCode;
+
+fn main(rt: HostRuntime) -> ExitCode {
+    ExitCode::from(ulmarzhe_run::ulmarzhe_run(&rt))
 }

@@ -5,12 +5,13 @@ use crate::lists::NUMBERS;
 use crate::sink::Sink;
 use crate::told::Told;
 use crate::{entries, lines, readers, sink, told, writers};
+use std::fs::File;
 use ulmarzhe_text::output::Output;
 use ulmarzhe_text::page::{PAGE, SHEET};
 use ulmarzhe_text::part::{less, part, sum};
 use ulmarzhe_text::status::{DONE, NOT_DONE};
 use ulmarzhe_text::window::WINDOW;
-use ulmarzhe_text::{output, page, status, words};
+use ulmarzhe_text::{output, page, status, system, words};
 
 // The verdicts on a line, in the order of the list in `judge`.
 const SAME: usize = 0;
@@ -20,16 +21,21 @@ const DIFFERS: usize = 1;
 const MALFORMED: usize = 2;
 
 // The lines of a file that is open.
-pub fn run_lines(fd: i32, window: &mut [u8; WINDOW], sheet: &mut [u8; SHEET]) -> u8 {
-    let mut l = lines::first(fd, window);
+pub fn run_lines(
+    rt: &HostRuntime,
+    file: &File,
+    window: &mut [u8; WINDOW],
+    sheet: &mut [u8; SHEET],
+) -> u8 {
+    let mut l = lines::first(file, window);
     let mut status = DONE;
     let mut turns = u64::MAX;
     while 0 < turns {
         if l.done {
-            return end(l, status);
+            return end(rt, l, status);
         }
-        status = status::worse(status, run_line(l, window, sheet));
-        if status == NOT_DONE {
+        status = status::worse(status, run_line(rt, l, window, sheet));
+        if NOT_DONE <= status {
             return status;
         }
         l = lines::next(l, window);
@@ -39,20 +45,25 @@ pub fn run_lines(fd: i32, window: &mut [u8; WINDOW], sheet: &mut [u8; SHEET]) ->
 }
 
 // Says why a file could not be read to its end.
-fn end(l: Line, status: u8) -> u8 {
+fn end(rt: &HostRuntime, l: Line<'_>, status: u8) -> u8 {
     let r = l.reading;
-    if r.failed {
-        os::fail(b"cases");
+    if let Some(why) = r.failed {
+        system::tell(rt, b"cases", why);
         return NOT_DONE;
     }
     status
 }
 
-fn run_line(l: Line, window: &mut [u8; WINDOW], sheet: &mut [u8; SHEET]) -> u8 {
+fn run_line(
+    rt: &HostRuntime,
+    l: Line<'_>,
+    window: &mut [u8; WINDOW],
+    sheet: &mut [u8; SHEET],
+) -> u8 {
     let r = l.reading;
     let a = read_question(part(window, r.from, l.end), l.skips);
     let a = decode(a, r.from, window);
-    run_case(part(window, r.from, l.end), a, sheet)
+    run_case(rt, part(window, r.from, l.end), a, sheet)
 }
 
 // Turns a question's digits into bytes, in place, in a line that begins at `start`. Wrong digits make the question malformed.
@@ -112,33 +123,41 @@ fn equals_sign(line: &[u8]) -> usize {
     line.len()
 }
 
-fn run_case(line: &[u8], a: Args, sheet: &mut [u8; SHEET]) -> u8 {
+fn run_case(rt: &HostRuntime, line: &[u8], a: Args, sheet: &mut [u8; SHEET]) -> u8 {
     let name = part(line, 0, a.title);
     if !a.good {
-        return judge(name, MALFORMED, sheet);
+        return judge(rt, name, MALFORMED, sheet);
     }
     let expected = part(line, a.answer, line.len());
-    let s = begin(a.asks, name, sheet);
-    let s = answer(a, line, s, expected, sheet);
-    finish(name, s, expected, sheet)
+    let s = begin(rt, a.asks, name, sheet);
+    let s = answer(rt, a, line, s, expected, sheet);
+    finish(rt, name, s, expected, sheet)
 }
 
-fn answer(a: Args, line: &[u8], s: Sink, expected: &[u8], sheet: &mut [u8; SHEET]) -> Sink {
+fn answer(
+    rt: &HostRuntime,
+    a: Args,
+    line: &[u8],
+    s: Sink,
+    expected: &[u8],
+    sheet: &mut [u8; SHEET],
+) -> Sink {
     let body = within(line, a.digits);
     if a.entry == entries::SALVAGE {
         let n = a.numbers;
-        return answer_salvage(n, body, s, expected, sheet);
+        return answer_salvage(rt, n, body, s, expected, sheet);
     }
     let t = ask(a, within(line, a.before), body, sheet);
     let s = sink::say(s, sheet, t);
     if t.which == told::RADIAL {
         return say_blocks(s, sheet, body, t.count);
     }
-    sink::say_bytes(s, sheet, expected, t.length)
+    sink::say_bytes(rt, s, sheet, expected, t.length)
 }
 
 // The list of runs stands after the bytes of the answer.
 fn answer_salvage(
+    rt: &HostRuntime,
     n: [u64; 6],
     buffer: &[u8],
     s: Sink,
@@ -148,11 +167,12 @@ fn answer_salvage(
     let mut list = [0u64; NUMBERS];
     let t = writers::of_salvage(n, buffer, &mut list, sheet);
     let s = sink::say(s, sheet, t);
-    let s = sink::say_bytes(s, sheet, expected, t.length);
-    say_runs(s, &list, t.count, expected, sheet)
+    let s = sink::say_bytes(rt, s, sheet, expected, t.length);
+    say_runs(rt, s, &list, t.count, expected, sheet)
 }
 
 fn say_runs(
+    rt: &HostRuntime,
     s: Sink,
     list: &[u64; NUMBERS],
     count: u16,
@@ -164,6 +184,7 @@ fn say_runs(
     while i < count {
         let at = i as usize * 2;
         s = sink::say_pair(
+            rt,
             s,
             sheet,
             expected,
@@ -215,45 +236,45 @@ fn say_blocks(s: Sink, sheet: &mut [u8; SHEET], body: &[u8], count: u16) -> Sink
 }
 
 // Where an answer is written, the line's name stands before it; where it is compared, nothing does.
-fn begin(asks: bool, name: &[u8], sheet: &mut [u8; SHEET]) -> Sink {
+fn begin(rt: &HostRuntime, asks: bool, name: &[u8], sheet: &mut [u8; SHEET]) -> Sink {
     if !asks {
         return sink::begin(asks, output::begin(0));
     }
-    let out = put_name(name, sheet);
+    let out = put_name(rt, name, sheet);
     let at = page::put_byte(sheet, out.at, b' ');
     sink::begin(asks, output::fill(out, at))
 }
 
 // A name at the start of the page, or written out at once where it would fill the page.
-fn put_name(name: &[u8], sheet: &mut [u8; SHEET]) -> Output {
+fn put_name(rt: &HostRuntime, name: &[u8], sheet: &mut [u8; SHEET]) -> Output {
     let out = output::begin(0);
     if name.len() < PAGE / 2 {
         return output::fill(out, page::put_text(sheet, 0, name));
     }
-    output::write(out, name)
+    output::write(rt, out, name)
 }
 
-fn finish(name: &[u8], s: Sink, expected: &[u8], sheet: &mut [u8; SHEET]) -> u8 {
+fn finish(rt: &HostRuntime, name: &[u8], s: Sink, expected: &[u8], sheet: &mut [u8; SHEET]) -> u8 {
     if s.asks {
         let s = sink::end_line(s, sheet);
-        return output::end(s.out, sheet);
+        return output::end(rt, s.out, sheet);
     }
-    let s = sink::settle(s, 0, sheet, expected);
+    let s = sink::settle(rt, s, 0, sheet, expected);
     let which = if sink::is_met(s, expected) {
         SAME
     } else {
         DIFFERS
     };
-    judge(name, which, sheet)
+    judge(rt, name, which, sheet)
 }
 
 // A line of output: a name and what is said of it.
-fn judge(name: &[u8], which: usize, sheet: &mut [u8; SHEET]) -> u8 {
+fn judge(rt: &HostRuntime, name: &[u8], which: usize, sheet: &mut [u8; SHEET]) -> u8 {
     let says = b" same\n; differs\n; malformed\n";
-    let out = put_name(name, sheet);
+    let out = put_name(rt, name, sheet);
     let at = page::put_text(sheet, out.at, words::pick(says, which));
     if which == SAME {
-        return output::end(output::fill(out, at), sheet);
+        return output::end(rt, output::fill(out, at), sheet);
     }
-    output::end(output::refuse(out, at), sheet)
+    output::end(rt, output::refuse(out, at), sheet)
 }

@@ -14,19 +14,19 @@ mod writers;
 use ulmarzhe_text::page::SHEET;
 use ulmarzhe_text::status::{DONE, NOT_DONE};
 use ulmarzhe_text::window::WINDOW;
-use ulmarzhe_text::{files, status};
+use ulmarzhe_text::{files, status, system};
 
 // Nothing is run unless every file can be read.
-pub fn run(window: &mut [u8; WINDOW], sheet: &mut [u8; SHEET]) -> u8 {
-    let count = os::arg_count();
-    if !can_open_all(count) {
+pub fn run(rt: &HostRuntime, window: &mut [u8; WINDOW], sheet: &mut [u8; SHEET]) -> u8 {
+    let count = system::count_words(rt);
+    if !can_open_all(rt, count) {
         return NOT_DONE;
     }
     let mut status = DONE;
     let mut i = 2;
     while i < count {
-        status = status::worse(status, run_file(i, window, sheet));
-        if status == NOT_DONE {
+        status = status::worse(status, run_file(rt, i, window, sheet));
+        if NOT_DONE <= status {
             return status;
         }
         i += 1;
@@ -34,25 +34,20 @@ pub fn run(window: &mut [u8; WINDOW], sheet: &mut [u8; SHEET]) -> u8 {
     status
 }
 
-fn can_open_all(count: usize) -> bool {
+fn can_open_all(rt: &HostRuntime, count: usize) -> bool {
     let mut i = 2;
     while i < count {
-        let fd = files::open_named(i);
-        if fd < 0 {
+        if files::open_named(rt, i).is_none() {
             return false;
         }
-        libc::close(fd);
         i += 1;
     }
     true
 }
 
-fn run_file(i: usize, window: &mut [u8; WINDOW], sheet: &mut [u8; SHEET]) -> u8 {
-    let fd = files::open_named(i);
-    if fd < 0 {
-        return NOT_DONE;
+fn run_file(rt: &HostRuntime, i: usize, window: &mut [u8; WINDOW], sheet: &mut [u8; SHEET]) -> u8 {
+    match files::open_named(rt, i) {
+        Some(file) => cases::run_lines(rt, &file, window, sheet),
+        None => NOT_DONE,
     }
-    let status = cases::run_lines(fd, window, sheet);
-    libc::close(fd);
-    status
 }

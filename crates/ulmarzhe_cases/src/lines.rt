@@ -1,4 +1,5 @@
 // The lines of a file: the next one is looked for in the window, and more is read until it is there.
+use std::fs::File;
 use ulmarzhe_text::part::{part, sum};
 use ulmarzhe_text::window::{Reading, WINDOW};
 use ulmarzhe_text::{window, words};
@@ -6,15 +7,15 @@ use ulmarzhe_text::{window, words};
 // A line that is `found` begins where the reading looks and ends at `end`. `skips`: it is too long for the window, and its rest is
 // skipped. `done`: no line is left.
 #[derive(Clone, Copy)]
-pub struct Line {
-    pub reading: Reading,
+pub struct Line<'a> {
+    pub reading: Reading<'a>,
     pub end: usize,
     pub found: bool,
     pub skips: bool,
     pub done: bool,
 }
 
-fn line_at(r: Reading, end: usize, found: bool, skips: bool, done: bool) -> Line {
+fn line_at(r: Reading<'_>, end: usize, found: bool, skips: bool, done: bool) -> Line<'_> {
     Line {
         reading: r,
         end,
@@ -25,13 +26,13 @@ fn line_at(r: Reading, end: usize, found: bool, skips: bool, done: bool) -> Line
 }
 
 // The first line of a file that is open.
-pub fn first(fd: i32, window: &mut [u8; WINDOW]) -> Line {
-    let none = line_at(window::begin(fd, 0), 0, false, false, false);
+pub fn first<'a>(file: &'a File, window: &mut [u8; WINDOW]) -> Line<'a> {
+    let none = line_at(window::begin(file, 0), 0, false, false, false);
     seek(none, window)
 }
 
 // The line after one that was found.
-pub fn next(l: Line, window: &mut [u8; WINDOW]) -> Line {
+pub fn next<'a>(l: Line<'a>, window: &mut [u8; WINDOW]) -> Line<'a> {
     let r = l.reading;
     let from = if l.skips { l.end } else { sum(l.end, 1) };
     let none = line_at(window::look_at(r, from), from, false, l.skips, false);
@@ -39,7 +40,7 @@ pub fn next(l: Line, window: &mut [u8; WINDOW]) -> Line {
 }
 
 // Reads until a line is found or the file is at its end. Of a line that is too long for the window the beginning is found.
-fn seek(l: Line, window: &mut [u8; WINDOW]) -> Line {
+fn seek<'a>(l: Line<'a>, window: &mut [u8; WINDOW]) -> Line<'a> {
     let mut l = look(l, window);
     let mut turns = u64::MAX;
     while 0 < turns {
@@ -55,7 +56,7 @@ fn seek(l: Line, window: &mut [u8; WINDOW]) -> Line {
     l
 }
 
-fn read_more(l: Line, window: &mut [u8; WINDOW]) -> Line {
+fn read_more<'a>(l: Line<'a>, window: &mut [u8; WINDOW]) -> Line<'a> {
     let r = l.reading;
     line_at(
         window::read_more(r, window),
@@ -66,7 +67,7 @@ fn read_more(l: Line, window: &mut [u8; WINDOW]) -> Line {
     )
 }
 
-fn look(l: Line, window: &[u8; WINDOW]) -> Line {
+fn look<'a>(l: Line<'a>, window: &[u8; WINDOW]) -> Line<'a> {
     let r = l.reading;
     judge(
         r,
@@ -76,7 +77,7 @@ fn look(l: Line, window: &[u8; WINDOW]) -> Line {
 }
 
 // Decides by the place where a line ends: the line is found, nothing is left, or more must be read.
-fn judge(r: Reading, skips: bool, end: usize) -> Line {
+fn judge(r: Reading<'_>, skips: bool, end: usize) -> Line<'_> {
     if end < r.fill {
         if skips {
             return line_at(window::look_at(r, sum(end, 1)), end, false, false, false);
@@ -96,7 +97,7 @@ fn judge(r: Reading, skips: bool, end: usize) -> Line {
     line_at(r, end, true, true, false)
 }
 
-fn is_full(r: Reading) -> bool {
+fn is_full(r: Reading<'_>) -> bool {
     if r.from != 0 {
         return false;
     }

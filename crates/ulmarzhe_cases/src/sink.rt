@@ -58,7 +58,13 @@ pub fn end_line(s: Sink, sheet: &mut [u8; SHEET]) -> Sink {
 }
 
 // The first `length` bytes of the room behind the page, in hexadecimal.
-pub fn say_bytes(s: Sink, sheet: &mut [u8; SHEET], expected: &[u8], length: usize) -> Sink {
+pub fn say_bytes(
+    rt: &HostRuntime,
+    s: Sink,
+    sheet: &mut [u8; SHEET],
+    expected: &[u8],
+    length: usize,
+) -> Sink {
     let mut s = s;
     let mut i = 0;
     while i < length {
@@ -66,32 +72,45 @@ pub fn say_bytes(s: Sink, sheet: &mut [u8; SHEET], expected: &[u8], length: usiz
             return s;
         }
         let b = sheet[PAGE + i];
-        s = say_octet(s, sheet, expected, b);
+        s = say_octet(rt, s, sheet, expected, b);
         i += 1;
     }
     s
 }
 
 // Two numbers more.
-pub fn say_pair(s: Sink, sheet: &mut [u8; SHEET], expected: &[u8], a: u64, b: u64) -> Sink {
-    let s = settle(s, PAGE / 2, sheet, expected);
+pub fn say_pair(
+    rt: &HostRuntime,
+    s: Sink,
+    sheet: &mut [u8; SHEET],
+    expected: &[u8],
+    a: u64,
+    b: u64,
+) -> Sink {
+    let s = settle(rt, s, PAGE / 2, sheet, expected);
     fill(s, page::fill_in(sheet, at(s), b" # #", &[a, b]))
 }
 
-fn say_octet(s: Sink, sheet: &mut [u8; SHEET], expected: &[u8], b: u8) -> Sink {
-    let s = settle(s, PAGE - 2, sheet, expected);
+fn say_octet(rt: &HostRuntime, s: Sink, sheet: &mut [u8; SHEET], expected: &[u8], b: u8) -> Sink {
+    let s = settle(rt, s, PAGE - 2, sheet, expected);
     fill(s, page::put_octet(sheet, at(s), b))
 }
 
 // Empties the page if it is filled beyond `most`: writes it out, or compares it with the expected text from `done` on.
-pub fn settle(s: Sink, most: usize, sheet: &[u8; SHEET], expected: &[u8]) -> Sink {
+pub fn settle(
+    rt: &HostRuntime,
+    s: Sink,
+    most: usize,
+    sheet: &[u8; SHEET],
+    expected: &[u8],
+) -> Sink {
     let end = at(s);
     if end <= most {
         return s;
     }
     let mut s = s;
     if s.asks {
-        s.out = output::flush(s.out, most, sheet);
+        s.out = output::flush(rt, s.out, most, sheet);
         return s;
     }
     let rest = part(expected, s.done, expected.len());

@@ -1,10 +1,11 @@
 // The program: does what the command line asks for and answers the exit status.
 #![tactic(auto)]
 
+use std::env::Env;
 use ulmarzhe_text::page::SHEET;
 use ulmarzhe_text::status::{NOT_DONE, WRONG_WORDS};
 use ulmarzhe_text::window::WINDOW;
-use ulmarzhe_text::{files, output, page, words};
+use ulmarzhe_text::{files, output, page, system, words};
 
 // The commands, in the order of the table's rows.
 const FRAMES: usize = 0;
@@ -42,8 +43,7 @@ const END: usize = 7;
 
 // One row for each command: its name, the fewest and the most words after it, their form, and what it does. Every command is lent the
 // same window and sheet: two of each would not fit on the stack.
-#[unsafe(no_mangle)]
-pub extern "C" fn ulmarzhe_run() -> i32 {
+pub fn ulmarzhe_run(rt: &HostRuntime) -> u8 {
     let table =
         b"frames;1;1;RECORDING;a line a frame: place, kind, bytes, and of data type, sequence number,;date, time, segment, and long form where the header has that
 radials;1;1;RECORDING;a line a radial: place, station, date, time, azimuth, elevation, status,;and each moment as gates x bits
@@ -56,29 +56,34 @@ why;1;1;NUMBER;a refusal in words
 cases;1;4294967295;FILE...;each line of FILE asked of the library, its answer compared or written
 help;0;0;;this text
 ";
-    files::hold_streams();
+    files::hold_streams(rt);
     let mut window = [0u8; WINDOW];
     let mut sheet = [0u8; SHEET];
-    answer(table, &mut window, &mut sheet) as i32
+    answer(rt, table, &mut window, &mut sheet)
 }
 
-fn answer(table: &[u8], window: &mut [u8; WINDOW], sheet: &mut [u8; SHEET]) -> u8 {
-    let command = find(table);
+fn answer(
+    rt: &HostRuntime,
+    table: &[u8],
+    window: &mut [u8; WINDOW],
+    sheet: &mut [u8; SHEET],
+) -> u8 {
+    let command = find(rt, table);
     let row = words::pick_row(table, command);
-    if !has_words(row) {
-        return tell_form(row, sheet);
+    if !has_words(rt, row) {
+        return tell_form(rt, row, sheet);
     }
-    let status = run(command, table, window, sheet);
+    let status = run(rt, command, table, window, sheet);
     if status == WRONG_WORDS {
-        return tell_form(row, sheet);
+        return tell_form(rt, row, sheet);
     }
     status
 }
 
 // Which command the first word is, or `COMMANDS`.
-fn find(table: &[u8]) -> usize {
-    let mut word = io::buffer();
-    let length = os::arg(1, &mut word);
+fn find(rt: &impl Env, table: &[u8]) -> usize {
+    let mut word = [0u8; system::NAME];
+    let length = system::word_or_none(rt, 1, &mut word);
     row_of(table, &word[..length])
 }
 
@@ -94,10 +99,10 @@ fn row_of(table: &[u8], word: &[u8]) -> usize {
 }
 
 // Whether the command is followed by as many words as it takes. An unknown command's row holds no number, so the answer is no.
-fn has_words(row: &[u8]) -> bool {
+fn has_words(rt: &impl Env, row: &[u8]) -> bool {
     let least = words::read_decimal(words::pick(row, LEAST));
     let most = words::read_decimal(words::pick(row, MOST));
-    let count = os::arg_count();
+    let count = system::count_words(rt);
     if count < 2 {
         return false;
     }
@@ -105,26 +110,32 @@ fn has_words(row: &[u8]) -> bool {
     least.good && least.value <= given && given <= most.value
 }
 
-fn run(command: usize, table: &[u8], window: &mut [u8; WINDOW], sheet: &mut [u8; SHEET]) -> u8 {
+fn run(
+    rt: &HostRuntime,
+    command: usize,
+    table: &[u8],
+    window: &mut [u8; WINDOW],
+    sheet: &mut [u8; SHEET],
+) -> u8 {
     match command {
-        FRAMES => ulmarzhe_show::list_frames(window, sheet),
-        RADIALS => ulmarzhe_show::list_radials(window, sheet),
-        GATES => ulmarzhe_show::list_gates(window, sheet),
-        PICTURE => ulmarzhe_show::draw_picture(window, sheet),
-        MAP => ulmarzhe_show::show_map_code(window, sheet),
-        COMPARE => ulmarzhe_show::compare_maps(window, sheet),
-        SALVAGE => ulmarzhe_salvage::salvage_recording(window, sheet),
-        WHY => ulmarzhe_show::explain(sheet),
-        CASES => ulmarzhe_cases::run(window, sheet),
-        _ => help(table, sheet),
+        FRAMES => ulmarzhe_show::list_frames(rt, window, sheet),
+        RADIALS => ulmarzhe_show::list_radials(rt, window, sheet),
+        GATES => ulmarzhe_show::list_gates(rt, window, sheet),
+        PICTURE => ulmarzhe_show::draw_picture(rt, window, sheet),
+        MAP => ulmarzhe_show::show_map_code(rt, window, sheet),
+        COMPARE => ulmarzhe_show::compare_maps(rt, window, sheet),
+        SALVAGE => ulmarzhe_salvage::salvage_recording(rt, window, sheet),
+        WHY => ulmarzhe_show::explain(rt, sheet),
+        CASES => ulmarzhe_cases::run(rt, window, sheet),
+        _ => help(rt, table, sheet),
     }
 }
 
 // One line on standard error: the form of the command, or where to find all of them.
-fn tell_form(row: &[u8], sheet: &mut [u8; SHEET]) -> u8 {
+fn tell_form(rt: &HostRuntime, row: &[u8], sheet: &mut [u8; SHEET]) -> u8 {
     let at = page::put_text(sheet, 0, b"ulmarzhe: the command line should be: ");
     let at = put_form(sheet, at, row);
-    page::send(libc::STDERR_FILENO, sheet, at);
+    let _ = page::send(&rt.stderr(), sheet, at);
     NOT_DONE
 }
 
@@ -146,7 +157,7 @@ fn put_form(sheet: &mut [u8; SHEET], at: usize, row: &[u8]) -> usize {
     page::put_byte(sheet, next, b'\n')
 }
 
-fn help(table: &[u8], sheet: &mut [u8; SHEET]) -> u8 {
+fn help(rt: &HostRuntime, table: &[u8], sheet: &mut [u8; SHEET]) -> u8 {
     let at = page::put_text(
         sheet,
         0,
@@ -171,7 +182,7 @@ It ends with the status
     read or written
 ",
     );
-    output::end(output::begin(at), sheet)
+    output::end(rt, output::begin(at), sheet)
 }
 
 fn put_commands(sheet: &mut [u8; SHEET], at: usize, table: &[u8]) -> usize {

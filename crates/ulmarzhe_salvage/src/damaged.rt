@@ -1,11 +1,13 @@
 // A damaged recording, walked by windows: the frames that pass are written to a file, and each run of bytes between them is listed.
 use crate::clean;
 use frame::LONGEST;
+use std::fs::File;
+use std::io::{Error, Seek, SeekFrom, Write};
 use ulmarzhe_text::output::Output;
 use ulmarzhe_text::page::{PAGE, SHEET};
-use ulmarzhe_text::part::{less, natural, part, sum};
+use ulmarzhe_text::part::{less, part, sum};
 use ulmarzhe_text::window::{Reading, WINDOW};
-use ulmarzhe_text::{output, page, window, words};
+use ulmarzhe_text::{output, page, system, window, words};
 
 const MEBIBYTE: u64 = 1048576;
 
@@ -18,10 +20,10 @@ const STEP: u64 = 16 * MEBIBYTE;
 // many are kept. `undecided`: the next window is needed to decide about the rest. `next`: the place at which progress is shown next;
 // `length`: the recording's.
 #[derive(Clone, Copy)]
-pub struct Salvage {
-    pub reading: Reading,
+pub struct Salvage<'a> {
+    pub reading: Reading<'a>,
     pub out: Output,
-    pub file: i32,
+    pub file: &'a File,
     pub end: u64,
     pub frames: u64,
     pub bytes: u64,
@@ -37,99 +39,118 @@ struct Frames {
     end: usize,
 }
 
-pub fn begin(fd: i32, file: i32) -> Salvage {
-    let length = length_of(fd);
+pub fn begin<'a>(rt: &HostRuntime, damaged: &'a File, file: &'a File) -> Salvage<'a> {
+    let length = length_of(damaged);
     Salvage {
-        reading: window::begin(fd, 0),
+        reading: window::begin(damaged, 0),
         out: output::begin(0),
         file,
         end: 0,
         frames: 0,
         bytes: 0,
         undecided: false,
-        next: first_shown(length),
+        next: first_shown(rt, length),
         length,
     }
 }
 
 // The length of a file that has one, else 0.
-fn length_of(fd: i32) -> u64 {
-    let end = libc::lseek(fd, 0, libc::SEEK_END);
-    libc::lseek(fd, 0, libc::SEEK_SET);
-    natural(end)
+fn length_of(damaged: &File) -> u64 {
+    let mut place = damaged;
+    let end = place.seek(SeekFrom::End(0));
+    let _ = place.seek(SeekFrom::Start(0));
+    match end {
+        Ok(length) => length,
+        Err(_) => 0,
+    }
 }
 
 // The first place at which progress is shown: none for a recording that is not long, or if standard error is no terminal.
-fn first_shown(length: u64) -> u64 {
+fn first_shown(rt: &HostRuntime, length: u64) -> u64 {
     if length < LONG {
         return u64::MAX;
     }
-    if libc::isatty(libc::STDERR_FILENO) == 0 {
+    if !system::is_watched(rt) {
         return u64::MAX;
     }
     STEP
 }
 
-pub fn walk(s: Salvage, window: &mut [u8; WINDOW], sheet: &mut [u8; SHEET]) -> Salvage {
+pub fn walk<'a>(
+    rt: &HostRuntime,
+    s: Salvage<'a>,
+    window: &mut [u8; WINDOW],
+    sheet: &mut [u8; SHEET],
+) -> Salvage<'a> {
     let mut s = s;
     let mut turns = u64::MAX;
     while 0 < turns {
-        s = read_more(s, window);
-        s = walk_window(s, window, sheet);
-        s = show_progress(s, sheet);
+        s = read_more(rt, s, window);
+        s = walk_window(rt, s, window, sheet);
+        s = show_progress(rt, s, sheet);
         if is_at_end(s) {
-            clear_progress(s);
-            return list_last_run(s, sheet);
+            clear_progress(rt, s);
+            return list_last_run(rt, s, sheet);
         }
         turns -= 1;
     }
     s
 }
 
-fn read_more(s: Salvage, window: &mut [u8; WINDOW]) -> Salvage {
+fn read_more<'a>(rt: &HostRuntime, s: Salvage<'a>, window: &mut [u8; WINDOW]) -> Salvage<'a> {
     let r = window::read_more(s.reading, window);
     let mut s = s;
     s.reading = r;
-    s.undecided = r.failed;
-    if r.failed {
-        return fail(s, b"recording");
+    s.undecided = r.failed.is_some();
+    if let Some(why) = r.failed {
+        return fail(rt, s, b"recording", why);
     }
     s
 }
 
 // Says why the recording cannot be read, or why what is kept cannot be written.
-fn fail(s: Salvage, what: &[u8]) -> Salvage {
-    os::fail(what);
+fn fail<'a>(rt: &HostRuntime, s: Salvage<'a>, what: &[u8], why: Error) -> Salvage<'a> {
+    system::tell(rt, what, why);
     let mut s = s;
     s.out = output::fail(s.out);
     s.undecided = true;
     s
 }
 
-pub fn has_failed(s: Salvage) -> bool {
+pub fn has_failed(s: Salvage<'_>) -> bool {
     output::has_failed(s.out)
 }
 
-fn is_at_end(s: Salvage) -> bool {
+fn is_at_end(s: Salvage<'_>) -> bool {
     let r = s.reading;
     has_failed(s) || r.ended
 }
 
-fn walk_window(s: Salvage, window: &[u8; WINDOW], sheet: &mut [u8; SHEET]) -> Salvage {
+fn walk_window<'a>(
+    rt: &HostRuntime,
+    s: Salvage<'a>,
+    window: &[u8; WINDOW],
+    sheet: &mut [u8; SHEET],
+) -> Salvage<'a> {
     let mut s = s;
     let mut turns = WINDOW;
     while 0 < turns {
         if s.undecided {
             return s;
         }
-        s = take_stretch(s, window, sheet);
+        s = take_stretch(rt, s, window, sheet);
         turns -= 1;
     }
     s
 }
 
 // Skips the bytes up to the next frame that passes, and keeps the frames that follow one another from there.
-fn take_stretch(s: Salvage, window: &[u8; WINDOW], sheet: &mut [u8; SHEET]) -> Salvage {
+fn take_stretch<'a>(
+    rt: &HostRuntime,
+    s: Salvage<'a>,
+    window: &[u8; WINDOW],
+    sheet: &mut [u8; SHEET],
+) -> Salvage<'a> {
     let r = s.reading;
     let stream = part(window, 0, r.fill);
     let at = least(salvage_find::next_kept(stream, r.from), decided_end(r));
@@ -139,14 +160,14 @@ fn take_stretch(s: Salvage, window: &[u8; WINDOW], sheet: &mut [u8; SHEET]) -> S
         s.undecided = true;
         return s;
     }
-    let s = list_run(s, sheet);
-    let s = keep(s, part(stream, at, f.end), f.count);
+    let s = list_run(rt, s, sheet);
+    let s = keep(rt, s, part(stream, at, f.end), f.count);
     look_at(s, f.end)
 }
 
 // The place up to which the window decides what is skipped. A frame found in the window is a frame of the recording. That no frame begins
 // at a place is certain only if the longest frame would end in the window, or if the recording ends there.
-fn decided_end(r: Reading) -> usize {
+fn decided_end(r: Reading<'_>) -> usize {
     if r.ended {
         return r.fill;
     }
@@ -179,18 +200,18 @@ fn frames_from(stream: &[u8], at: usize) -> Frames {
     f
 }
 
-fn look_at(s: Salvage, at: usize) -> Salvage {
+fn look_at(s: Salvage<'_>, at: usize) -> Salvage<'_> {
     let mut s = s;
     s.reading = window::look_at(s.reading, at);
     s
 }
 
-fn place_of(s: Salvage) -> u64 {
+fn place_of(s: Salvage<'_>) -> u64 {
     window::place_of(s.reading)
 }
 
 // Lists the run between the last kept frame and the place that is looked at, unless it is empty.
-fn list_run(s: Salvage, sheet: &mut [u8; SHEET]) -> Salvage {
+fn list_run<'a>(rt: &HostRuntime, s: Salvage<'a>, sheet: &mut [u8; SHEET]) -> Salvage<'a> {
     let place = place_of(s);
     if place == s.end {
         return s;
@@ -200,7 +221,7 @@ fn list_run(s: Salvage, sheet: &mut [u8; SHEET]) -> Salvage {
     let which = if length == 1 { 0 } else { 1 };
     let out = s.out;
     let at = page::fill_in(sheet, out.at, words::pick(list, which), &[s.end, length]);
-    let out = output::flush(output::fill(out, at), PAGE / 2, sheet);
+    let out = output::flush(rt, output::fill(out, at), PAGE / 2, sheet);
     let mut s = s;
     s.out = out;
     s.undecided = output::has_failed(out);
@@ -208,27 +229,28 @@ fn list_run(s: Salvage, sheet: &mut [u8; SHEET]) -> Salvage {
 }
 
 // Counts and writes frames that begin at the place that is looked at.
-fn keep(s: Salvage, bytes: &[u8], count: u64) -> Salvage {
+fn keep<'a>(rt: &HostRuntime, s: Salvage<'a>, bytes: &[u8], count: u64) -> Salvage<'a> {
     let mut s = s;
     let length = bytes.len() as u64;
     s.end = std::num::wrapping_add_u64(place_of(s), length);
     s.bytes = std::num::wrapping_add_u64(s.bytes, length);
     s.frames = std::num::wrapping_add_u64(s.frames, count);
-    if io::write_all(s.file, bytes) {
-        return s;
+    let mut file = s.file;
+    match file.write_all(bytes) {
+        Ok(()) => s,
+        Err(why) => fail(rt, s, b"clean recording", why),
     }
-    fail(s, b"clean recording")
 }
 
-fn list_last_run(s: Salvage, sheet: &mut [u8; SHEET]) -> Salvage {
+fn list_last_run<'a>(rt: &HostRuntime, s: Salvage<'a>, sheet: &mut [u8; SHEET]) -> Salvage<'a> {
     if has_failed(s) {
         return s;
     }
-    list_run(s, sheet)
+    list_run(rt, s, sheet)
 }
 
 // Shows how far the walk is. The line ends in a carriage return, and whatever is written next is longer and covers it.
-fn show_progress(s: Salvage, sheet: &mut [u8; SHEET]) -> Salvage {
+fn show_progress<'a>(rt: &HostRuntime, s: Salvage<'a>, sheet: &mut [u8; SHEET]) -> Salvage<'a> {
     let place = place_of(s);
     if place < s.next {
         return s;
@@ -236,32 +258,31 @@ fn show_progress(s: Salvage, sheet: &mut [u8; SHEET]) -> Salvage {
     let out = s.out;
     let numbers = [place / MEBIBYTE, s.length / MEBIBYTE];
     let at = page::fill_in(sheet, out.at, b"# of # MiB\r", &numbers);
-    io::write_all(libc::STDERR_FILENO, part(sheet, out.at, at));
+    system::say(rt, part(sheet, out.at, at));
     let mut s = s;
     s.next = std::num::wrapping_add_u64(place, STEP);
     s
 }
 
-fn clear_progress(s: Salvage) {
+fn clear_progress(rt: &HostRuntime, s: Salvage<'_>) {
     if s.next != u64::MAX {
-        io::write_all(libc::STDERR_FILENO, b"                        \r");
+        system::say(rt, b"                        \r");
     }
 }
 
 // Stores all that was kept on its device, or says why not.
-pub fn store(s: Salvage) -> Salvage {
+pub fn store<'a>(rt: &HostRuntime, s: Salvage<'a>) -> Salvage<'a> {
     if has_failed(s) {
-        libc::close(s.file);
         return s;
     }
-    if clean::is_stored(s.file) {
-        return s;
+    match clean::is_stored(s.file) {
+        Ok(()) => s,
+        Err(why) => fail(rt, s, b"clean recording", why),
     }
-    fail(s, b"clean recording")
 }
 
 // What was kept, what was skipped, and all there was.
-pub fn add_totals(s: Salvage, sheet: &mut [u8; SHEET]) -> Output {
+pub fn add_totals(s: Salvage<'_>, sheet: &mut [u8; SHEET]) -> Output {
     let out = s.out;
     if has_failed(s) {
         return out;

@@ -4,60 +4,95 @@
 mod clean;
 mod damaged;
 
+use std::env::Env;
+use std::fs::File;
+use ulmarzhe_text::output::Output;
 use ulmarzhe_text::page::SHEET;
 use ulmarzhe_text::status::{DONE, NOT_DONE, WRONG_WORDS};
 use ulmarzhe_text::window::WINDOW;
-use ulmarzhe_text::{files, output, words};
+use ulmarzhe_text::{files, output, status, system, words};
 
-pub fn salvage_recording(window: &mut [u8; WINDOW], sheet: &mut [u8; SHEET]) -> u8 {
-    let over = os::arg_count() == 5;
-    if over && !says_over() {
+pub fn salvage_recording(
+    rt: &HostRuntime,
+    window: &mut [u8; WINDOW],
+    sheet: &mut [u8; SHEET],
+) -> u8 {
+    let over = system::count_words(rt) == 5;
+    if over && !says_over(rt) {
         return WRONG_WORDS;
     }
-    let fd = files::open_named(2);
-    if fd < 0 {
-        return NOT_DONE;
+    match files::open_named(rt, 2) {
+        Some(damaged) => salvage_named(rt, damaged, over, window, sheet),
+        None => NOT_DONE,
     }
-    let mut clean = io::buffer();
-    let length = os::arg(3, &mut clean);
-    if os::errno() != 0 {
-        os::fail(b"file name");
-        return NOT_DONE;
-    }
-    salvage_to(fd, &clean[..length], over, window, sheet)
 }
 
 // Whether the word after CLEAN says that a file may be written over.
-fn says_over() -> bool {
+fn says_over(rt: &impl Env) -> bool {
     let mut word = [0u8; 32];
-    let length = os::arg(4, &mut word);
+    let length = system::word_or_none(rt, 4, &mut word);
     words::same(&word[..length], b"over")
+}
+
+fn salvage_named(
+    rt: &HostRuntime,
+    damaged: File,
+    over: bool,
+    window: &mut [u8; WINDOW],
+    sheet: &mut [u8; SHEET],
+) -> u8 {
+    let mut clean = [0u8; system::NAME];
+    match system::word(rt, 3, &mut clean) {
+        Ok(length) => salvage_to(rt, damaged, &clean[..length], over, window, sheet),
+        Err(why) => {
+            system::tell(rt, b"file name", why);
+            NOT_DONE
+        }
+    }
 }
 
 // A salvage is done exactly if CLEAN is whole on its device, whatever was skipped.
 fn salvage_to(
-    fd: i32,
+    rt: &HostRuntime,
+    damaged: File,
     clean: &[u8],
     over: bool,
     window: &mut [u8; WINDOW],
     sheet: &mut [u8; SHEET],
 ) -> u8 {
-    if !clean::is_free(clean, fd, over, sheet) {
+    if !clean::is_free(rt, clean, &damaged, over, sheet) {
         return NOT_DONE;
     }
-    let file = clean::open_part(clean, sheet);
-    if file < 0 {
-        return NOT_DONE;
+    match clean::open_part(rt, clean, sheet) {
+        Some(file) => {
+            let out = keep_frames(rt, damaged, file, window, sheet);
+            end(rt, out, clean, over, sheet)
+        }
+        None => NOT_DONE,
     }
-    let s = damaged::walk(damaged::begin(fd, file), window, sheet);
-    let s = damaged::store(s);
-    libc::close(fd);
-    let out = damaged::add_totals(s, sheet);
-    if output::end(out, sheet) != DONE {
-        clean::remove_part(clean, sheet);
-        return NOT_DONE;
+}
+
+// Both files are closed when it is done.
+fn keep_frames(
+    rt: &HostRuntime,
+    damaged: File,
+    file: File,
+    window: &mut [u8; WINDOW],
+    sheet: &mut [u8; SHEET],
+) -> Output {
+    let s = damaged::walk(rt, damaged::begin(rt, &damaged, &file), window, sheet);
+    let s = damaged::store(rt, s);
+    damaged::add_totals(s, sheet)
+}
+
+// Writes the account, and gives CLEAN its name.
+fn end(rt: &HostRuntime, out: Output, clean: &[u8], over: bool, sheet: &mut [u8; SHEET]) -> u8 {
+    let status = output::end(rt, out, sheet);
+    if status != DONE {
+        clean::remove_part(rt, clean, sheet);
+        return status::worse(status, NOT_DONE);
     }
-    if clean::take_name(clean, over, sheet) {
+    if clean::take_name(rt, clean, over, sheet) {
         return DONE;
     }
     NOT_DONE

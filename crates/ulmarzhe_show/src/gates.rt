@@ -5,6 +5,7 @@ use frame::FrameAnswer;
 use gate_value::GateAnswer;
 use radial::MomentAnswer;
 use radial_head::MomentHead;
+use std::fs::File;
 use ulmarzhe_text::output::Output;
 use ulmarzhe_text::page::{PAGE, SHEET};
 use ulmarzhe_text::part::{part, wide16};
@@ -12,27 +13,29 @@ use ulmarzhe_text::window::WINDOW;
 use ulmarzhe_text::{output, page, real};
 
 // The recording is open, and stands at the frame's place.
-pub fn list(
-    fd: i32,
+pub fn list<'a>(
+    rt: &HostRuntime,
+    file: &'a File,
     place: u64,
     name: [u8; 4],
     window: &mut [u8; WINDOW],
     sheet: &mut [u8; SHEET],
-) -> Walk {
-    let w = recorded::begin(fd, place, output::begin(0), picture::empty());
+) -> Walk<'a> {
+    let w = recorded::begin(file, place, output::begin(0), picture::empty());
     let f = recorded::find(w.reading, window);
     let r = f.reading;
-    if r.failed {
-        return recorded::fail(w);
+    if let Some(why) = r.failed {
+        return recorded::fail(rt, w, why);
     }
     let mut w = w;
-    w.out = in_frame(w.out, f, place, name, window, sheet);
+    w.out = in_frame(rt, w.out, f, place, name, window, sheet);
     w
 }
 
 fn in_frame(
+    rt: &HostRuntime,
     out: Output,
-    f: Found,
+    f: Found<'_>,
     place: u64,
     name: [u8; 4],
     window: &[u8; WINDOW],
@@ -43,6 +46,7 @@ fn in_frame(
         FrameAnswer::End => listing::list_none(sheet, out, place),
         FrameAnswer::Refused(n) => listing::list_stop(sheet, out, place, n),
         FrameAnswer::Read(f) => in_message(
+            rt,
             out,
             place,
             name,
@@ -54,6 +58,7 @@ fn in_frame(
 }
 
 fn in_message(
+    rt: &HostRuntime,
     out: Output,
     place: u64,
     name: [u8; 4],
@@ -64,11 +69,12 @@ fn in_message(
     match recorded::tell(kind, whole) {
         Carried::Other => listing::list_none(sheet, out, place),
         Carried::Refused(n) => listing::list_refused(sheet, out, place, whole, n),
-        Carried::Radial => in_radial(out, place, name, whole, sheet),
+        Carried::Radial => in_radial(rt, out, place, name, whole, sheet),
     }
 }
 
 fn in_radial(
+    rt: &HostRuntime,
     out: Output,
     place: u64,
     name: [u8; 4],
@@ -83,7 +89,7 @@ fn in_radial(
             if n != 0 {
                 return listing::list_refused(sheet, out, place, whole, n);
             }
-            add_lines(out, m, radial_gates::gates(body, name), sheet)
+            add_lines(rt, out, m, radial_gates::gates(body, name), sheet)
         }
     }
 }
@@ -96,13 +102,19 @@ fn refusal_of(answer: GateAnswer) -> u8 {
     }
 }
 
-fn add_lines(out: Output, m: MomentHead, gates: &[u8], sheet: &mut [u8; SHEET]) -> Output {
+fn add_lines(
+    rt: &HostRuntime,
+    out: Output,
+    m: MomentHead,
+    gates: &[u8],
+    sheet: &mut [u8; SHEET],
+) -> Output {
     let mut out = out;
     let mut metres = wide16(m.first);
     let mut i = 0;
     while i < m.gates {
         let code = picture::code_at(gates, m.word, i as u32);
-        out = add_line(out, m, i, metres, code, sheet);
+        out = add_line(rt, out, m, i, metres, code, sheet);
         metres = std::num::wrapping_add_u64(metres, wide16(m.interval));
         i += 1;
     }
@@ -110,6 +122,7 @@ fn add_lines(out: Output, m: MomentHead, gates: &[u8], sheet: &mut [u8; SHEET]) 
 }
 
 fn add_line(
+    rt: &HostRuntime,
     out: Output,
     m: MomentHead,
     i: u16,
@@ -118,7 +131,7 @@ fn add_line(
     sheet: &mut [u8; SHEET],
 ) -> Output {
     let values = [wide16(i), metres / 1000, metres % 1000, wide16(code)];
-    let out = output::flush(out, PAGE / 2, sheet);
+    let out = output::flush(rt, out, PAGE / 2, sheet);
     let next = page::fill_in(sheet, out.at, b"<  <.& km  <  ", &values);
     let worth = gate_value::value(code, m.scale_bits, m.offset_bits);
     output::fill(out, put_value(sheet, next, worth))

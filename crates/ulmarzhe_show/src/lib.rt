@@ -13,42 +13,44 @@ mod why;
 use compare::MOST;
 use map::CodeAnswer;
 use recorded::{ROWS, SURVEY, Walk};
+use std::env::Env;
+use std::fs::File;
+use std::io::{Seek, SeekFrom};
 use ulmarzhe_text::output::Output;
 use ulmarzhe_text::page::SHEET;
 use ulmarzhe_text::part::part;
 use ulmarzhe_text::status::{NOT_DONE, WRONG_WORDS};
-use ulmarzhe_text::window::{Reading, WINDOW};
-use ulmarzhe_text::{files, output, page, window, words};
+use ulmarzhe_text::window::WINDOW;
+use ulmarzhe_text::{files, output, page, system, window, words};
 
-pub fn list_frames(window: &mut [u8; WINDOW], sheet: &mut [u8; SHEET]) -> u8 {
-    list(recorded::FRAMES, window, sheet)
+pub fn list_frames(rt: &HostRuntime, window: &mut [u8; WINDOW], sheet: &mut [u8; SHEET]) -> u8 {
+    list(rt, recorded::FRAMES, window, sheet)
 }
 
-pub fn list_radials(window: &mut [u8; WINDOW], sheet: &mut [u8; SHEET]) -> u8 {
-    list(recorded::RADIALS, window, sheet)
+pub fn list_radials(rt: &HostRuntime, window: &mut [u8; WINDOW], sheet: &mut [u8; SHEET]) -> u8 {
+    list(rt, recorded::RADIALS, window, sheet)
 }
 
-fn list(mode: u8, window: &mut [u8; WINDOW], sheet: &mut [u8; SHEET]) -> u8 {
-    let fd = files::open_named(2);
-    if fd < 0 {
-        return NOT_DONE;
+fn list(rt: &HostRuntime, mode: u8, window: &mut [u8; WINDOW], sheet: &mut [u8; SHEET]) -> u8 {
+    match files::open_named(rt, 2) {
+        Some(file) => {
+            let w = recorded::begin(&file, 0, output::begin(0), picture::empty());
+            let w = recorded::follow(rt, w, mode, [0; 4], window, sheet);
+            end(rt, w, sheet)
+        }
+        None => NOT_DONE,
     }
-    let w = recorded::begin(fd, 0, output::begin(0), picture::empty());
-    let w = recorded::follow(w, mode, [0; 4], window, sheet);
-    end(w, sheet)
 }
 
-// Closes the recording and writes what is left of the page.
-fn end(w: Walk, sheet: &[u8; SHEET]) -> u8 {
-    let r = w.reading;
-    libc::close(r.fd);
-    output::end(w.out, sheet)
+// Writes what is left of the page.
+fn end(rt: &HostRuntime, w: Walk<'_>, sheet: &[u8; SHEET]) -> u8 {
+    output::end(rt, w.out, sheet)
 }
 
 // Which moment an argument names, in the order of the list in `name_of`, or `MANY`.
-fn read_moment(i: usize) -> usize {
+fn read_moment(rt: &impl Env, i: usize) -> usize {
     let mut word = [0u8; 32];
-    let length = os::arg(i, &mut word);
+    let length = system::word_or_none(rt, i, &mut word);
     words::which(&word[..length], b"REF;VEL;SW;ZDR;PHI;RHO")
 }
 
@@ -63,114 +65,124 @@ fn name_of(moment: usize) -> [u8; 4] {
     }
 }
 
-pub fn list_gates(window: &mut [u8; WINDOW], sheet: &mut [u8; SHEET]) -> u8 {
-    let place = files::read_number(3);
-    let moment = read_moment(4);
+pub fn list_gates(rt: &HostRuntime, window: &mut [u8; WINDOW], sheet: &mut [u8; SHEET]) -> u8 {
+    let place = files::read_number(rt, 3);
+    let moment = read_moment(rt, 4);
     if moment == words::MANY {
         return WRONG_WORDS;
     }
     if !place.good {
         return WRONG_WORDS;
     }
-    let fd = files::open_named(2);
-    if fd < 0 {
-        return NOT_DONE;
+    match files::open_named(rt, 2) {
+        Some(file) => list_gates_at(rt, file, place.value, name_of(moment), window, sheet),
+        None => NOT_DONE,
     }
-    list_gates_at(fd, place.value, name_of(moment), window, sheet)
 }
 
 fn list_gates_at(
-    fd: i32,
+    rt: &HostRuntime,
+    file: File,
     place: u64,
     name: [u8; 4],
     window: &mut [u8; WINDOW],
     sheet: &mut [u8; SHEET],
 ) -> u8 {
-    if libc::lseek(fd, (place % 9223372036854775808) as i64, libc::SEEK_SET) < 0 {
-        os::fail(b"recording");
+    let mut file = file;
+    if let Err(why) = file.seek(SeekFrom::Start(place % 9223372036854775808)) {
+        system::tell(rt, b"recording", why);
         return NOT_DONE;
     }
-    let w = gates::list(fd, place, name, window, sheet);
-    end(w, sheet)
+    let w = gates::list(rt, &file, place, name, window, sheet);
+    end(rt, w, sheet)
 }
 
-pub fn draw_picture(window: &mut [u8; WINDOW], sheet: &mut [u8; SHEET]) -> u8 {
-    let moment = read_moment(3);
+pub fn draw_picture(rt: &HostRuntime, window: &mut [u8; WINDOW], sheet: &mut [u8; SHEET]) -> u8 {
+    let moment = read_moment(rt, 3);
     if moment == words::MANY {
         return WRONG_WORDS;
     }
-    let fd = files::open_named(2);
-    if fd < 0 {
-        return NOT_DONE;
+    match files::open_named(rt, 2) {
+        Some(file) => {
+            let w = draw(rt, &file, name_of(moment), window, sheet);
+            end(rt, w, sheet)
+        }
+        None => NOT_DONE,
     }
-    let w = draw(fd, name_of(moment), window, sheet);
-    end(w, sheet)
 }
 
 // A first walk measures the picture, a second one draws it.
-fn draw(fd: i32, name: [u8; 4], window: &mut [u8; WINDOW], sheet: &mut [u8; SHEET]) -> Walk {
-    let w = recorded::begin(fd, 0, output::begin(0), picture::empty());
-    let w = recorded::follow(w, SURVEY, name, window, sheet);
+fn draw<'a>(
+    rt: &HostRuntime,
+    file: &'a File,
+    name: [u8; 4],
+    window: &mut [u8; WINDOW],
+    sheet: &mut [u8; SHEET],
+) -> Walk<'a> {
+    let w = recorded::begin(file, 0, output::begin(0), picture::empty());
+    let w = recorded::follow(rt, w, SURVEY, name, window, sheet);
     if output::has_failed(w.out) {
         return w;
     }
     let p = w.picture;
     if p.most == 0 {
-        return tell_none(w);
+        return tell_none(rt, w);
     }
-    if libc::lseek(fd, 0, libc::SEEK_SET) < 0 {
-        return recorded::fail(w);
+    let mut place = file;
+    if let Err(why) = place.seek(SeekFrom::Start(0)) {
+        return recorded::fail(rt, w, why);
     }
-    let again = recorded::begin(fd, 0, output::begin(picture::put_head(p, sheet)), p);
-    recorded::follow(again, ROWS, name, window, sheet)
+    let again = recorded::begin(file, 0, output::begin(picture::put_head(p, sheet)), p);
+    recorded::follow(rt, again, ROWS, name, window, sheet)
 }
 
-fn tell_none(w: Walk) -> Walk {
-    io::write_all(
-        libc::STDERR_FILENO,
-        b"ulmarzhe: no radial has a gate of that moment\n",
-    );
+fn tell_none<'a>(rt: &HostRuntime, w: Walk<'a>) -> Walk<'a> {
+    system::say(rt, b"ulmarzhe: no radial has a gate of that moment\n");
     let mut w = w;
     w.out = output::refuse(w.out, 0);
     w
 }
 
-pub fn show_map_code(window: &mut [u8; WINDOW], sheet: &mut [u8; SHEET]) -> u8 {
-    let elevation = files::read_number(3);
-    let azimuth = files::read_number(4);
-    let kilometre = files::read_number(5);
+pub fn show_map_code(rt: &HostRuntime, window: &mut [u8; WINDOW], sheet: &mut [u8; SHEET]) -> u8 {
+    let elevation = files::read_number(rt, 3);
+    let azimuth = files::read_number(rt, 4);
+    let kilometre = files::read_number(rt, 5);
     if !elevation.good || !azimuth.good || !kilometre.good {
         return WRONG_WORDS;
     }
-    let fd = files::open_named(2);
-    if fd < 0 {
+    let Some(file) = files::open_named(rt, 2) else {
         return NOT_DONE;
-    }
-    let r = read_map(fd, 0, b"map", window);
-    if r.failed {
+    };
+    let Some(fill) = read_map(rt, file, 0, b"map", window) else {
         return NOT_DONE;
-    }
+    };
     let answer = ask_map(
         window,
-        r.fill,
+        fill,
         elevation.value as usize,
         azimuth.value as usize,
         kilometre.value as usize,
     );
     let out = maps::show_code(answer, sheet);
-    output::end(out, sheet)
+    output::end(rt, out, sheet)
 }
 
-// Reads a file into the window from a place on and closes it, or says why it cannot be read.
-fn read_map(fd: i32, from: usize, name: &[u8], window: &mut [u8; WINDOW]) -> Reading {
-    let mut r = window::begin(fd, 0);
+// Reads a file into the window from a place on, closes it and answers where it ends, or says why it cannot be read.
+fn read_map(
+    rt: &HostRuntime,
+    file: File,
+    from: usize,
+    name: &[u8],
+    window: &mut [u8; WINDOW],
+) -> Option<usize> {
+    let mut r = window::begin(&file, 0);
     r.fill = from;
     let r = window::read_all(r, window);
-    if r.failed {
-        os::fail(name);
+    if let Some(why) = r.failed {
+        system::tell(rt, name, why);
+        return None;
     }
-    libc::close(fd);
-    r
+    Some(r.fill)
 }
 
 // A file that the window cuts off is longer than any map, and what is left is refused as the whole would be.
@@ -184,45 +196,43 @@ fn ask_map(
     map::code_at(part(window, 0, fill), elevation, azimuth, kilometre)
 }
 
-pub fn compare_maps(window: &mut [u8; WINDOW], sheet: &mut [u8; SHEET]) -> u8 {
-    let old = files::open_named(2);
-    if old < 0 {
+pub fn compare_maps(rt: &HostRuntime, window: &mut [u8; WINDOW], sheet: &mut [u8; SHEET]) -> u8 {
+    let Some(old) = files::open_named(rt, 2) else {
         return NOT_DONE;
-    }
-    let new = files::open_named(3);
-    if new < 0 {
+    };
+    let Some(new) = files::open_named(rt, 3) else {
         return NOT_DONE;
-    }
+    };
     let mut list = [0u16; MOST];
-    compare_both(old, new, window, &mut list, sheet)
+    compare_both(rt, old, new, window, &mut list, sheet)
 }
 
 // The new map stands in the window behind the old one.
 fn compare_both(
-    old: i32,
-    new: i32,
+    rt: &HostRuntime,
+    old: File,
+    new: File,
     window: &mut [u8; WINDOW],
     list: &mut [u16; MOST],
     sheet: &mut [u8; SHEET],
 ) -> u8 {
-    let r = read_map(old, 0, b"old map", window);
-    if r.failed {
+    let Some(first) = read_map(rt, old, 0, b"old map", window) else {
         return NOT_DONE;
-    }
-    let end = if r.fill < maps::LONG {
-        r.fill
+    };
+    let end = if first < maps::LONG {
+        first
     } else {
         maps::LONG
     };
-    let r = read_map(new, end, b"new map", window);
-    if r.failed {
+    let Some(fill) = read_map(rt, new, end, b"new map", window) else {
         return NOT_DONE;
-    }
-    let out = show_differences(window, end, r.fill, list, sheet);
-    output::end(out, sheet)
+    };
+    let out = show_differences(rt, window, end, fill, list, sheet);
+    output::end(rt, out, sheet)
 }
 
 fn show_differences(
+    rt: &HostRuntime,
     window: &[u8; WINDOW],
     end: usize,
     fill: usize,
@@ -231,16 +241,16 @@ fn show_differences(
 ) -> Output {
     let old = part(window, 0, end);
     let new = part(window, end, fill);
-    maps::show_differences(old, new, list, sheet)
+    maps::show_differences(rt, old, new, list, sheet)
 }
 
-pub fn explain(sheet: &mut [u8; SHEET]) -> u8 {
-    let n = files::read_number(2);
+pub fn explain(rt: &HostRuntime, sheet: &mut [u8; SHEET]) -> u8 {
+    let n = files::read_number(rt, 2);
     if !n.good || n.value < 1 || why::NUMBERS < n.value {
         return WRONG_WORDS;
     }
     let mut at = page::fill_in(sheet, 0, b"#: ", &[n.value]);
     at = why::put_reason(sheet, at, n.value as usize);
     at = page::put_byte(sheet, at, b'\n');
-    output::end(output::begin(at), sheet)
+    output::end(rt, output::begin(at), sheet)
 }

@@ -54,6 +54,7 @@ fn put_change(sheet: &mut [u8; SHEET], at: usize, old: usize, new: usize) -> usi
 
 // One line for each difference of two maps, then the totals. Maps differ too if one has more elevation segments.
 pub fn show_differences(
+    rt: &HostRuntime,
     old: &[u8],
     new: &[u8],
     list: &mut [u16; MOST],
@@ -64,7 +65,7 @@ pub fn show_differences(
         CompareAnswer::Refused(n) => output::refuse(out, put_refused(sheet, old, n)),
         CompareAnswer::Compared(before, now, count) => {
             let mut tally = [0u64; CELLS];
-            let out = add_lines(out, list, count, &mut tally, sheet);
+            let out = add_lines(rt, out, list, count, &mut tally, sheet);
             if output::has_failed(out) {
                 return out;
             }
@@ -87,6 +88,7 @@ fn put_refused(sheet: &mut [u8; SHEET], old: &[u8], n: u8) -> usize {
 }
 
 fn add_lines(
+    rt: &HostRuntime,
     out: Output,
     list: &[u16; MOST],
     count: u32,
@@ -99,13 +101,14 @@ fn add_lines(
         if output::has_failed(out) {
             return out;
         }
-        out = add_line(out, nth(list, i), tally, sheet);
+        out = add_line(rt, out, nth(list, i), tally, sheet);
         i += 1;
     }
     out
 }
 
 fn add_line(
+    rt: &HostRuntime,
     out: Output,
     d: Difference,
     tally: &mut [u64; CELLS],
@@ -113,7 +116,7 @@ fn add_line(
 ) -> Output {
     count_in(tally, d);
     let at = put_line(sheet, out.at, d);
-    output::flush(output::fill(out, at), PAGE / 2, sheet)
+    output::flush(rt, output::fill(out, at), PAGE / 2, sheet)
 }
 
 fn nth(list: &[u16], i: u32) -> Difference {

@@ -4,11 +4,13 @@ use crate::{listing, picture};
 use frame::{DATA, Frame, FrameAnswer};
 use header::{HEADER, HeaderAnswer};
 use header_rule::RADIAL;
+use std::fs::File;
+use std::io::Error;
 use ulmarzhe_text::output::Output;
 use ulmarzhe_text::page::{PAGE, SHEET};
 use ulmarzhe_text::part::part;
 use ulmarzhe_text::window::{Reading, WINDOW};
-use ulmarzhe_text::{output, page, window};
+use ulmarzhe_text::{output, page, system, window};
 use wire::refusal;
 
 // What is done with each frame.
@@ -30,8 +32,8 @@ pub enum Carried {
 
 // A walk through a recording: what is written of it, whether the walk is done, and what a picture of it is like.
 #[derive(Clone, Copy)]
-pub struct Walk {
-    pub reading: Reading,
+pub struct Walk<'a> {
+    pub reading: Reading<'a>,
     pub out: Output,
     pub done: bool,
     pub picture: Picture,
@@ -39,33 +41,34 @@ pub struct Walk {
 
 // What the frame reader answers at the place that is looked at.
 #[derive(Clone, Copy)]
-pub struct Found {
-    pub reading: Reading,
+pub struct Found<'a> {
+    pub reading: Reading<'a>,
     pub answer: FrameAnswer,
 }
 
 // A walk from a place at which the recording stands.
-pub fn begin(fd: i32, place: u64, out: Output, p: Picture) -> Walk {
+pub fn begin(file: &File, place: u64, out: Output, p: Picture) -> Walk<'_> {
     Walk {
-        reading: window::begin(fd, place),
+        reading: window::begin(file, place),
         out,
         done: false,
         picture: p,
     }
 }
 
-pub fn follow(
-    w: Walk,
+pub fn follow<'a>(
+    rt: &HostRuntime,
+    w: Walk<'a>,
     mode: u8,
     name: [u8; 4],
     window: &mut [u8; WINDOW],
     sheet: &mut [u8; SHEET],
-) -> Walk {
+) -> Walk<'a> {
     let mut w = w;
     let mut turns = u64::MAX;
     while 0 < turns {
         let f = find(w.reading, window);
-        w = step(w, f, mode, name, window, sheet);
+        w = step(rt, w, f, mode, name, window, sheet);
         if w.done {
             return w;
         }
@@ -75,7 +78,7 @@ pub fn follow(
 }
 
 // Reads until the frame that is looked at is whole in the window or refused for what it says, or the recording ends or cannot be read.
-pub fn find(r: Reading, window: &mut [u8; WINDOW]) -> Found {
+pub fn find<'a>(r: Reading<'a>, window: &mut [u8; WINDOW]) -> Found<'a> {
     let mut f = ask(r, window);
     let mut turns = u64::MAX;
     while 0 < turns {
@@ -89,7 +92,7 @@ pub fn find(r: Reading, window: &mut [u8; WINDOW]) -> Found {
     f
 }
 
-fn ask(r: Reading, window: &[u8; WINDOW]) -> Found {
+fn ask<'a>(r: Reading<'a>, window: &[u8; WINDOW]) -> Found<'a> {
     Found {
         reading: r,
         answer: frame::frame_at(part(window, 0, r.fill), r.from),
@@ -97,7 +100,7 @@ fn ask(r: Reading, window: &[u8; WINDOW]) -> Found {
 }
 
 // More bytes cannot change the answer of a whole frame, or of one that is refused but not cut off.
-fn is_settled(f: Found) -> bool {
+fn is_settled(f: Found<'_>) -> bool {
     let r = f.reading;
     if r.ended {
         return true;
@@ -110,47 +113,56 @@ fn is_settled(f: Found) -> bool {
     }
 }
 
-fn step(
-    w: Walk,
-    f: Found,
+fn step<'a>(
+    rt: &HostRuntime,
+    w: Walk<'a>,
+    f: Found<'a>,
     mode: u8,
     name: [u8; 4],
     window: &[u8; WINDOW],
     sheet: &mut [u8; SHEET],
-) -> Walk {
+) -> Walk<'a> {
     let r = f.reading;
     let mut w = w;
     w.reading = r;
-    if r.failed {
-        return fail(w);
+    if let Some(why) = r.failed {
+        return fail(rt, w, why);
     }
     let answer = f.answer;
     match answer {
         FrameAnswer::End => finish(w),
-        FrameAnswer::Refused(n) => stop(w, mode, n, sheet),
-        FrameAnswer::Read(f) => take(w, mode, name, f, part(window, f.start, f.next), sheet),
+        FrameAnswer::Refused(n) => stop(rt, w, mode, n, sheet),
+        FrameAnswer::Read(f) => take(rt, w, mode, name, f, part(window, f.start, f.next), sheet),
     }
 }
 
-fn finish(w: Walk) -> Walk {
+fn finish(w: Walk<'_>) -> Walk<'_> {
     let mut w = w;
     w.done = true;
     w
 }
 
 // Says why the recording cannot be read.
-pub fn fail(w: Walk) -> Walk {
-    os::fail(b"recording");
+pub fn fail<'a>(rt: &HostRuntime, w: Walk<'a>, why: Error) -> Walk<'a> {
+    system::tell(rt, b"recording", why);
     let mut w = finish(w);
     w.out = output::fail(w.out);
     w
 }
 
 // Shows a frame and goes on after it.
-fn take(w: Walk, mode: u8, name: [u8; 4], f: Frame, whole: &[u8], sheet: &mut [u8; SHEET]) -> Walk {
+fn take<'a>(
+    rt: &HostRuntime,
+    w: Walk<'a>,
+    mode: u8,
+    name: [u8; 4],
+    f: Frame,
+    whole: &[u8],
+    sheet: &mut [u8; SHEET],
+) -> Walk<'a> {
     let out = show(w, mode, name, f.kind, whole, sheet);
     let p = survey(w, mode, name, f.kind, whole);
-    let out = output::flush(out, PAGE / 2, sheet);
+    let out = output::flush(rt, out, PAGE / 2, sheet);
     Walk {
         reading: window::look_at(w.reading, f.next),
         out,
@@ -161,7 +173,7 @@ fn take(w: Walk, mode: u8, name: [u8; 4], f: Frame, whole: &[u8], sheet: &mut [u
 
 // What a frame adds to the page.
 fn show(
-    w: Walk,
+    w: Walk<'_>,
     mode: u8,
     name: [u8; 4],
     kind: u32,
@@ -185,7 +197,7 @@ fn show(
 }
 
 // What a frame adds to the picture's measures.
-fn survey(w: Walk, mode: u8, name: [u8; 4], kind: u32, whole: &[u8]) -> Picture {
+fn survey(w: Walk<'_>, mode: u8, name: [u8; 4], kind: u32, whole: &[u8]) -> Picture {
     if mode != SURVEY {
         return w.picture;
     }
@@ -213,15 +225,15 @@ pub fn body_of(whole: &[u8]) -> &[u8] {
 }
 
 // A damaged place ends a walk. A listing tells it on a line of its own, a picture on standard error.
-fn stop(w: Walk, mode: u8, n: u8, sheet: &mut [u8; SHEET]) -> Walk {
+fn stop<'a>(rt: &HostRuntime, w: Walk<'a>, mode: u8, n: u8, sheet: &mut [u8; SHEET]) -> Walk<'a> {
     let place = window::place_of(w.reading);
     let mut w = finish(w);
     if mode == SURVEY {
         return w;
     }
     if mode == ROWS {
-        let out = output::flush(w.out, 0, sheet);
-        w.out = tell_stop(out, place, n, sheet);
+        let out = output::flush(rt, w.out, 0, sheet);
+        w.out = tell_stop(rt, out, place, n, sheet);
         return w;
     }
     w.out = listing::list_stop(sheet, w.out, place, n);
@@ -229,11 +241,11 @@ fn stop(w: Walk, mode: u8, n: u8, sheet: &mut [u8; SHEET]) -> Walk {
 }
 
 // Writes what was drawn, then the damaged place on standard error.
-fn tell_stop(out: Output, place: u64, n: u8, sheet: &mut [u8; SHEET]) -> Output {
+fn tell_stop(rt: &HostRuntime, out: Output, place: u64, n: u8, sheet: &mut [u8; SHEET]) -> Output {
     if output::has_failed(out) {
         return out;
     }
     let told = listing::list_stop(sheet, out, place, n);
-    page::send(libc::STDERR_FILENO, sheet, told.at);
+    let _ = page::send(&rt.stderr(), sheet, told.at);
     output::fill(told, 0)
 }

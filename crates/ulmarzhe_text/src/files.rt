@@ -1,55 +1,68 @@
 // What the command line names: files, and numbers.
-use crate::words;
 use crate::words::Number;
+use crate::{system, words};
+use std::env::Env;
+use std::fs::File;
+use std::io::Read;
+use std::os::fd::{AsRawFd, IntoRawFd};
 
 const STREAMS: usize = 3;
 
+// The number of standard error, the last of the streams.
+const LAST: i32 = 2;
+
 // Opens the root folder in place of each closed standard stream. A folder can be neither read nor written, and no file that is opened later
 // gets the stream's number.
-pub fn hold_streams() {
+pub fn hold_streams(rt: &HostRuntime) {
     let mut k = 0;
     while k < STREAMS {
-        let fd = os::open_read(b"/");
-        if libc::STDERR_FILENO < fd {
-            libc::close(fd);
-            return;
+        if let Ok(root) = system::open_read(rt, b"/") {
+            if LAST < root.as_raw_fd() {
+                return;
+            }
+            root.into_raw_fd();
         }
         k += 1;
     }
 }
 
-// Opens the file that an argument names for reading. If that fails, says why and answers -1.
-pub fn open_named(i: usize) -> i32 {
-    let mut path = io::buffer();
-    let length = os::arg(i, &mut path);
-    if os::errno() != 0 {
-        os::fail(b"file name");
-        return -1;
+// Opens the file that an argument names for reading. If that fails, says why and answers none.
+pub fn open_named(rt: &HostRuntime, i: usize) -> Option<File> {
+    let mut path = [0u8; system::NAME];
+    match system::word(rt, i, &mut path) {
+        Ok(length) => open(rt, &path[..length]),
+        Err(why) => {
+            system::tell(rt, b"file name", why);
+            None
+        }
     }
-    open(&path[..length])
 }
 
-fn open(path: &[u8]) -> i32 {
-    let fd = os::open_read(path);
-    if fd < 0 {
-        os::fail(path);
-        return -1;
+fn open(rt: &HostRuntime, path: &[u8]) -> Option<File> {
+    match system::open_read(rt, path) {
+        Ok(file) => readable(rt, path, file),
+        Err(why) => {
+            system::tell(rt, path, why);
+            None
+        }
     }
-    let mut none = [0u8; 1];
-    if !can_read(fd, &mut none) {
-        os::fail(path);
-        return -1;
-    }
-    fd
 }
 
 // `open` accepts a directory; a read of no bytes reports it.
-fn can_read(fd: i32, none: &mut [u8]) -> bool {
-    0 <= libc::read(fd, &mut none[0..0])
+fn readable(rt: &HostRuntime, path: &[u8], file: File) -> Option<File> {
+    let mut file = file;
+    let mut none = [0u8; 1];
+    match file.read(&mut none[0..0]) {
+        Ok(_) => Some(file),
+        Err(why) => {
+            system::tell(rt, path, why);
+            None
+        }
+    }
 }
 
-pub fn read_number(i: usize) -> Number {
+pub fn read_number(rt: &impl Env, i: usize) -> Number {
     let mut word = [0u8; 32];
-    let length = os::arg(i, &mut word);
+    let length = system::word_or_none(rt, i, &mut word);
     words::read_decimal(&word[..length])
 }

@@ -8,5 +8,6 @@ pub mod page;
 pub mod part;
 pub mod real;
 pub mod status;
+pub mod system;
 pub mod window;
 pub mod words;

@@ -1,6 +1,7 @@
 // Text is written into a page that the caller lends. Each function takes how far the page is filled and answers how far it is then.
 // Text past the page's end is dropped; callers empty the page long before. Behind the page lies the room that is lent to the library.
 use crate::part::{part, sum};
+use std::io::{Print, Result};
 
 pub const PAGE: usize = 65536;
 
@@ -159,10 +160,10 @@ pub fn put_octet(sheet: &mut [u8; SHEET], at: usize, b: u8) -> usize {
     put_byte(sheet, next, glyph(b % 16))
 }
 
-// Writes the page up to a place, and answers whether that went well.
-pub fn send(fd: i32, sheet: &[u8; SHEET], at: usize) -> bool {
+// Writes the page up to a place.
+pub fn send(to: &impl Print, sheet: &[u8; SHEET], at: usize) -> Result<()> {
     if PAGE < at {
-        return io::write_all(fd, part(sheet, 0, PAGE));
+        return to.write_all(part(sheet, 0, PAGE));
     }
-    io::write_all(fd, part(sheet, 0, at))
+    to.write_all(part(sheet, 0, at))
 }

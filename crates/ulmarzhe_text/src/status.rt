@@ -11,6 +11,10 @@ pub const NOT_DONE: u8 = 2;
 // Not done: the command does not take these words. `ulmarzhe_run` has the commands' forms and says so; the program ends as not done.
 pub const WRONG_WORDS: u8 = 3;
 
+// Not done: nobody reads standard output any more, which is no fault and not told. A shell gives this status to a program that the system
+// ends for it.
+pub const NOT_READ: u8 = 141;
+
 pub fn worse(a: u8, b: u8) -> u8 {
     if a < b { b } else { a }
 }

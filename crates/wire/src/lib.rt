@@ -39,7 +39,13 @@ fn wide16(x: u8) -> u16
     x as u16
 }
 
-fn wide32(x: u16) -> u32
+fn wide32(x: u8) -> u32
+    ensures { (result ≡ x) × (result < 256) }
+{
+    x as u32
+}
+
+fn half32(x: u16) -> u32
     ensures { (result ≡ x) × (result < 65536) }
 {
     x as u32
@@ -67,8 +73,8 @@ fn whole32(b: &[u8], at: usize) -> u32
     requires { at + 4 ≤ length b.now }
     ensures { result ≡ num 4 b.now at }
 {
-    let high = wide32(whole16(b, at));
-    let low = wide32(whole16(b, at + 2));
+    let high = half32(whole16(b, at));
+    let low = half32(whole16(b, at + 2));
     high * 65536 + low
 }
 

@@ -1,4 +1,4 @@
-use Prim.Native.Nat.{ℕ, ◌≤◌, ◌-◌}
+use Prim.Native.Nat.{ℕ}
 use native.Mathlib.Omega.{arith}
 use mathlib.Core.List.{List}
 use mathlib.Core.Path.{refl, ◌≡◌, ◌∙◌, ap}
@@ -19,7 +19,7 @@ loop-i-preserved c =
       search rules,
       store16.ensures ∙ written_more args.list.now args.out.now loop.out loop.i (search rules) pre.1
           loop.invariant.1 loop.invariant.2,
-      store16.auto.0 ∙ loop.invariant.2,
+      store16.auto.out ∙ loop.invariant.2,
     )
 
 pub returns : goal.returns

@@ -1,13 +1,8 @@
-use Prim.Native.Nat.{ℕ, ◌≤◌, ◌-◌}
-use native.Mathlib.Omega.{arith}
-use mathlib.Core.List.{List}
-use mathlib.Core.Path.{refl, ◌≡◌, ◌∙◌, ap}
-use borrow.Author.Rules.{rules}
-use lib.Seq.{take_all}
+use Prim.Native.Nat.{◌≤◌, ◌-◌}
+use mathlib.Core.Path.{◌≡◌}
 use lib.ListN.{length, take}
 use Rattle.wire.specs.Tables.{run}
 use Rattle.wire.specs.Writing.{filled}
-use Rattle.censor.proofs.Halfwords.{written_more}
 use Rattle.censor.proofs.put_all.Given as goal
 
 -- the first i numbers are written
@@ -16,4 +11,3 @@ invariant-loop-i l = (l.i ≤ length l.list) × (l.out ≡ filled (run 2 (take l
 
 abbrev pub decreases-loop-i : goal.decreases-loop-i
 decreases-loop-i l = length l.list - l.i
-

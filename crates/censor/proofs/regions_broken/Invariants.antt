@@ -1,14 +1,8 @@
-use Prim.Native.Nat.{ℕ, ◌+◌, ◌≤◌, ◌*◌, ◌-◌}
-use native.Mathlib.Omega.{arith}
-use mathlib.Core.Path.{refl, ◌≡◌, sym, ◌∙◌, ap}
-use borrow.Author.Rules.{rules}
+use Prim.Native.Nat.{◌≤◌, ◌*◌, ◌-◌}
+use mathlib.Core.Path.{◌≡◌}
 use lib.ListN.{drop}
-use Rattle.wire.specs.Checks.{either}
-use Rattle.wire.proofs.ListLaws.{part_is}
-use Rattle.wire.proofs.CheckLaws.{hit, miss}
-use Rattle.form_spec.proofs.FormLaws.{times-next}
-use Rattle.censor.specs.Censor.{region_fields, region}
-use Rattle.censor.specs.Steps.{region_broken, regions_broken}
+use Rattle.censor.specs.Censor.{region_fields}
+use Rattle.censor.specs.Steps.{regions_broken}
 use Rattle.censor.proofs.regions_broken.Given as goal
 
 -- the regions from number i on answer as all do
@@ -17,4 +11,3 @@ invariant-loop-i l = (l.i ≤ l.n) × (regions_broken (l.n - l.i) (drop (region_
 
 abbrev pub decreases-loop-i : goal.decreases-loop-i
 decreases-loop-i l = l.n - l.i
-

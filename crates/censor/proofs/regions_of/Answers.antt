@@ -1,4 +1,4 @@
-use Prim.Native.Nat.{ℕ, ◌+◌, ◌≤◌, ◌*◌, ◌-◌}
+use Prim.Native.Nat.{ℕ, ◌+◌, ◌*◌, ◌-◌}
 use native.Mathlib.Omega.{arith}
 use mathlib.Core.List.{List, ◌++◌}
 use mathlib.Core.Path.{refl, ◌≡◌, ◌∙◌, ap}
@@ -6,7 +6,6 @@ use borrow.Author.Rules.{rules}
 use lib.ListN.{set, replicate}
 use Rattle.wire.proofs.NumberLaws.{fetched-whole}
 use Rattle.wire.specs.Numbers.{num, nums}
-use Rattle.censor.specs.Censor.{region_fields}
 use Rattle.censor.specs.Told.{places}
 use Rattle.censor.proofs.Halfwords.{stored_more}
 use Rattle.censor.proofs.regions_of.Goals as goal

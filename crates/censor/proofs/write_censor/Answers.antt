@@ -1,5 +1,4 @@
 use mathlib.Core.Path.{◌≡◌, refl, sym, ap, ◌∙◌}
-use borrow.Author.Rules.{rules}
 use Rattle.wire.proofs.ListLaws.{part_is}
 use Rattle.censor.specs.Censor.{count, fields}
 use Rattle.censor.specs.Steps.{regions_broken}
@@ -46,5 +45,5 @@ returns c =
     let if3 = c.if-list-n in
     let if4 = c.if-regions_broken in
     let if5 = c.if-out-size in
-    let put_all_lem = c.put_all_lem in
+    let put_all_lem = c.put_all in
     kept _ _ _ _ _ (list_written _ _ if2.false if3.false (told_is ∙ if4.false) if5.false) put_all_lem.ensures

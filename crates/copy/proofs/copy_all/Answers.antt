@@ -1,8 +1,6 @@
-use Prim.Native.Nat.{◌-◌}
-use lib.ListN.{length}
 use borrow.Author.Rules.{rules}
 use Rattle.copy.specs.Copying.{copy_block}
-use Rattle.copy.proofs.CopyLaws.{Copied, block_turn, part_end, part-end-long}
+use Rattle.copy.proofs.CopyLaws.{block_turn, part_end, part-end-long}
 use Rattle.copy.proofs.copy_all.Goals as goal
 
 pub loop-done-preserved : goal.loop-done-preserved

@@ -1,6 +1,4 @@
-use Rattle.copy.proofs.CopyLaws.{Copied, copy_turn, copy-end}
-use lib.ListN.{length}
-use Prim.Native.Nat.{◌-◌}
+use Rattle.copy.proofs.CopyLaws.{copy_turn, copy-end}
 use borrow.Author.Rules.{rules}
 use Rattle.copy.proofs.copy_each.Goals as goal
 

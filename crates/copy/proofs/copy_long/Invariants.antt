@@ -1,8 +1,6 @@
 use Prim.Native.Nat.{◌-◌}
 use lib.ListN.{length}
-use borrow.Author.Rules.{rules}
-use Rattle.copy.specs.Copying.{copy_run}
-use Rattle.copy.proofs.CopyLaws.{Copied, block_turn, part_end, part-end-long}
+use Rattle.copy.proofs.CopyLaws.{Copied}
 use Rattle.copy.proofs.copy_long.Given as goal
 
 -- `copy_long` meets its contract: a turn of its loop copies a run more. Assumes nothing.
@@ -11,4 +9,3 @@ invariant-loop-done l = Copied l.from l.initial.to l.to l.done
 
 abbrev pub decreases-loop-done : goal.decreases-loop-done
 decreases-loop-done l = length l.initial.to - l.done
-

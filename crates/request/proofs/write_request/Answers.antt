@@ -1,5 +1,4 @@
 use mathlib.Core.Path.{refl, sym, ◌∙◌}
-use borrow.Author.Rules.{rules}
 use Rattle.wire.proofs.AnswerLaws.{kept}
 use Rattle.wire.proofs.NumberLaws.{stored-whole}
 use Rattle.request.proofs.StepLaws.{list-long, list_code, list-room, list-fine}

@@ -1,3 +1,4 @@
+-- `heads_of` meets its contract: its bytes are those of the two tables. Assumes nothing.
 use mathlib.Core.Path.{◌≡◌, sym, ap, ◌∙◌}
 use mathlib.Core.List.{List, ◌++◌}
 use Prim.Native.Nat.{ℕ, ◌%◌}
@@ -8,10 +9,8 @@ use Rattle.frame.specs.Session.{head_table, data_kind}
 use Rattle.writer_head.specs.Head.{header_for, heads}
 use Rattle.writer_head.specs.Steps.{size_written, high_written, low_written}
 use Rattle.writer_head.proofs.HeadLaws.{header-bytes}
-use borrow.Author.Rules.{rules}
 use Rattle.writer_head.proofs.heads_of.Goals as goal
 
--- `heads_of` meets its contract: its bytes are those of the two tables. Assumes nothing.
 pub high_field-high-requires : goal.high_field-high-requires
 high_field-high-requires c = omega (arith, ap (λ (h : Halfwords). h.0) c.to_halfwords-half.ensures)
 

@@ -1,0 +1,2 @@
+-- That the contracts say what they should.
+pub mod Welds
