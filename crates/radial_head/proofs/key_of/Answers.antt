@@ -1,4 +1,3 @@
-use borrow.Author.Rules.{rules}
 use Rattle.radial_head.proofs.key_of.Goals as goal
 
 pub returns : goal.returns

@@ -1,7 +1,6 @@
 use native.Mathlib.Nat.{mul-le-mul}
 use native.Mathlib.Omega.{arith}
 use Prim.Native.Nat.{◌/◌}
-use borrow.Author.Rules.{rules}
 use Rattle.radial_head.proofs.moment_size.Goals as goal
 
 pub overflow_mul-result : goal.overflow_mul-result
