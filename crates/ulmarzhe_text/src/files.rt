@@ -40,7 +40,12 @@ pub fn open_named(rt: &HostRuntime, i: usize) -> Option<File> {
 
 fn open(rt: &HostRuntime, path: &[u8]) -> Option<File> {
     match system::open_read(rt, path) {
-        Ok(file) => readable(rt, path, file),
+        Ok(file) => {
+            if can_read(rt, path, &file) {
+                return Some(file);
+            }
+            None
+        }
         Err(why) => {
             system::tell(rt, path, why);
             None
@@ -49,14 +54,14 @@ fn open(rt: &HostRuntime, path: &[u8]) -> Option<File> {
 }
 
 // `open` accepts a directory; a read of no bytes reports it.
-fn readable(rt: &HostRuntime, path: &[u8], file: File) -> Option<File> {
+fn can_read(rt: &HostRuntime, path: &[u8], file: &File) -> bool {
     let mut file = file;
     let mut none = [0u8; 1];
     match file.read(&mut none[0..0]) {
-        Ok(_) => Some(file),
+        Ok(_) => true,
         Err(why) => {
             system::tell(rt, path, why);
-            None
+            false
         }
     }
 }
