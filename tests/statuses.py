@@ -1,4 +1,5 @@
-"""The program's exit status. 0: done, and nothing was wrong with the input. 1: done, and the answer is a no. 2: not done."""
+"""The program's exit status. 0: done, and nothing was wrong with the input. 1: done, and the answer is a no. 2: not done. 141: nobody reads
+standard output."""
 import os
 import struct
 import subprocess
@@ -106,6 +107,36 @@ def without_output(rows):
     return 4 * len(asked) + 1
 
 
+def not_read(rows):
+    """Where nobody reads standard output, no command says a word. A salvage then leaves no file."""
+    asked = done_words(rows)
+    for words in asked:
+        if words[0] == "salvage":
+            words = (*words[:2], words[2].with_name("unread.rec"))
+        read, write = os.pipe()
+        os.close(read)
+        done = ended(words, out=write)
+        os.close(write)
+        if (done.returncode, done.stderr) != (141, b""):
+            fail(f"{words}: nobody reads it, and it ends by {done.returncode}, {done.stderr!r}")
+        if words[0] == "salvage" and list(words[2].parent.glob("unread.rec*")):
+            fail("salvage: nobody reads it, and it left a clean recording")
+    return len(asked)
+
+
+def no_text(scratch):
+    """A file whose name is no text cannot be opened."""
+    held = os.fsencode(scratch) + b"/\xff.rec"
+    with open(held, "wb") as file:
+        file.write(SAMPLE.read_bytes())
+    for words in (("frames", held), ("salvage", held, scratch / "text.rec"), ("salvage", DAMAGED, held, "over")):
+        done = subprocess.run([PROGRAM, *(w if isinstance(w, bytes) else str(w) for w in words)], stdin=subprocess.DEVNULL,
+                              capture_output=True, check=False)
+        if done.returncode != 2 or not done.stderr.startswith(held) or done.stderr.count(b"\n") != 1 or done.stdout:
+            fail(f"{words}: status {done.returncode}; {done.stderr!r}")
+    return 3
+
+
 def not_readable(scratch, rows):
     """A file that the user may not read."""
     program, held = scratch / "program", scratch / "held.bytes"
@@ -126,7 +157,7 @@ def each_status(scratch):
     asked = [(command, status, words) for command, status, each in rows for words in each]
     for command, status, words in asked:
         want_status((command, *words) if command else words, status)
-    count = len(asked) + without_output(rows) + not_readable(scratch, rows)
+    count = len(asked) + without_output(rows) + not_read(rows) + no_text(scratch) + not_readable(scratch, rows)
     return f"{count} command lines by their status"
 
 

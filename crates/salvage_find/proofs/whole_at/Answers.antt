@@ -65,8 +65,9 @@ returns-else-check_header-ne0 c =
     let n = c.check_header in
     let l = lies in
     let m = message_of in
+    let is_data = c.if-f-ne-DATA.false in
     some-whole left
-    (own_header left l.passes (sym l.kind ∙ c.if-f-ne-DATA.false)
+    (own_header left l.passes (sym l.kind ∙ is_data)
     ∙ (header-given (body_in left) (as_reported s.result)
     (ap header_of (sym l.body) ∙ header_read m s.result n.result s.ensures n.ensures (as_reported s.result)
     refl c.if-check_header-ne0.false)).0)
