@@ -14,7 +14,7 @@ STATUSES = (0, 1, 2)
 
 
 def ended(words, program=PROGRAM, out=subprocess.PIPE, **how):
-    command = [program, *map(str, words)]
+    command = [program, *(word if isinstance(word, bytes) else str(word) for word in words)]
     return subprocess.run(command, stdin=subprocess.DEVNULL, stdout=out, stderr=subprocess.PIPE, check=False, **how)
 
 
@@ -130,8 +130,7 @@ def no_text(scratch):
     with open(held, "wb") as file:
         file.write(SAMPLE.read_bytes())
     for words in (("frames", held), ("salvage", held, scratch / "text.rec"), ("salvage", DAMAGED, held, "over")):
-        done = subprocess.run([PROGRAM, *(w if isinstance(w, bytes) else str(w) for w in words)], stdin=subprocess.DEVNULL,
-                              capture_output=True, check=False)
+        done = ended(words)
         if done.returncode != 2 or not done.stderr.startswith(held) or done.stderr.count(b"\n") != 1 or done.stdout:
             fail(f"{words}: status {done.returncode}; {done.stderr!r}")
     return 3

@@ -4,7 +4,7 @@ snake case, a dash only between two names, and no other name touched.
 
 usage: python3 tools/spell_names.py [FOLDER]     the top of a checkout, else this one; once, right after the toolchain's port.py
 
-It goes over .antt files, the clauses of .rt files and the names in Markdown. A lemma that would meet its definition gets `_lem`.
+It goes over .antt files, the clauses of .rt files and the names in Markdown, but for docs/landings, which says how things stood. A lemma that would meet its definition gets `_lem`.
 What meets another name all the same is printed in a line 'meets:'.
 """
 
@@ -24,7 +24,7 @@ OWN = re.compile(r"^(?:abbrev )?(?:pub )?(%s) : (.*)" % NAME)
 
 def files(ending):
     for folder, dirs, names in os.walk(ROOT):
-        dirs[:] = sorted(d for d in dirs if d not in (".git", "out", "must-fail", "target", "build"))
+        dirs[:] = sorted(d for d in dirs if d not in (".git", "out", "must-fail", "target", "build", "landings"))
         for name in sorted(names):
             if name.endswith(ending):
                 yield os.path.join(folder, name)
@@ -122,15 +122,13 @@ def turned(text, to, inner):
     return re.sub(NAME, name, text)
 
 
+def in_ticks(line, to, inner):
+    """A comment's line: what stands in backticks is turned."""
+    return re.sub(r"`[^`\n]*`", lambda m: turned(m[0].strip("`"), to, inner).join("``"), line)
+
+
 def of_antt(text, to, inner):
-    out = []
-    for line in text.split("\n"):
-        code, dash, comment = line, "", ""
-        if line.lstrip().startswith("--"):
-            code, comment = "", line
-        comment = re.sub(r"`[^`]*`", lambda m: turned(m[0].strip("`"), to, inner).join("``"), comment)
-        out.append(turned(code, to, inner) + dash + comment)
-    return "\n".join(out)
+    return "\n".join((in_ticks if line.lstrip().startswith("--") else turned)(line, to, inner) for line in text.split("\n"))
 
 
 def of_rust(text, to, inner):
@@ -138,7 +136,7 @@ def of_rust(text, to, inner):
     out = []
     for line in text.split("\n"):
         if line.lstrip().startswith("//"):
-            line = re.sub(r"`[^`]*`", lambda m: turned(m[0].strip("`"), camel, inner).join("``"), line)
+            line = in_ticks(line, camel, inner)
         elif '"' not in line:
             line = turned(line, camel, inner)
         out.append(line)
@@ -147,8 +145,7 @@ def of_rust(text, to, inner):
 
 def of_page(text, to, inner):
     camel = {a: b for a, b in to.items() if re.search(r"[a-z0-9][A-Z]", a)}
-    text = re.sub(r"[A-Za-z0-9_]+'*", lambda m: camel.get(m[0], m[0]), text)
-    return re.sub(r"`[^`\n]*`", lambda m: turned(m[0].strip("`"), to, inner).join("``"), text)
+    return in_ticks(re.sub(r"[A-Za-z0-9_]+'*", lambda m: camel.get(m[0], m[0]), text), to, inner)
 
 
 def own_names(text):
@@ -156,44 +153,49 @@ def own_names(text):
     return re.findall(rf"^use \S+ as ({NAME})$", text, re.M)
 
 
+def of_file(path, text, to):
+    """The spelling that holds in one .antt file, where a goal keeps the name that the toolchain gave it and an alias gives way."""
+    here = dict(to)
+    if is_of_a_function(path):
+        for line in text.split("\n"):
+            found = OWN.match(line)
+            if found:
+                here.pop(found[1], None)
+    words, aliases = unqualified(text), own_names(text)
+    for alias in aliases:
+        here[alias] = in_snake_case(alias).replace("-", "_")
+        if here[alias] in {here.get(it, it) for it in words if it not in aliases}:
+            here[alias] += "_reads"
+    return here
+
+
+def tell_meetings(path, words, to):
+    for was in sorted(words & set(to)):
+        if to[was] != was and to[was] in words:
+            print(f"meets: {os.path.relpath(path, ROOT)}: {was} and {to[was]}")
+
+
+def rewrite(path, was, new):
+    if new != was:
+        with open(path, "w", encoding="utf-8") as it:
+            it.write(new)
+
+
 def main():
     top, inner, definitions = declared()
     to = mapping(top, inner, definitions)
     for path in files(".antt"):
         text = read(path)
-        here = dict(to)
-        if is_of_a_function(path):
-            # A goal keeps the name that the toolchain gave it.
-            for line in text.split("\n"):
-                found = OWN.match(line)
-                if found:
-                    here.pop(found[1], None)
-        words = unqualified(text)
-        aliases = own_names(text)
-        for alias in aliases:
-            here[alias] = in_snake_case(alias).replace("-", "_")
-            others = {here.get(it, it) for it in words if it not in aliases}
-            if here[alias] in others:
-                here[alias] += "_reads"
-        for was in sorted(words & set(here)):
-            if here[was] != was and here[was] in words:
-                print(f"meets: {os.path.relpath(path, ROOT)}: {was} and {here[was]}")
-        new = of_antt(text, here, inner)
-        if new != text:
-            with open(path, "w", encoding="utf-8") as it:
-                it.write(new)
-    for ending, turn in ((".rt", of_rust), (".md", of_page)):
-        for path in files(ending):
-            text = read(path)
-            if ending == ".rt":
-                words = set(re.findall(r"[A-Za-z_0-9]+", re.sub(r"//.*", "", text)))
-                for was in sorted(words & set(to)):
-                    if to[was] != was and to[was] in words:
-                        print(f"meets: {os.path.relpath(path, ROOT)}: {was} and {to[was]}")
-            new = turn(text, to, inner)
-            if new != text:
-                with open(path, "w", encoding="utf-8") as it:
-                    it.write(new)
+        here = of_file(path, text, to)
+        tell_meetings(path, unqualified(text), here)
+        rewrite(path, text, of_antt(text, here, inner))
+    for path in files(".rt"):
+        text = read(path)
+        tell_meetings(path, set(re.findall(r"[A-Za-z_0-9]+", re.sub(r"//.*", "", text))), to)
+        rewrite(path, text, of_rust(text, to, inner))
+    for path in files(".md"):
+        text = read(path)
+        rewrite(path, text, of_page(text, to, inner))
     print(f"spelled {sum(1 for a, b in to.items() if a != b)} names")
 
 

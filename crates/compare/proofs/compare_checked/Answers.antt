@@ -2,9 +2,10 @@ use Prim.Native.Nat.{ℕ, ◌*◌}
 use native.Mathlib.Omega.{arith}
 use mathlib.Core.Path.{◌≡◌, sym, ap, ◌∙◌}
 use mathlib.Core.List.{List}
+use lib.Dec.{ltb}
 use lib.ListN.{length}
-use Rattle.wire.specs.Numbers.{Octets}
 use borrow.Author.Tests.{leb-true, leb-false}
+use Rattle.wire.specs.Checks.{pick}
 use Rattle.wire.specs.Writing.{filled}
 use Rattle.wire.specs.Sheets.{sheet}
 use Rattle.wire.proofs.AnswerLaws.{kept}
@@ -13,22 +14,21 @@ use Rattle.compare_spec.specs.Differences.{differences}
 use Rattle.compare_spec.specs.Comparing.{difference_size, comparison_of}
 use Rattle.compare.specs.declared.CompareAnswer.TheVariants.{Compared, Refused}
 use Rattle.compare.specs.Told.{tell_compare}
-use Rattle.compare.specs.Steps.{listing, list_of, Checked}
+use Rattle.compare.specs.Steps.{listing, list_of, Counts, Checked}
 use Rattle.compare.proofs.EntryLaws.{present_is, counted, listed, room_most, room-refused, all-given}
 use Rattle.compare.proofs.compare_checked.Goals as goal
 
--- both bodies are checked
+-- both bodies are checked for the lesser of their numbers of elevation segments
+checked_both : {older newer least : ℕ} {old new : List ℕ} → Counts older old × Counts newer new → least ≡ pick (ltb older newer) older newer
+    → Checked least old new
+checked_both {older} {newer} {least} {old} {new} k e = record {
+  in_old = k.0.checked;
+  in_new = k.1.checked;
+  present = e ∙ present_is older newer old new k.0.all k.1.all;
+}
+
 pub has_room-requires : goal.has_room-requires
-has_room-requires c =
-    let a = c.args in
-    let old = a.old.now in
-    let new = a.new.now in
-    let checked : Checked c.least-elevations.result old new = record {
-      in_old = c.requires.0.checked;
-      in_new = c.requires.1.checked;
-      present = c.least-elevations.ensures ∙ present_is a.older a.newer old new c.requires.0.all c.requires.1.all;
-    } in
-    checked
+has_room-requires c = checked_both c.requires c.least-elevations.ensures
 
 pub returns-then-not-has_room : goal.returns-then-not-has_room
 returns-then-not-has_room c =
@@ -41,38 +41,16 @@ returns-then-not-has_room c =
     (room-refused old new out c.requires.0.checked c.requires.1.checked little) c.has_room.ensures.1
 
 pub compare_azimuths-count-requires : goal.compare_azimuths-count-requires
-compare_azimuths-count-requires c =
-    let a = c.args in
-    let old = a.old.now in
-    let new = a.new.now in
-    let checked : Checked c.least-elevations.result old new = record {
-      in_old = c.requires.0.checked;
-      in_new = c.requires.1.checked;
-      present = c.least-elevations.ensures ∙ present_is a.older a.newer old new c.requires.0.all c.requires.1.all;
-    } in
-    checked
+compare_azimuths-count-requires c = checked_both c.requires c.least-elevations.ensures
 
 pub overflow_cast-result : goal.overflow_cast-result
 overflow_cast-result c =
-    let a = c.args in
-    let old = a.old.now in
-    let new = a.new.now in
-    let checked : Checked c.least-elevations.result old new = record {
-      in_old = c.requires.0.checked;
-      in_new = c.requires.1.checked;
-      present = c.least-elevations.ensures ∙ present_is a.older a.newer old new c.requires.0.all c.requires.1.all;
-    } in
-    let old_octets : Octets old = λ i. (c.shared_slice_known-1.given i).fits in
-    let new_octets : Octets new = λ i. (c.shared_slice_known-2-1.given i).fits in
-    let out = a.out.now in
-    let w = c.compare_azimuths-count in
-    let walked : sheet (difference_size * w.result) w.new.out ≡ listing (differences (map_in old) (map_in new)) (sheet 0 out) =
-    w.ensures ∙ ap (λ (l : List ℕ). listing (differences (map_in old) (map_in new)) (sheet 0 l)) c.has_room.ensures.1 in
-    let all : difference_size * w.result ≡ length (list_of old new) = counted old new _ out _ walked in
-    let most = room_most checked old_octets new_octets in
+    let all = counted c.args.old.now c.args.new.now c.compare_azimuths-count.result _ _ c.compare_azimuths-count.ensures in
+    let most =
+    room_most (checked_both c.requires c.least-elevations.ensures) (λ i. (c.shared_slice_known-1.given i).fits)
+    (λ i. (c.shared_slice_known-2-1.given i).fits) in
     record { fits = omega (arith, most, all) }
 
--- what was listed, on the output as it was lent
 pub returns : goal.returns
 returns c =
     let a = c.args in
@@ -82,9 +60,8 @@ returns c =
     let w = c.compare_azimuths-count in
     let walked : sheet (difference_size * w.result) w.new.out ≡ listing (differences (map_in old) (map_in new)) (sheet 0 out) =
     w.ensures ∙ ap (λ (l : List ℕ). listing (differences (map_in old) (map_in new)) (sheet 0 l)) c.has_room.ensures.1 in
-    let all : difference_size * w.result ≡ length (list_of old new) = counted old new _ out _ walked in
     let enough = leb-true (length (list_of old new)) (length out) (sym c.has_room.ensures.0 ∙ c.if-not-has_room.false) in
     kept tell_compare (comparison_of old new out) (Compared a.older a.newer w.result) _ (filled (list_of old new) out)
     (all-given old new out c.requires.0.checked c.requires.1.checked a.older a.newer w.result c.requires.0.all c.requires.1.all
-    all enough)
+    (counted old new w.result _ _ w.ensures) enough)
     (listed old new w.result out w.new.out walked enough)

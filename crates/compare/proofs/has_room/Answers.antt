@@ -4,7 +4,6 @@ use mathlib.Core.Path.{◌≡◌, refl, sym, ap, ◌∙◌}
 use mathlib.Core.List.{List}
 use lib.Dec.{leb}
 use lib.ListN.{length}
-use Rattle.wire.specs.Numbers.{Octets}
 use borrow.Author.Tests.{le-leb}
 use Rattle.wire.proofs.ListLaws.{none-put}
 use Rattle.compare_spec.specs.Comparing.{difference_size}
@@ -16,18 +15,14 @@ pub returns-then-out-ge-MOST : goal.returns-then-out-ge-MOST
 returns-then-out-ge-MOST c =
     let old = c.args.old.now in
     let new = c.args.new.now in
-    let old_octets : Octets old = λ i. (c.shared_slice_known-1.given i).fits in
-    let new_octets : Octets new = λ i. (c.shared_slice_known-2-1.given i).fits in
-    let most = room_most c.requires old_octets new_octets in
+    let most = room_most c.requires (λ i. (c.shared_slice_known-1.given i).fits) (λ i. (c.shared_slice_known-2-1.given i).fits) in
     (sym (le-leb (length (list_of old new)) (length c.args.out.now) (omega (arith, most))), refl)
 
 pub overflow_mul-result : goal.overflow_mul-result
 overflow_mul-result c =
     let old = c.args.old.now in
     let new = c.args.new.now in
-    let old_octets : Octets old = λ i. (c.shared_slice_known-1.given i).fits in
-    let new_octets : Octets new = λ i. (c.shared_slice_known-2-1.given i).fits in
-    let most = room_most c.requires old_octets new_octets in
+    let most = room_most c.requires (λ i. (c.shared_slice_known-1.given i).fits) (λ i. (c.shared_slice_known-2-1.given i).fits) in
     let w = c.compare_azimuths-count in
     let all : difference_size * w.result ≡ length (list_of old new) = counted old new w.result _ _ w.ensures in
     record { fits = omega (arith, most, all) }
