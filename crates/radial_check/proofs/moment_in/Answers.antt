@@ -29,20 +29,20 @@ returns-then-key-gt-MOST_GATES c =
 pub returns-then-not-sized : goal.returns-then-not-sized
 returns-then-not-sized c =
     let a = c.args in
-    odd-word a.size a.place c.key_of-key.result a.seen _ c.bit_of-bit.ensures c.if-bit-eq0.false c.if-seen-bit-ne0.false c.if-key-gt-MOST_GATES.false
-    (sym c.if-not-sized.true ∙ c.sized.ensures)
+    odd-word a.size a.place c.key_of-key.result a.seen _ c.bit_of-bit.ensures c.if-bit-eq0.false c.if-seen-bit-ne0.false
+    c.if-key-gt-MOST_GATES.false (sym c.if-not-sized.true ∙ c.sized.ensures)
     ∙ read _ _ _ _ _ c.key_of-key.ensures
 
 pub returns-then-size-end : goal.returns-then-size-end
 returns-then-size-end c =
     let a = c.args in
-    past-radial a.size a.place c.key_of-key.result a.seen _ c.bit_of-bit.ensures c.if-bit-eq0.false c.if-seen-bit-ne0.false c.if-key-gt-MOST_GATES.false
-    (sym c.if-not-sized.false ∙ c.sized.ensures) _ c.moment_size.ensures c.if-size-end.true
+    past-radial a.size a.place c.key_of-key.result a.seen _ c.bit_of-bit.ensures c.if-bit-eq0.false c.if-seen-bit-ne0.false
+    c.if-key-gt-MOST_GATES.false (sym c.if-not-sized.false ∙ c.sized.ensures) _ c.moment_size.ensures c.if-size-end.true
     ∙ read _ _ _ _ _ c.key_of-key.ensures
 
 pub returns : goal.returns
 returns c =
     let a = c.args in
-    good-moment a.size a.place c.key_of-key.result a.seen _ c.bit_of-bit.ensures c.if-bit-eq0.false c.if-seen-bit-ne0.false c.if-key-gt-MOST_GATES.false
-    (sym c.if-not-sized.false ∙ c.sized.ensures) _ c.moment_size.ensures c.if-size-end.false
+    good-moment a.size a.place c.key_of-key.result a.seen _ c.bit_of-bit.ensures c.if-bit-eq0.false c.if-seen-bit-ne0.false
+    c.if-key-gt-MOST_GATES.false (sym c.if-not-sized.false ∙ c.sized.ensures) _ c.moment_size.ensures c.if-size-end.false
     ∙ read _ _ _ _ _ c.key_of-key.ensures
