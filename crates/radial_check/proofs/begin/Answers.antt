@@ -21,14 +21,17 @@ returns-then-body-length c =
 pub returns-then-count-lt-FEWEST_BLOCKS : goal.returns-then-count-lt-FEWEST_BLOCKS
 returns-then-count-lt-FEWEST_BLOCKS c =
     few-blocks c.args.body.now c.if-body-lt-HEADER_SIZE.false _ c.fetch8.ensures c.if-fetch8-ne0.false _
-    c.fetch16-length.ensures c.if-length-lt-HEADER_SIZE.false c.if-body-length.false _ c.fetch16-count.ensures c.if-count-lt-FEWEST_BLOCKS.true
+    c.fetch16-length.ensures c.if-length-lt-HEADER_SIZE.false c.if-body-length.false _
+    c.fetch16-count.ensures c.if-count-lt-FEWEST_BLOCKS.true
 
 pub returns-then-count-gt-MOST_BLOCKS : goal.returns-then-count-gt-MOST_BLOCKS
 returns-then-count-gt-MOST_BLOCKS c =
     many-blocks c.args.body.now c.if-body-lt-HEADER_SIZE.false _ c.fetch8.ensures c.if-fetch8-ne0.false _
-    c.fetch16-length.ensures c.if-length-lt-HEADER_SIZE.false c.if-body-length.false _ c.fetch16-count.ensures c.if-count-lt-FEWEST_BLOCKS.false c.if-count-gt-MOST_BLOCKS.true
+    c.fetch16-length.ensures c.if-length-lt-HEADER_SIZE.false c.if-body-length.false _
+    c.fetch16-count.ensures c.if-count-lt-FEWEST_BLOCKS.false c.if-count-gt-MOST_BLOCKS.true
 
 pub returns : goal.returns
 returns c =
     good_start c.args.body.now c.if-body-lt-HEADER_SIZE.false _ c.fetch8.ensures c.if-fetch8-ne0.false _
-    c.fetch16-length.ensures c.if-length-lt-HEADER_SIZE.false c.if-body-length.false _ c.fetch16-count.ensures c.if-count-lt-FEWEST_BLOCKS.false c.if-count-gt-MOST_BLOCKS.false
+    c.fetch16-length.ensures c.if-length-lt-HEADER_SIZE.false c.if-body-length.false _
+    c.fetch16-count.ensures c.if-count-lt-FEWEST_BLOCKS.false c.if-count-gt-MOST_BLOCKS.false
