@@ -8,6 +8,7 @@ pub mod CheckLaws
 pub mod TestLaws
 pub mod AnswerLaws
 pub mod OnwardLaws
+pub mod RefusalLaws
 pub mod WriteLaws
 pub mod SheetLaws
 pub mod FloatLaws

@@ -11,6 +11,8 @@ use Rattle.wire.proofs.fetch32.Reads as fetch32
 use Rattle.wire.proofs.store16.Reads as store16
 use Rattle.wire.proofs.store32.Reads as store32
 use Rattle.wire.proofs.float_of.Reads as float_of
+use Rattle.wire.proofs.refusal.Refusal.number.Reads as number_reads
+use Rattle.wire.specs.Refusals.{number}
 
 pub to_halfwords-says : (κs size r last : _) → to_halfwords.Learnt κs (size, tt) r last → r ≡ halved size
 to_halfwords-says κs size r last l = l
@@ -58,3 +60,10 @@ float_of-says κs bits r last l = l
 
 pub float_of-one : (κs bits r r₂ last last₂ : _) → float_of.Learnt κs (bits, tt) r last → float_of.Learnt κs (bits, tt) r₂ last₂ → r ≡ r₂
 float_of-one κs bits r r₂ last last₂ l l₂ = l ∙ sym l₂
+
+pub number-says : (κs refusal r last : _) → number_reads.Learnt κs (refusal, tt) r last → r ≡ number refusal
+number-says κs refusal r last l = l
+
+pub number-one : (κs refusal r r₂ last last₂ : _) → number_reads.Learnt κs (refusal, tt) r last
+    → number_reads.Learnt κs (refusal, tt) r₂ last₂ → r ≡ r₂
+number-one κs refusal r r₂ last last₂ l l₂ = l ∙ sym l₂

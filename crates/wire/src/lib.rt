@@ -26,13 +26,6 @@ pub fn to_halfwords(size: Bytes) -> Halfwords
     Halfwords(size.0 / 2)
 }
 
-// What a writer answers: the length of what it wrote, or the refusal.
-#[derive(Clone, Copy)]
-pub enum WriteAnswer {
-    Written(Bytes),
-    Refused(u8),
-}
-
 fn wide16(x: u8) -> u16
     ensures { (result ≡ x) × (result < 256) }
 {

@@ -1,0 +1,85 @@
+-- Laws of the refusals' numbers: no two refusals share one, so a result says what it is by what it tells. Assumes nothing.
+use Prim.Native.Nat.{ℕ, ◌-◌, ◌+◌}
+use mathlib.Core.Path.{◌≡◌, refl, ap, sym, ◌∙◌}
+use mathlib.Core.List.{List, [], ◌∷◌}
+use lib.ListN.{get_or}
+use Rattle.std.specs.Prelude.{Result, Ok, Err}
+use denote.Enum.Declared.{tag_of}
+use Rattle.wire.specs.contracts.refusal.Refusal.{the_type}
+use Rattle.wire.specs.Refusals.{number, tell}
+use Rattle.wire.specs.declared.refusal.Refusal.{Refusal}
+use Rattle.wire.specs.declared.refusal.Refusal.TheVariants.{FrameCutOff, SessionKind, SessionBody, MessageShort, Size, «Type», Segment, DateOrTime, NotData, Disagrees, AlreadySeen, Absent, OutputSmall, RadialShort, Compression, RadialLength, BlockCount, Pointer, Name, Block, AskedFor, ScaleOrOffset, Length, Field, OddBody, LongBody}
+use Rattle.wire.proofs.CheckLaws.{never}
+
+-- the refusal with a number
+abbrev refusal_of : ℕ → Refusal
+refusal_of n = get_or table (n - 1) LongBody
+  where
+    table : List Refusal
+    table = FrameCutOff ∷ SessionKind ∷ SessionBody ∷ MessageShort ∷ Size ∷ «Type» ∷ Segment ∷ DateOrTime ∷ NotData ∷ Disagrees ∷ AlreadySeen ∷ Absent ∷ OutputSmall ∷ RadialShort ∷ Compression ∷ RadialLength ∷ BlockCount ∷ Pointer ∷ Name ∷ Block ∷ AskedFor ∷ ScaleOrOffset ∷ Length ∷ Field ∷ OddBody ∷ LongBody ∷ []
+
+back : (r : Refusal) → refusal_of (number r) ≡ r
+back FrameCutOff = refl
+back SessionKind = refl
+back SessionBody = refl
+back MessageShort = refl
+back Size = refl
+back «Type» = refl
+back Segment = refl
+back DateOrTime = refl
+back NotData = refl
+back Disagrees = refl
+back AlreadySeen = refl
+back Absent = refl
+back OutputSmall = refl
+back RadialShort = refl
+back Compression = refl
+back RadialLength = refl
+back BlockCount = refl
+back Pointer = refl
+back Name = refl
+back Block = refl
+back AskedFor = refl
+back ScaleOrOffset = refl
+back Length = refl
+back Field = refl
+back OddBody = refl
+back LongBody = refl
+
+pub numbers-apart : (a b : Refusal) → number a ≡ number b → a ≡ b
+numbers-apart a b e = sym (back a) ∙ ap refusal_of e ∙ back b
+
+pub tell_apart : {T A : Type 0} (f : T → A) → ((x y : T) → f x ≡ f y → x ≡ y) → (a b : Result T Refusal) → tell f a ≡ tell f b → a ≡ b
+tell_apart f one (Ok x) (Ok y) e = ap Ok (one x y (cc e))
+tell_apart f one (Ok x) (Err r) e = never (cc e)
+tell_apart f one (Err r) (Ok y) e = never (cc e)
+tell_apart f one (Err r) (Err q) e = ap Err (numbers-apart r q (cc e))
+
+-- the variants stand in the order of their numbers
+pub tag_is : (r : Refusal) → tag_of the_type r + 1 ≡ number r
+tag_is FrameCutOff = refl
+tag_is SessionKind = refl
+tag_is SessionBody = refl
+tag_is MessageShort = refl
+tag_is Size = refl
+tag_is «Type» = refl
+tag_is Segment = refl
+tag_is DateOrTime = refl
+tag_is NotData = refl
+tag_is Disagrees = refl
+tag_is AlreadySeen = refl
+tag_is Absent = refl
+tag_is OutputSmall = refl
+tag_is RadialShort = refl
+tag_is Compression = refl
+tag_is RadialLength = refl
+tag_is BlockCount = refl
+tag_is Pointer = refl
+tag_is Name = refl
+tag_is Block = refl
+tag_is AskedFor = refl
+tag_is ScaleOrOffset = refl
+tag_is Length = refl
+tag_is Field = refl
+tag_is OddBody = refl
+tag_is LongBody = refl
