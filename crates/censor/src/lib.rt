@@ -112,7 +112,7 @@ fn regions_of(body: &[u8], n: u32) -> [u16; PLACES]
     let mut i = 0;
     while i < FIELDS * n {
         let k = i as usize;
-        regions[k] = wire::fetch16(body, FIRST_FIELD + 2 * i);
+        regions[k] = wire::fetch::<u16>(body, FIRST_FIELD + 2 * i);
         i += 1;
     }
     regions
@@ -124,7 +124,7 @@ pub fn read_censor(body: &[u8]) -> Censor
     if body.len() < COUNT {
         return refuse(refusal::LENGTH);
     }
-    let count = wire::fetch16(body, 0);
+    let count = wire::fetch::<u16>(body, 0);
     if MOST_REGIONS < count {
         return refuse(refusal::FIELD);
     }
@@ -151,7 +151,7 @@ fn put_all(list: &[u16], out: &mut [u8])
     let mut i = 0;
     while i < list.len() {
         let at = 2 * i as u32;
-        wire::store16(out, at, list[i]);
+        wire::store::<u16>(out, at, list[i]);
         i += 1;
     }
 }

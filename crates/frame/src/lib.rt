@@ -59,11 +59,11 @@ fn frame_in(rest: &[u8], place: usize) -> FrameAnswer
     if rest.len() < HEAD {
         return FrameAnswer::Refused(refusal::FRAME_CUT_OFF);
     }
-    let kind = wire::fetch32(rest, 0);
+    let kind = wire::fetch::<u32>(rest, 0);
     if LAST_KIND < kind {
         return FrameAnswer::Refused(refusal::SESSION_KIND);
     }
-    let size = wire::fetch32(rest, 8);
+    let size = wire::fetch::<u32>(rest, 8);
     if SESSION_LIMIT < size {
         return FrameAnswer::Refused(refusal::SESSION_BODY);
     }
@@ -71,7 +71,7 @@ fn frame_in(rest: &[u8], place: usize) -> FrameAnswer
     if rest.len() - HEAD < long {
         return FrameAnswer::Refused(refusal::FRAME_CUT_OFF);
     }
-    let second = wire::fetch32(rest, 4);
+    let second = wire::fetch::<u32>(rest, 4);
     let start = place + HEAD;
     FrameAnswer::Read(Frame {
         kind,

@@ -84,14 +84,14 @@ pub fn stored_in(message: &[u8]) -> Stored
     if message.len() < HEADER {
         return nothing_stored();
     }
-    let size = wire::fetch16(message, 0) as u32;
-    let channel = wire::fetch8(message, CHANNEL_PLACE);
-    let kind = wire::fetch8(message, 3);
-    let sequence = wire::fetch16(message, SEQUENCE_PLACE);
-    let date = wire::fetch16(message, 6);
-    let milliseconds = wire::fetch32(message, 8);
-    let segments = wire::fetch16(message, 12);
-    let number = wire::fetch16(message, NUMBER_PLACE);
+    let size = wire::fetch::<u16>(message, 0) as u32;
+    let channel = wire::fetch::<u8>(message, CHANNEL_PLACE);
+    let kind = wire::fetch::<u8>(message, 3);
+    let sequence = wire::fetch::<u16>(message, SEQUENCE_PLACE);
+    let date = wire::fetch::<u16>(message, 6);
+    let milliseconds = wire::fetch::<u32>(message, 8);
+    let segments = wire::fetch::<u16>(message, 12);
+    let number = wire::fetch::<u16>(message, NUMBER_PLACE);
     Stored {
         size: Halfwords(size),
         channel,
@@ -170,9 +170,9 @@ pub fn report_short(message: &[u8], s: Stored) -> Header
     let number = number_in(message, s.segments);
     Header {
         size,
-        channel: wire::fetch8(message, CHANNEL_PLACE),
+        channel: wire::fetch::<u8>(message, CHANNEL_PLACE),
         kind: s.kind,
-        sequence: wire::fetch16(message, SEQUENCE_PLACE),
+        sequence: wire::fetch::<u16>(message, SEQUENCE_PLACE),
         date: s.date,
         milliseconds: s.milliseconds,
         segments: s.segments,
@@ -186,7 +186,7 @@ fn number_in(message: &[u8], segments: u16) -> u16
     ensures { result ≡ reported_number segments (fetched 2 message.now number_place) }
 {
     if segments != 1 {
-        return wire::fetch16(message, NUMBER_PLACE);
+        return wire::fetch::<u16>(message, NUMBER_PLACE);
     }
     1
 }

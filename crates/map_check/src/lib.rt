@@ -51,7 +51,7 @@ fn next_end(zones: &[u8]) -> usize
     if zones.len() < ZONE_SIZE {
         return 0;
     }
-    let mut zone = wire::fetch32(zones, 0);
+    let mut zone = wire::fetch::<u32>(zones, 0);
     let mut from: u32 = 0;
     let mut at = ZONE_SIZE;
     while at + ZONE_SIZE <= zones.len() {
@@ -59,7 +59,7 @@ fn next_end(zones: &[u8]) -> usize
             return NO_END;
         }
         from = end_of(zone) as u32 + 1;
-        zone = wire::fetch32(&zones[at..at + ZONE_SIZE], 0);
+        zone = wire::fetch::<u32>(&zones[at..at + ZONE_SIZE], 0);
         at += ZONE_SIZE;
     }
     if zone_broken(zone, from) {
@@ -78,7 +78,7 @@ fn cut_zones(zones: &[u8]) -> u8
         return refusal::FIELD;
     }
     let at = zones.len() / ZONE_SIZE * ZONE_SIZE;
-    if MOST_CODE < wire::fetch16(zones, at as u32) {
+    if MOST_CODE < wire::fetch::<u16>(zones, at as u32) {
         return refusal::FIELD;
     }
     cut
@@ -91,7 +91,7 @@ fn check_azimuth(part: &[u8]) -> Step
     if part.len() < FIELD_SIZE {
         return Step::Stop(refusal::LENGTH);
     }
-    let count = wire::fetch16(part, 0) as usize;
+    let count = wire::fetch::<u16>(part, 0) as usize;
     if count < 1 {
         return Step::Stop(refusal::FIELD);
     }

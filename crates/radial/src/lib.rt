@@ -136,15 +136,15 @@ fn moment_place(body: &[u8], name: u32) -> u32
     requires { radial_of body.now ≡ given (description body.now) }
     ensures { result ≡ place_in body.now name }
 {
-    let count = wire::fetch16(body, COUNT_PLACE) as u32;
+    let count = wire::fetch::<u16>(body, COUNT_PLACE) as u32;
     let mut k = CONSTANTS as u32;
     while k < count {
         let at = (FIRST_POINTER + 4 * k) as usize;
         let next = at + 4;
-        let place = wire::fetch32(&body[at..next], 0);
+        let place = wire::fetch::<u32>(&body[at..next], 0);
         let begin = place as usize;
         let after = begin + 4;
-        if wire::fetch32(&body[begin..after], 0) == name {
+        if wire::fetch::<u32>(&body[begin..after], 0) == name {
             return place;
         }
         k += 1;
@@ -171,7 +171,7 @@ fn all_heads(body: &[u8], count: u32) -> [MomentHead; ROOM]
     let mut heads = [none; ROOM];
     let mut i = 0;
     while i < count {
-        let head = head_at(body, wire::fetch32(body, MOMENT_POINTER + 4 * i));
+        let head = head_at(body, wire::fetch::<u32>(body, MOMENT_POINTER + 4 * i));
         heads[i as usize] = head;
         i += 1;
     }
@@ -183,12 +183,12 @@ fn span_of(body: &[u8], at: u32) -> Span
     requires { (at + 4 ≤ length body.now) × (pointer body.now at + constant_head ≤ length body.now) }
     ensures { result ≡ span_at body.now at }
 {
-    let place = wire::fetch32(body, at);
+    let place = wire::fetch::<u32>(body, at);
     let begin = place as usize;
     let end = begin + CONSTANT_HEAD;
     Span {
         place: place,
-        length: wire::fetch16(&body[begin..end], LENGTH_PLACE),
+        length: wire::fetch::<u16>(&body[begin..end], LENGTH_PLACE),
     }
 }
 
@@ -224,7 +224,7 @@ fn place(body: &[u8], name: Name) -> PlaceAnswer
     if number != 0 {
         return PlaceAnswer::Refused(number);
     }
-    let begin = moment_place(body, wire::fetch32(&name, 0));
+    let begin = moment_place(body, wire::fetch::<u32>(&name, 0));
     if begin == 0 {
         return PlaceAnswer::Refused(refusal::ASKED_FOR);
     }
@@ -249,11 +249,11 @@ fn code_in(body: &[u8], place: usize, word: u8, gate: usize) -> u16
     if word == WIDE_WORD {
         let at = place + (MOMENT_HEAD + gate * 2);
         let end = at + 2;
-        return wire::fetch16(&body[at..end], 0);
+        return wire::fetch::<u16>(&body[at..end], 0);
     }
     let at = place + (MOMENT_HEAD + gate);
     let end = at + 1;
-    wire::fetch8(&body[at..end], 0) as u16
+    wire::fetch::<u8>(&body[at..end], 0) as u16
 }
 
 // A gate of the moment with this head.
@@ -287,7 +287,7 @@ fn constant(body: &[u8], name: &[u8], at: u32) -> BlockAnswer
 {
     let span = span_of(body, at);
     BlockAnswer::Constant(Lying {
-        name: wire::fetch32(name, 0),
+        name: wire::fetch::<u32>(name, 0),
         place: span.place,
         size: span.length as u32,
     })
@@ -309,7 +309,7 @@ fn block_in(body: &[u8], k: u32) -> BlockAnswer
     requires { radial_of body.now ≡ given (description body.now) }
     ensures { tell_block result ≡ block_shown (block_of body.now k) }
 {
-    let count = wire::fetch16(body, COUNT_PLACE) as u32;
+    let count = wire::fetch::<u16>(body, COUNT_PLACE) as u32;
     if count < k {
         return BlockAnswer::NoSuch;
     }
@@ -325,7 +325,7 @@ fn block_in(body: &[u8], k: u32) -> BlockAnswer
     if k == 3 {
         return constant(body, b"RRAD", RADIAL_POINTER);
     }
-    let place = wire::fetch32(body, FIRST_POINTER + 4 * (k - 1));
+    let place = wire::fetch::<u32>(body, FIRST_POINTER + 4 * (k - 1));
     moment_block(head_at(body, place))
 }
 

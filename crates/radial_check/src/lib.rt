@@ -97,17 +97,17 @@ fn begin(body: &[u8]) -> Start
     if body.len() < HEADER_SIZE {
         return Start::Refused(refusal::RADIAL_SHORT);
     }
-    if wire::fetch8(body, COMPRESSION_PLACE) != 0 {
+    if wire::fetch::<u8>(body, COMPRESSION_PLACE) != 0 {
         return Start::Refused(refusal::COMPRESSION);
     }
-    let length = wire::fetch16(body, SIZE_PLACE);
+    let length = wire::fetch::<u16>(body, SIZE_PLACE);
     if (length as usize) < HEADER_SIZE {
         return Start::Refused(refusal::RADIAL_LENGTH);
     }
     if body.len() < length as usize {
         return Start::Refused(refusal::RADIAL_LENGTH);
     }
-    let count = wire::fetch16(body, COUNT_PLACE);
+    let count = wire::fetch::<u16>(body, COUNT_PLACE);
     if count < FEWEST_BLOCKS {
         return Start::Refused(refusal::BLOCK_COUNT);
     }
@@ -121,10 +121,10 @@ fn begin(body: &[u8]) -> Start
 fn constant(head: &[u8], size: usize, place: u32, name: &[u8], least: u16) -> Found
     ensures { tell_found result ≡ constant_by size place head.now (fetched 4 name.now 0) least }
 {
-    if wire::fetch32(head, 0) != wire::fetch32(name, 0) {
+    if wire::fetch::<u32>(head, 0) != wire::fetch::<u32>(name, 0) {
         return Found::Refused(refusal::NAME);
     }
-    let length = wire::fetch16(head, LENGTH_PLACE);
+    let length = wire::fetch::<u16>(head, LENGTH_PLACE);
     if length < least {
         return Found::Refused(refusal::BLOCK);
     }
@@ -140,7 +140,7 @@ fn constant_at(body: &[u8], size: usize, from: usize, at: u32, name: &[u8], leas
     requires { (size ≤ length body.now) × (at + 4 ≤ length body.now) }
     ensures { tell_found result ≡ constant_at body.now size from at (fetched 4 name.now 0) least }
 {
-    let pointer = wire::fetch32(body, at);
+    let pointer = wire::fetch::<u32>(body, at);
     let place = pointer as usize;
     if place < from {
         return Found::Refused(refusal::POINTER);
@@ -186,7 +186,7 @@ fn bit_of(name: u32) -> u32
     let mut bit: u32 = 1;
     let mut i = 0;
     while i < NAMES {
-        if wire::fetch32(&PERMITTED[i], 0) == name {
+        if wire::fetch::<u32>(&PERMITTED[i], 0) == name {
             return bit;
         }
         bit = bit * 2;
@@ -236,7 +236,7 @@ fn moment_at(body: &[u8], size: usize, from: usize, at: u32, seen: u32) -> Got
 {
     let begin = at as usize;
     let after = begin + 4;
-    let pointer = wire::fetch32(&body[begin..after], 0);
+    let pointer = wire::fetch::<u32>(&body[begin..after], 0);
     let place = pointer as usize;
     if place < from {
         return Got::Refused(refusal::POINTER);

@@ -67,19 +67,19 @@ fn header_in(head: &[u8]) -> Header
     ensures { result ≡ header_of (description head.now) }
 {
     Header {
-        station: wire::fetch32(head, 0),
-        time: wire::fetch32(head, 4),
-        date: wire::fetch16(head, 8),
-        azimuth_number: wire::fetch16(head, 10),
-        azimuth: wire::fetch32(head, 12),
-        size: wire::fetch16(head, SIZE_PLACE),
-        spacing: wire::fetch8(head, 20),
-        status: wire::fetch8(head, 21),
-        elevation_number: wire::fetch8(head, 22),
-        sector: wire::fetch8(head, 23),
-        elevation: wire::fetch32(head, 24),
-        spot: wire::fetch8(head, 28),
-        indexing: wire::fetch8(head, 29),
+        station: wire::fetch::<u32>(head, 0),
+        time: wire::fetch::<u32>(head, 4),
+        date: wire::fetch::<u16>(head, 8),
+        azimuth_number: wire::fetch::<u16>(head, 10),
+        azimuth: wire::fetch::<u32>(head, 12),
+        size: wire::fetch::<u16>(head, SIZE_PLACE),
+        spacing: wire::fetch::<u8>(head, 20),
+        status: wire::fetch::<u8>(head, 21),
+        elevation_number: wire::fetch::<u8>(head, 22),
+        sector: wire::fetch::<u8>(head, 23),
+        elevation: wire::fetch::<u32>(head, 24),
+        spot: wire::fetch::<u8>(head, 28),
+        indexing: wire::fetch::<u8>(head, 29),
     }
 }
 
@@ -89,7 +89,7 @@ fn count_of(body: &[u8]) -> u16
 {
     let begin = COUNT_PLACE as usize;
     let end = begin + 2;
-    wire::fetch16(&body[begin..end], 0)
+    wire::fetch::<u16>(&body[begin..end], 0)
 }
 
 // The header of an accepted radial, and its count of blocks.

@@ -44,7 +44,7 @@ pub fn read_request(body: &[u8]) -> Result<u16, Refusal>
     if body.len() != SIZE {
         return Err(Refusal::Length);
     }
-    let code = wire::fetch16(body, 0);
+    let code = wire::fetch::<u16>(body, 0);
     if breaks_code(code) {
         return Err(Refusal::Field);
     }
@@ -64,6 +64,6 @@ pub fn write_request(list: &[u16], out: &mut [u8]) -> Result<Bytes, Refusal>
     if out.len() < SIZE {
         return Err(Refusal::OutputSmall);
     }
-    wire::store16(out, 0, code);
+    wire::store::<u16>(out, 0, code);
     Ok(Bytes(WRITTEN))
 }

@@ -1,12 +1,13 @@
 -- Laws of the refusals' numbers: no two refusals share one, so a result says what it is by what it tells. Assumes nothing.
-use Prim.Native.Nat.{ℕ, ◌-◌, ◌+◌}
+use Prim.Native.Nat.{ℕ, ◌-◌, ◌+◌, ◌<◌}
+use native.Mathlib.Omega.{arith}
 use mathlib.Core.Path.{◌≡◌, refl, ap, sym, ◌∙◌}
 use mathlib.Core.List.{List, [], ◌∷◌}
 use lib.ListN.{get_or}
 use Rattle.std.specs.Prelude.{Result, Ok, Err}
 use denote.Enum.Declared.{tag_of}
 use Rattle.wire.specs.contracts.refusal.Refusal.{the_type}
-use Rattle.wire.specs.Refusals.{number, tell}
+use Rattle.wire.specs.Refusals.{number, tell, number_in}
 use Rattle.wire.specs.declared.refusal.Refusal.{Refusal}
 use Rattle.wire.specs.declared.refusal.Refusal.TheVariants.{FrameCutOff, SessionKind, SessionBody, MessageShort, Size, «Type», Segment, DateOrTime, NotData, Disagrees, AlreadySeen, Absent, OutputSmall, RadialShort, Compression, RadialLength, BlockCount, Pointer, Name, Block, AskedFor, ScaleOrOffset, Length, Field, OddBody, LongBody}
 use Rattle.wire.proofs.CheckLaws.{never}
@@ -83,3 +84,39 @@ tag_is Length = refl
 tag_is Field = refl
 tag_is OddBody = refl
 tag_is LongBody = refl
+
+-- no refusal has the number 0
+pub number-above : (r : Refusal) → 0 < number r
+number-above FrameCutOff = omega arith
+number-above SessionKind = omega arith
+number-above SessionBody = omega arith
+number-above MessageShort = omega arith
+number-above Size = omega arith
+number-above «Type» = omega arith
+number-above Segment = omega arith
+number-above DateOrTime = omega arith
+number-above NotData = omega arith
+number-above Disagrees = omega arith
+number-above AlreadySeen = omega arith
+number-above Absent = omega arith
+number-above OutputSmall = omega arith
+number-above RadialShort = omega arith
+number-above Compression = omega arith
+number-above RadialLength = omega arith
+number-above BlockCount = omega arith
+number-above Pointer = omega arith
+number-above Name = omega arith
+number-above Block = omega arith
+number-above AskedFor = omega arith
+number-above ScaleOrOffset = omega arith
+number-above Length = omega arith
+number-above Field = omega arith
+number-above OddBody = omega arith
+number-above LongBody = omega arith
+
+-- where an Ok says nothing more than that nothing is refused, the number says all
+pub number_in-apart : (a b : Result (Unit {0}) Refusal) → number_in a ≡ number_in b → a ≡ b
+number_in-apart (Ok u) (Ok v) e = refl
+number_in-apart (Ok u) (Err r) e = absurd (omega (arith, number-above r, e))
+number_in-apart (Err r) (Ok u) e = absurd (omega (arith, number-above r, e))
+number_in-apart (Err r) (Err q) e = ap Err (numbers-apart r q e)

@@ -14,7 +14,7 @@ use Rattle.wire.specs.declared.refusal.Refusal.{Refusal}
 use Rattle.wire.specs.declared.Bytes.{Bytes}
 use Rattle.wire.proofs.RefusalLaws.{tell_apart}
 use Rattle.wire.specs.Writing.{filled, wrote, room_check, written, tell_write}
-use Rattle.wire.proofs.CheckLaws.{never, decide-none, none_broken, all_hold, all_hold_append, all_hold_join}
+use Rattle.wire.proofs.CheckLaws.{decide-none, none_broken, all_hold, all_hold_append, all_hold_join}
 use Rattle.wire.proofs.AnswerLaws.{outcome_given}
 
 -- a call that wrote: its checks hold, and what stands in the length that it reports is the body

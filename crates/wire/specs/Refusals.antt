@@ -36,3 +36,8 @@ number LongBody = 26
 abbrev pub tell : {T A : Type 0} → (T → A) → Result T Refusal → Answer A
 tell f (Ok v) = given (f v)
 tell f (Err r) = refused (number r)
+
+-- the number of the refusal; 0 where there is none
+abbrev pub number_in : {T : Type 0} → Result T Refusal → ℕ
+number_in (Ok v) = 0
+number_in (Err r) = number r

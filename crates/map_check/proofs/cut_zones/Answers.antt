@@ -6,13 +6,13 @@ returns-then-next_end c =
     let next-end = c.next_end in
     cut_high c.args.zones.now next-end.result next-end.ensures c.if-next_end.true
 
-pub returns-then-fetch16-gt-MOST_CODE : goal.returns-then-fetch16-gt-MOST_CODE
-returns-then-fetch16-gt-MOST_CODE c =
+pub returns-then-fetch-gt-MOST_CODE : goal.returns-then-fetch-gt-MOST_CODE
+returns-then-fetch-gt-MOST_CODE c =
     let args = c.args in
     let next-end = c.next_end in
     let fetch16 = c.fetch16 in
     cut-code args.zones.now next-end.result next-end.ensures
-    c.if-next_end.false fetch16.result fetch16.ensures c.if-fetch16-gt-MOST_CODE.true
+    c.if-next_end.false fetch16.result fetch16.ensures c.if-fetch-gt-MOST_CODE.true
 
 pub returns : goal.returns
 returns c =
@@ -20,4 +20,4 @@ returns c =
     let next-end = c.next_end in
     let fetch16 = c.fetch16 in
     cut_short args.zones.now next-end.result next-end.ensures
-    c.if-next_end.false fetch16.result fetch16.ensures c.if-fetch16-gt-MOST_CODE.false
+    c.if-next_end.false fetch16.result fetch16.ensures c.if-fetch-gt-MOST_CODE.false

@@ -20,7 +20,7 @@ pub loop-at-init : goal.loop-at-init
 loop-at-init c = (
   search rules,
   search rules,
-  rising_start _ (octets _ c.type_inv.zones) _ c.fetch32-zone.ensures c.if-zones-lt-ZONE_SIZE.false,
+  rising_start _ (octets _ c.type_inv.zones) _ c.fetch-zone.ensures c.if-zones-lt-ZONE_SIZE.false,
 )
 
 pub returns-then-zone_broken : goal.returns-then-zone_broken
@@ -34,7 +34,7 @@ loop-at-preserved c =
       search rules,
       search rules,
       rising-on _ (octets _ c.type_inv.zones) _ _ _ l.invariant.2 l.invariant.0 _ c.end_of.ensures
-          (sym c.zone_broken.ensures ∙ c.if-zone_broken.false) _ c.fetch32-zone-in-loop-at.ensures c.loop-at-test.true,
+          (sym c.zone_broken.ensures ∙ c.if-zone_broken.false) _ c.fetch-zone-in-loop-at.ensures c.loop-at-test.true,
     )
 
 pub returns-then-zone_broken-2 : goal.returns-then-zone_broken-2

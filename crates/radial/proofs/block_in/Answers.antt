@@ -24,7 +24,7 @@ known b k n accepted e h = rw (← counted b accepted n e) h
 
 pub returns-then-count-k : goal.returns-then-count-k
 returns-then-count-k c =
-    block_none _ c.requires c.args.k (rw (← counted _ c.requires _ c.fetch16-count.ensures) c.if-count-k.true)
+    block_none _ c.requires c.args.k (rw (← counted _ c.requires _ c.fetch-count.ensures) c.if-count-k.true)
 
 pub returns-then-k-eq0 : goal.returns-then-k-eq0
 returns-then-k-eq0 c = block_zero _ c.requires c.args.k c.if-k-eq0.true
@@ -58,11 +58,11 @@ returns-then-k-eq3 c =
 pub head_at-requires : goal.head_at-requires
 head_at-requires c =
     let past_three = later _ c.if-k-eq0.false c.if-k-eq1.false c.if-k-eq2.false c.if-k-eq3.false in
-    block_inside _ c.requires _ _ past_three (known _ _ _ c.requires c.fetch16-count.ensures c.if-count-k.false) c.fetch32-place.ensures
+    block_inside _ c.requires _ _ past_three (known _ _ _ c.requires c.fetch-count.ensures c.if-count-k.false) c.fetch-place.ensures
 
 pub returns : goal.returns
 returns c =
     let past_three = later _ c.if-k-eq0.false c.if-k-eq1.false c.if-k-eq2.false c.if-k-eq3.false in
     c.moment_block.ensures
     ∙ ap (λ (h : MomentHead). given (some (moment_told h))) c.head_at.ensures
-    ∙ block-moment _ c.requires _ _ past_three (known _ _ _ c.requires c.fetch16-count.ensures c.if-count-k.false) c.fetch32-place.ensures
+    ∙ block-moment _ c.requires _ _ past_three (known _ _ _ c.requires c.fetch-count.ensures c.if-count-k.false) c.fetch-place.ensures

@@ -17,14 +17,14 @@ returns-then-fetch32 c = simp (sym c.fetch32.ensures, sym c.fetch32-2.ensures, n
 pub returns-then-length-least : goal.returns-then-length-least
 returns-then-length-least c =
     let same = same_name _ _ _ _ c.fetch32.ensures c.fetch32-2.ensures c.if-fetch32.false in
-    simp (same, sym c.fetch16-length.ensures, lt-ltb _ _ c.if-length-least.true)
+    simp (same, sym c.fetch-length.ensures, lt-ltb _ _ c.if-length-least.true)
 
 pub returns-then-size-end : goal.returns-then-size-end
 returns-then-size-end c =
     let same = same_name _ _ _ _ c.fetch32.ensures c.fetch32-2.ensures c.if-fetch32.false in
-    simp (same, sym c.fetch16-length.ensures, le-ltb _ _ c.if-length-least.false, lt-ltb _ _ c.if-size-end.true)
+    simp (same, sym c.fetch-length.ensures, le-ltb _ _ c.if-length-least.false, lt-ltb _ _ c.if-size-end.true)
 
 pub returns : goal.returns
 returns c =
     let same = same_name _ _ _ _ c.fetch32.ensures c.fetch32-2.ensures c.if-fetch32.false in
-    simp (same, sym c.fetch16-length.ensures, le-ltb _ _ c.if-length-least.false, le-ltb _ _ c.if-size-end.false)
+    simp (same, sym c.fetch-length.ensures, le-ltb _ _ c.if-length-least.false, le-ltb _ _ c.if-size-end.false)

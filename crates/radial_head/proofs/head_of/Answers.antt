@@ -17,8 +17,8 @@ returns c =
       noise = c.fetch16-4.ensures i;
       flags = c.fetch8.ensures i;
       word = (key.ensures i).word;
-      scale = (c.float_of.ensures ∙ ap (λ (n : ℕ). of_bits binary32 n) c.fetch32-scale.ensures) i;
-      offset = (c.float_of-2.ensures ∙ ap (λ (n : ℕ). of_bits binary32 n) c.fetch32-offset.ensures) i;
-      scale_bits = c.fetch32-scale.ensures i;
-      offset_bits = c.fetch32-offset.ensures i;
+      scale = (c.float_of.ensures ∙ ap (λ (n : ℕ). of_bits binary32 n) c.fetch-scale.ensures) i;
+      offset = (c.float_of-2.ensures ∙ ap (λ (n : ℕ). of_bits binary32 n) c.fetch-offset.ensures) i;
+      scale_bits = c.fetch-scale.ensures i;
+      offset_bits = c.fetch-offset.ensures i;
     }

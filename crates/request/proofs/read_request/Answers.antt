@@ -14,16 +14,16 @@ returns-then-body-ne-SIZE c = sym (body_long _ c.if-body-ne-SIZE.true)
 
 pub returns-then-breaks_code : goal.returns-then-breaks_code
 returns-then-breaks_code c =
-    let code_is : c.fetch16-code.result ≡ num 2 c.args.body.now 0 =
-    c.fetch16-code.ensures ∙ fetched-whole 2 _ 0 (search rules) in
+    let code_is : c.fetch-code.result ≡ num 2 c.args.body.now 0 =
+    c.fetch-code.ensures ∙ fetched-whole 2 _ 0 (search rules) in
     let told_is : outside permitted (num 2 c.args.body.now 0) ≡ c.breaks_code.result =
     ap (λ (n : ℕ). outside permitted n) (sym (code_is)) ∙ sym c.breaks_code.ensures in
     sym (body-code _ c.if-body-ne-SIZE.false (told_is ∙ c.if-breaks_code.true))
 
 pub returns : goal.returns
 returns c =
-    let code_is : c.fetch16-code.result ≡ num 2 c.args.body.now 0 =
-    c.fetch16-code.ensures ∙ fetched-whole 2 _ 0 (search rules) in
+    let code_is : c.fetch-code.result ≡ num 2 c.args.body.now 0 =
+    c.fetch-code.ensures ∙ fetched-whole 2 _ 0 (search rules) in
     let told_is : outside permitted (num 2 c.args.body.now 0) ≡ c.breaks_code.result =
     ap (λ (n : ℕ). outside permitted n) (sym (code_is)) ∙ sym c.breaks_code.ensures in
     let if1 = c.if-body-ne-SIZE in

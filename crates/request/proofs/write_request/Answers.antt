@@ -24,6 +24,6 @@ returns c =
     let breaks-code = c.breaks_code in
     let if2 = c.if-breaks_code in
     let if3 = c.if-out-lt-SIZE in
-    let store16 = c.store16 in
+    let store = c.store in
     kept _ _ _ _ _ (list-fine _ _ if1.false (sym breaks-code.ensures ∙ if2.false) if3.false)
-    (store16.ensures ∙ stored-whole 2 _ 0 _ if3.false)
+    (store.ensures ∙ stored-whole 2 _ 0 _ if3.false)

@@ -1,4 +1,3 @@
-use mathlib.Core.Path.{refl}
 use Rattle.wire.proofs.refusal.Refusal.number.Goals as goal
 use Rattle.wire.proofs.RefusalLaws.{tag_is}
 

@@ -1,6 +1,6 @@
 use native.Mathlib.Omega.{arith}
 use Rattle.wire.proofs.NumberLaws.{num_beside}
-use Rattle.wire.proofs.whole32.Goals as goal
+use Rattle.wire.proofs.number.U32Number.whole.Goals as goal
 
 pub returns : goal.returns
 returns c =

@@ -1,7 +1,7 @@
 use Prim.Native.Nat.{◌+◌}
 use native.Mathlib.Omega.{arith}
 use Rattle.wire.proofs.NumberLaws.{num-one, num_beside}
-use Rattle.wire.proofs.whole16.Goals as goal
+use Rattle.wire.proofs.number.U16Number.whole.Goals as goal
 
 pub returns : goal.returns
 returns c =
