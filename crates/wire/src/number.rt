@@ -26,6 +26,8 @@ pub trait Number: Copy {
         ensures { out.new ≡ laid out.old at (be WIDTH (value self)) };
 
     ghost narrow: { WIDTH ≤ 8 };
+
+    ghost apart: { (x y : Self) → value x ≡ value y → x ≡ y };
 }
 
 impl Number for u8 {
@@ -48,6 +50,8 @@ impl Number for u8 {
     }
 
     ghost narrow = { Prim.search rules };
+
+    ghost apart = { λ x y e. e };
 }
 
 impl Number for u16 {
@@ -73,6 +77,8 @@ impl Number for u16 {
     }
 
     ghost narrow = { Prim.search rules };
+
+    ghost apart = { λ x y e. e };
 }
 
 impl Number for u32 {
@@ -101,6 +107,8 @@ impl Number for u32 {
     }
 
     ghost narrow = { Prim.search rules };
+
+    ghost apart = { λ x y e. e };
 }
 
 // The two bytes of a number in the other order. It is a function by itself so that the compiler knows it for one instruction before it
