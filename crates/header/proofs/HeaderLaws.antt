@@ -7,7 +7,7 @@ use native.Mathlib.Omega.{arith}
 use lib.Dec.{ltb, eqb}
 use lib.ListN.{length}
 use borrow.Author.Tests.{lt-ltb, le-ltb, ne_eqb, ltb-false, eqb-true}
-use Rattle.wire.specs.Numbers.{num, fetched}
+use Rattle.wire.specs.Numbers.{fetched}
 use Rattle.wire.specs.Checks.{pick, both, Check, check, decide, some_broken}
 use Rattle.wire.specs.Answers.{refused, given}
 use Rattle.wire.specs.Sizes.{halfwords, halved}
@@ -191,12 +191,12 @@ module _ (b : List ℕ) (s : Stored) (n : ℕ) (looked : s ≡ stored_or0 b) (to
       go true l = never (cc (sym (too_short l).1 ∙ e))
       go false l = whole l ∙ simp e (ap given (sym q))
 
-  pub header_refused : (n ≡ 0 → ⊥) → header_of b ≡ refused n
-  header_refused e = go (ltb (length b) header_size) refl
+  pub header_refused : 0 < n → header_of b ≡ refused n
+  header_refused above = go (ltb (length b) header_size) refl
     where
       go : (t : Bool) → ltb (length b) header_size ≡ t → header_of b ≡ refused n
       go true l = (too_short l).0
-      go false l = whole l ∙ simp (ne_eqb n 0 e)
+      go false l = whole l ∙ simp (ne_eqb n 0 (λ e. omega (arith, above, e)))
 
 -- a message that is accepted in the short form answers what is reported of it
 module _ (b : List ℕ) (s : Stored) (t : Bool) (looked : s ≡ stored_or0 b) (told : t ≡ accepted_short s (length b)) (yes : t ≡ true) where

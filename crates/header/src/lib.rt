@@ -4,12 +4,14 @@
 ghost use Rattle.std.specs.Prelude.{◌≡◌, []};
 ghost use Rattle.wire.specs.Numbers.{fetched};
 ghost use Rattle.wire.specs.Checks.{some_broken};
+ghost use Rattle.wire.specs.Refusals.{number_in};
 ghost use Rattle.header_rule.specs.Rules.{reported_number};
 ghost use Rattle.header.specs.Header.{number_place, stored_in, as_reported, header_in, header_of};
 ghost use Rattle.header.specs.Steps.{stored_or0, accepted_short, reported_short, counted_checks, refusal_of};
 ghost use Rattle.header.specs.Told.{tell_header};
 
-use wire::{Halfwords, refusal};
+use wire::Halfwords;
+use wire::refusal::Refusal;
 
 // The values reported of a checked header. `kind` is the type of Table I: `type` is a keyword.
 #[derive(Clone, Copy)]
@@ -38,12 +40,6 @@ pub struct Stored {
     number: u16,
 }
 
-#[derive(Clone, Copy)]
-pub enum HeaderAnswer {
-    Read(Header),
-    Refused(u8),
-}
-
 pub const HEADER: usize = 16;
 
 // Where the channel, the sequence number and the segment number begin.
@@ -55,26 +51,23 @@ const NUMBER_PLACE: u32 = 14;
 
 // The header of a message, which is a data frame's whole body. Nearly all are accepted in the short form, so that is put in line where a
 // header is read; the long form and the refusals are a call away.
-pub fn read_header(message: &[u8]) -> HeaderAnswer
+pub fn read_header(message: &[u8]) -> Result<Header, Refusal>
     ensures { tell_header result ≡ header_of message.now }
 {
     let s = stored_in(message);
     if accepts_short(s, message.len()) {
-        return HeaderAnswer::Read(report_short(message, s));
+        return Ok(report_short(message, s));
     }
     read_either(message)
 }
 
 // The same, with neither form tried first.
-pub fn read_either(body: &[u8]) -> HeaderAnswer
+pub fn read_either(body: &[u8]) -> Result<Header, Refusal>
     ensures { tell_header result ≡ header_of body.now }
 {
     let s = stored_in(body);
-    let number = check_header(s, body.len());
-    if number != 0 {
-        return HeaderAnswer::Refused(number);
-    }
-    HeaderAnswer::Read(report(s))
+    check_header(s, body.len())?;
+    Ok(report(s))
 }
 
 // The values at the start of a message, or all 0 where the message is too short for a header.
@@ -191,26 +184,26 @@ fn number_in(message: &[u8], segments: u16) -> u16
     1
 }
 
-// The number of refusal of a message of `long` bytes with these stored values, or 0, in either form.
-pub fn check_header(s: Stored, long: usize) -> u8
-    ensures { result ≡ refusal_of s long }
+// The checks of a message of `long` bytes with these stored values, in either form.
+pub fn check_header(s: Stored, long: usize) -> Result<(), Refusal>
+    ensures { number_in result ≡ refusal_of s long }
 {
     if long < HEADER {
-        return refusal::MESSAGE_SHORT;
+        return Err(Refusal::MessageShort);
     }
     if header_rule::breaks_form(s.size, s.kind, s.segments, s.number, long) {
-        return refusal::SIZE;
+        return Err(Refusal::Size);
     }
     if header_rule::breaks_type(s.kind) {
-        return refusal::TYPE;
+        return Err(Refusal::Type);
     }
     if breaks_counted(s) {
-        return refusal::SEGMENT;
+        return Err(Refusal::Segment);
     }
     if header_rule::breaks_time(s.date, s.milliseconds) {
-        return refusal::DATE_OR_TIME;
+        return Err(Refusal::DateOrTime);
     }
-    0
+    Ok(())
 }
 
 // Whether the size and N as they count, or the segment number, break a rule of segments.

@@ -1,5 +1,4 @@
 use Rattle.header.proofs.HeaderLaws.{segments_told}
-use borrow.Author.Rules.{rules}
 use Rattle.header.proofs.breaks_counted.Goals as goal
 
 pub returns : goal.returns

@@ -1,6 +1,5 @@
 use Rattle.header.specs.Header.{stored_in, header_in}
 use Rattle.wire.specs.Numbers.{num}
-use borrow.Author.Rules.{rules}
 use Rattle.header.proofs.nothing_stored.Goals as goal
 
 pub returns : goal.returns
