@@ -2,22 +2,26 @@
 use Prim.Native.Nat.{ℕ, ◌-◌, ◌+◌, ◌<◌}
 use native.Mathlib.Omega.{arith}
 use mathlib.Core.Path.{◌≡◌, refl, ap, sym, ◌∙◌}
-use mathlib.Core.List.{List, [], ◌∷◌}
+use mathlib.Core.Bool.{Bool, true, false}
+use mathlib.Core.List.{List, [], ◌∷◌, map}
+use borrow.Author.Tests.{eqb-true}
+use lib.Dec.{eqb}
 use lib.ListN.{get_or}
 use Rattle.std.specs.Prelude.{Result, Ok, Err}
 use denote.Enum.Declared.{tag_of}
 use Rattle.wire.specs.contracts.refusal.Refusal.{the_type}
+use Rattle.wire.specs.Checks.{pick, among}
 use Rattle.wire.specs.Refusals.{number, tell, number_in}
 use Rattle.wire.specs.declared.refusal.Refusal.{Refusal}
 use Rattle.wire.specs.declared.refusal.Refusal.TheVariants.{FrameCutOff, SessionKind, SessionBody, MessageShort, Size, «Type», Segment, DateOrTime, NotData, Disagrees, AlreadySeen, Absent, OutputSmall, RadialShort, Compression, RadialLength, BlockCount, Pointer, Name, Block, AskedFor, ScaleOrOffset, Length, Field, OddBody, LongBody}
 use Rattle.wire.proofs.CheckLaws.{never}
 
+abbrev pub refusals : List Refusal
+refusals = FrameCutOff ∷ SessionKind ∷ SessionBody ∷ MessageShort ∷ Size ∷ «Type» ∷ Segment ∷ DateOrTime ∷ NotData ∷ Disagrees ∷ AlreadySeen ∷ Absent ∷ OutputSmall ∷ RadialShort ∷ Compression ∷ RadialLength ∷ BlockCount ∷ Pointer ∷ Name ∷ Block ∷ AskedFor ∷ ScaleOrOffset ∷ Length ∷ Field ∷ OddBody ∷ LongBody ∷ []
+
 -- the refusal with a number
-abbrev refusal_of : ℕ → Refusal
-refusal_of n = get_or table (n - 1) LongBody
-  where
-    table : List Refusal
-    table = FrameCutOff ∷ SessionKind ∷ SessionBody ∷ MessageShort ∷ Size ∷ «Type» ∷ Segment ∷ DateOrTime ∷ NotData ∷ Disagrees ∷ AlreadySeen ∷ Absent ∷ OutputSmall ∷ RadialShort ∷ Compression ∷ RadialLength ∷ BlockCount ∷ Pointer ∷ Name ∷ Block ∷ AskedFor ∷ ScaleOrOffset ∷ Length ∷ Field ∷ OddBody ∷ LongBody ∷ []
+abbrev pub refusal_of : ℕ → Refusal
+refusal_of n = get_or refusals (n - 1) LongBody
 
 back : (r : Refusal) → refusal_of (number r) ≡ r
 back FrameCutOff = refl
@@ -55,6 +59,16 @@ tell_apart f one (Ok x) (Ok y) e = ap Ok (one x y (cc e))
 tell_apart f one (Ok x) (Err r) e = never (cc e)
 tell_apart f one (Err r) (Ok y) e = never (cc e)
 tell_apart f one (Err r) (Err q) e = ap Err (numbers-apart r q (cc e))
+
+-- a number of the list is that of its refusal
+pub number_there : (n : ℕ) (rs : List Refusal) → among n (map number rs) ≡ true → number (refusal_of n) ≡ n
+number_there n [] e = never (cc e)
+number_there n (r ∷ rs) e = go (eqb n (number r)) refl e (λ q. number_there n rs q)
+  where
+    go : (t : Bool) → eqb n (number r) ≡ t → pick t true (among n (map number rs)) ≡ true → (among n (map number rs) ≡ true → number (refusal_of n) ≡ n)
+        → number (refusal_of n) ≡ n
+    go true p q later = rw (eqb-true n (number r) p) (ap number (back r))
+    go false p q later = later q
 
 -- the variants stand in the order of their numbers
 pub tag_is : (r : Refusal) → tag_of the_type r + 1 ≡ number r
