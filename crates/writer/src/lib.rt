@@ -62,10 +62,7 @@ fn segments_of(kind: u8, body: &[u8]) -> usize
     if kind == RADIAL {
         return 1;
     }
-    if body.len() == 0 {
-        return 1;
-    }
-    (body.len() - 1) / SEGMENT_DATA + 1
+    body.len().div_ceil(SEGMENT_DATA).max(1)
 }
 
 // All frames from the start of the output, which has room for them.
@@ -73,17 +70,15 @@ fn write_frames(given: Given, n: u16, body: &[u8], out: &mut [u8])
     requires { (n ≡ length (segments_of given.kind body.now)) × (length body.now < 2 ^ 31) × (length (frames_of given body.now) ≤ length out.old) }
     ensures { out.new ≡ filled (frames_of given body.now) out.old }
 {
-    let mut k: u16 = 1;
     let mut start = 0;
     let mut place = 0;
-    while k < n {
+    for k in 1..n {
         let end = start + SEGMENT_DATA;
         write_frame(given, n, k, &body[start..end], &mut out[place..]);
-        place = place + HEADS + SEGMENT_DATA;
+        place += HEADS + SEGMENT_DATA;
         start = end;
-        k += 1;
     }
-    write_frame(given, n, k, &body[start..], &mut out[place..]);
+    write_frame(given, n, n, &body[start..], &mut out[place..]);
 }
 
 // Writes one frame at the start of a part of the output.
