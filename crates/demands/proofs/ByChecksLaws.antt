@@ -7,15 +7,15 @@ use mathlib.Core.Logic.{◌⊎◌, inl, inr, ⊎_elim}
 use mathlib.Core.List.{List, [], ◌∷◌, ◌++◌, append_assoc}
 use lib.ListN.{length, drop}
 use Rattle.wire.specs.Checks.{among, Check, first, decide, AllHold, Blamed}
-use Rattle.wire.specs.Answers.{Answer, refused, given, onward, rule, Outcome, outcome, Promise}
+use Rattle.wire.specs.Answers.{Answer, refused, given, number_of, onward, rule, Outcome, outcome, Promise}
 use Rattle.wire.proofs.CheckLaws.{never, numbers_pass, pass-join, first_passes, passed, decide-none, decide-some, decide-map, all_hold, all_hold_join, blame}
 use Rattle.std.specs.Prelude.{Result, Ok, Err}
 use Rattle.wire.specs.declared.refusal.Refusal.{Refusal}
-use Rattle.wire.specs.Refusals.{tell}
-use Rattle.wire.proofs.RefusalLaws.{refusals, refusal_of, number_there, tell_apart}
+use Rattle.wire.specs.Refusals.{tell, number_in}
+use Rattle.wire.proofs.RefusalLaws.{refusals, refusal_of, number_there, tell_apart, number_in-apart}
 use Rattle.wire.proofs.AnswerLaws.{rule_given, rule_refused, outcome_answer, outcome_refused, only, only_answer}
 use Rattle.frame.specs.Walk.{turns, walked, Checked, answers, in_order}
-use Rattle.demands.specs.Notions.{table, OfTheTable, ByChecks, Kept, KeptStruct, KeptLent}
+use Rattle.demands.specs.Notions.{table, OfTheTable, ByChecks, Kept, KeptNumber, KeptLent}
 
 -- ---- numbers of the table, by a test that is computed
 abbrev pub inside : List Check → Bool
@@ -160,9 +160,24 @@ module _ {T A : Type 0} (f : T → A) (g : A → T) (reads : (v : A) → f (g v)
         untouched = λ r after n e q. e.leaves ∙ u n q;
       }
 
-pub kept_struct : {R A : Type 0} (show : Answer A → R) (ks : List Check) (right : Answer A) → ByChecks ks right
-    → KeptStruct (λ (r : R). r ≡ show right) show ks right
-kept_struct show ks right h = record { one = record { the = show right; meets = refl; only = λ r e. e }; shown = λ r e. e; by_checks = h }
+-- an entry that returns nothing but whether it refuses
+pub kept_number : {A : Type 0} (ks : List Check) (right : Answer A) → ByChecks ks right
+    → KeptNumber (λ (r : Result (Unit {0}) Refusal). number_in r ≡ number_of right) ks right
+kept_number {A} ks right h =
+    let e = numbered right h.numbered in
+    record {
+      one = record { the = only_number right; meets = e; only = λ r q. number_in-apart r (only_number right) (q ∙ sym e) };
+      told = λ r q. q;
+      by_checks = h;
+    }
+  where
+    only_number : Answer A → Result (Unit {0}) Refusal
+    only_number (refused n) = Err (refusal_of n)
+    only_number (given v) = Ok tt
+
+    numbered : (a : Answer A) → ((n : ℕ) → a ≡ refused n → OfTheTable n) → number_in (only_number a) ≡ number_of a
+    numbered (refused n) h = number_there n refusals (h n refl)
+    numbered (given v) h = refl
 
 -- an outcome by one list
 pub by_outcome : {O A : Type 0} (ks : List Check) (out : O) (v : A) (after : O) → inside ks ≡ true
