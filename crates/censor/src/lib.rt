@@ -38,7 +38,7 @@ pub struct Censor {
     pub regions: [u16; PLACES],
 }
 
-// The region's six fields are the first numbers of the part.
+// Whether one of the six fields of a region is out of its limits.
 fn region_broken(region: &[u16]) -> bool
     requires { region_fields ≤ length region.now }
     ensures { result ≡ region_broken region.now }
@@ -49,7 +49,7 @@ fn region_broken(region: &[u16]) -> bool
         .any(|(x, &(least, most))| !(least..=most).contains(x))
 }
 
-// Of all whole regions.
+// Whether one of the whole regions has such a field.
 fn regions_broken(fields: &[u16]) -> bool
     ensures { result ≡ regions_broken (length fields.now / region_fields) fields.now }
 {
