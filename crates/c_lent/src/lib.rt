@@ -19,9 +19,9 @@ pub fn written_face(answer: Result<Bytes, Refusal>) -> UlmWritten
     ensures { result ≡ written_face (tell_write answer) }
 {
     match answer {
-        Ok(long) => UlmWritten {
+        Ok(size) => UlmWritten {
             refusal: 0,
-            length: long.0 as u64,
+            length: size.0 as u64,
         },
         Err(refusal) => UlmWritten {
             refusal: refusal.number() as u32,
