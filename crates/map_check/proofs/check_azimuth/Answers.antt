@@ -1,3 +1,5 @@
+use mathlib.Core.Path.{sym, ◌∙◌}
+use Rattle.wire.specs.Refusals.{number}
 use Rattle.map_check.proofs.StepLaws.{azimuth_cut, azimuth_none, azimuth-many, azimuth-short, azimuth-wrong, azimuth-right}
 use Rattle.map_check.proofs.check_azimuth.Goals as goal
 
@@ -19,16 +21,16 @@ returns-then-part-size c =
     let if2 = c.if-count-lt1 in
     azimuth-short c.args.part.now c.if-part-lt-FIELD_SIZE.false c.fetch-count.result c.fetch-count.ensures
     if2.false c.if-count-gt-MOST_ZONES.false c.if-part-size.true
-    c.cut_zones.result c.cut_zones.ensures
+    (number c.cut_zones.result) c.cut_zones.ensures
 
-pub returns-then-next_end : goal.returns-then-next_end
-returns-then-next_end c =
+pub returns-then-ne : goal.returns-then-ne
+returns-then-ne c =
     let if2 = c.if-count-lt1 in
     let if3 = c.if-count-gt-MOST_ZONES in
     let end = c.next_end in
     azimuth-wrong c.args.part.now c.if-part-lt-FIELD_SIZE.false c.fetch-count.result c.fetch-count.ensures
     if2.false if3.false
-    c.if-part-size.false end.result end.ensures c.if-next_end.true
+    c.if-part-size.false end.result end.ensures (sym c.ne.ensures ∙ c.if-ne.true)
 
 pub returns : goal.returns
 returns c =
@@ -37,4 +39,4 @@ returns c =
     let end = c.next_end in
     azimuth-right c.args.part.now c.if-part-lt-FIELD_SIZE.false c.fetch-count.result c.fetch-count.ensures
     if2.false if3.false
-    c.if-part-size.false end.result end.ensures c.if-next_end.false
+    c.if-part-size.false end.result end.ensures (sym c.ne.ensures ∙ c.if-ne.false)
