@@ -9,7 +9,7 @@ ghost use Rattle.radial_head.specs.Told.{fetched_head, head_told, key_of};
 pub const MOMENT_HEAD: usize = 28;
 
 // A moment's first 28 bytes and its place. Scale and offset are given both as floats and as their 32 bits.
-#[derive(Clone, Copy)]
+#[derive(Clone, Copy, Default)]
 pub struct MomentHead {
     pub name: u32,
     pub place: u32,

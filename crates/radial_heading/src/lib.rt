@@ -4,9 +4,10 @@
 ghost use Rattle.std.specs.Prelude.{◌≡◌, ◌≤◌, length};
 ghost use Rattle.radial_spec.specs.Description.{header_size};
 ghost use Rattle.radial_spec.specs.Refusal.{count_in, description, radial_of};
-ghost use Rattle.radial_heading.specs.Told.{header_of, no_header, heading_shown};
+ghost use Rattle.radial_heading.specs.Told.{header_of, tell_heading, heading_shown};
 
 use radial_check::{COUNT_PLACE, HEADER_SIZE, SIZE_PLACE};
+use wire::refusal::Refusal;
 
 // The header's values, as stored. Angles are given as their 32 bits.
 #[derive(Clone, Copy)]
@@ -26,32 +27,11 @@ pub struct Header {
     pub indexing: u8,
 }
 
-// The header of an accepted radial and its block count. `refusal` is 0, or the number of the refusal and all else is 0.
+// The header of an accepted radial, and its count of blocks.
 #[derive(Clone, Copy)]
 pub struct Heading {
-    pub refusal: u8,
     pub count: u16,
     pub header: Header,
-}
-
-pub fn no_header() -> Header
-    ensures { result ≡ no_header }
-{
-    Header {
-        station: 0,
-        time: 0,
-        date: 0,
-        azimuth_number: 0,
-        azimuth: 0,
-        size: 0,
-        spacing: 0,
-        status: 0,
-        elevation_number: 0,
-        sector: 0,
-        elevation: 0,
-        spot: 0,
-        indexing: 0,
-    }
 }
 
 fn header_of(body: &[u8]) -> Header
@@ -92,23 +72,13 @@ fn count_of(body: &[u8]) -> u16
     wire::fetch::<u16>(&body[begin..end], 0)
 }
 
-// The header of an accepted radial, and its count of blocks.
-pub fn read_heading(body: &[u8]) -> Heading
-    ensures { result ≡ heading_shown (radial_of body.now) }
+pub fn read_heading(body: &[u8]) -> Result<Heading, Refusal>
+    ensures { tell_heading result ≡ heading_shown (radial_of body.now) }
 {
-    let number = radial_check::check_radial(body);
-    if number != 0 {
-        let none = no_header();
-        return Heading {
-            refusal: number,
-            count: 0,
-            header: none,
-        };
-    }
-    let values = header_of(body);
-    Heading {
-        refusal: 0,
+    radial_check::check_radial(body)?;
+    let header = header_of(body);
+    Ok(Heading {
         count: count_of(body),
-        header: values,
-    }
+        header: header,
+    })
 }

@@ -9,6 +9,7 @@ pub mod TestLaws
 pub mod AnswerLaws
 pub mod OnwardLaws
 pub mod RefusalLaws
+pub mod ExitLaws
 pub mod WriteLaws
 pub mod SheetLaws
 pub mod FloatLaws

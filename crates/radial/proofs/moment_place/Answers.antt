@@ -21,12 +21,12 @@ loop-k-init c = search_begins c.args.body.now c.args.name _ (held _ _ c.requires
 pub returns-then-fetch-name : goal.returns-then-fetch-name
 returns-then-fetch-name c =
     let points = pointed _ _ _ _ _ c.loop-k.invariant c.loop-k-test.true c.fetch-place.ensures in
-    search-found _ _ _ _ c.loop-k.invariant c.loop-k-test.true _ _ points c.fetch32.ensures c.if-fetch-name.true
+    search-found _ _ _ _ c.loop-k.invariant c.loop-k-test.true _ _ points c.fetch.ensures c.if-fetch-name.true
 
 pub loop-k-preserved : goal.loop-k-preserved
 loop-k-preserved c =
     let points = pointed _ _ _ _ _ c.loop-k.invariant c.loop-k-test.true c.fetch-place.ensures in
-    search-on _ _ _ _ c.loop-k.invariant c.loop-k-test.true _ _ points c.fetch32.ensures c.if-fetch-name.false
+    search-on _ _ _ _ c.loop-k.invariant c.loop-k-test.true _ _ points c.fetch.ensures c.if-fetch-name.false
 
 pub returns : goal.returns
 returns c = search_ends _ _ _ _ c.loop-k.invariant c.loop-k-test.false
