@@ -14,28 +14,13 @@ use wire::refusal::Refusal;
 // The bytes of a body: one halfword.
 const SIZE: usize = 2;
 
-const WRITTEN: u32 = SIZE as u32;
+const PERMITTED: [u16; 6] = [129, 130, 132, 136, 144, 160];
 
 // Whether a code is not one of those permitted.
 fn breaks_code(code: u16) -> bool
     ensures { result ≡ outside permitted code }
 {
-    if code == 129 {
-        return false;
-    }
-    if code == 130 {
-        return false;
-    }
-    if code == 132 {
-        return false;
-    }
-    if code == 136 {
-        return false;
-    }
-    if code == 144 {
-        return false;
-    }
-    code != 160
+    !PERMITTED.contains(&code)
 }
 
 pub fn read_request(body: &[u8]) -> Result<u16, Refusal>
@@ -65,5 +50,5 @@ pub fn write_request(list: &[u16], out: &mut [u8]) -> Result<Bytes, Refusal>
         return Err(Refusal::OutputSmall);
     }
     wire::store::<u16>(out, 0, code);
-    Ok(Bytes(WRITTEN))
+    Ok(Bytes(SIZE as u32))
 }
