@@ -3,18 +3,18 @@
 
 ghost use Rattle.std.specs.Prelude.{◌≡◌, []};
 ghost use Rattle.wire.specs.Numbers.{fetched};
-ghost use Rattle.wire.specs.Checks.{some_broken};
 ghost use Rattle.wire.specs.Refusals.{number_in};
 ghost use Rattle.header_rule.specs.Rules.{reported_number};
 ghost use Rattle.header.specs.Header.{number_place, stored_in, as_reported, header_in, header_of};
-ghost use Rattle.header.specs.Steps.{stored_or0, accepted_short, reported_short, counted_checks, refusal_of};
+ghost use Rattle.header.specs.Steps.{stored_or0, accepted_short, reported_short, refusal_of};
 ghost use Rattle.header.specs.Told.{tell_header};
 
+use header_rule::Stored;
 use wire::Halfwords;
 use wire::refusal::Refusal;
 
 // The values reported of a checked header. `kind` is the type of Table I: `type` is a keyword.
-#[derive(Clone, Copy)]
+#[derive(Clone, Copy, Default)]
 pub struct Header {
     pub size: Halfwords,
     pub channel: u8,
@@ -24,20 +24,6 @@ pub struct Header {
     pub milliseconds: u32,
     pub segments: u16,
     pub number: u16,
-}
-
-// The values at the start of a message as stored: not yet checked. Where N is 1 the segment number has no meaning; in the long form
-// `segments` and `number` are the two halves of the length.
-#[derive(Clone, Copy)]
-pub struct Stored {
-    size: Halfwords,
-    channel: u8,
-    kind: u8,
-    sequence: u16,
-    date: u16,
-    milliseconds: u32,
-    segments: u16,
-    number: u16,
 }
 
 pub const HEADER: usize = 16;
@@ -75,7 +61,7 @@ pub fn stored_in(message: &[u8]) -> Stored
     ensures { result ≡ stored_or0 message.now }
 {
     if message.len() < HEADER {
-        return nothing_stored();
+        return Stored::default();
     }
     let size = wire::fetch::<u16>(message, 0) as u32;
     let channel = wire::fetch::<u8>(message, CHANNEL_PLACE);
@@ -97,38 +83,11 @@ pub fn stored_in(message: &[u8]) -> Stored
     }
 }
 
-// All values 0, as stored values.
-fn nothing_stored() -> Stored
-    ensures { result ≡ stored_in [] }
-{
-    let h = no_header();
-    let size = h.size;
-    Stored {
-        size,
-        channel: h.channel,
-        kind: h.kind,
-        sequence: h.sequence,
-        date: h.date,
-        milliseconds: h.milliseconds,
-        segments: h.segments,
-        number: h.number,
-    }
-}
-
 // A header of zeros, used until a header has been read.
 pub fn no_header() -> Header
     ensures { result ≡ header_in [] }
 {
-    Header {
-        size: Halfwords(0),
-        channel: 0,
-        kind: 0,
-        sequence: 0,
-        date: 0,
-        milliseconds: 0,
-        segments: 0,
-        number: 0,
-    }
+    Header::default()
 }
 
 // Whether a message of `long` bytes with these stored values is accepted in the short form. It takes the values, not the bytes, so that
@@ -191,36 +150,28 @@ pub fn check_header(s: Stored, long: usize) -> Result<(), Refusal>
     if long < HEADER {
         return Err(Refusal::MessageShort);
     }
-    if header_rule::breaks_form(s.size, s.kind, s.segments, s.number, long) {
+    if s.breaks_form(long) {
         return Err(Refusal::Size);
     }
-    if header_rule::breaks_type(s.kind) {
+    let h = report(s);
+    if header_rule::breaks_type(h.kind) {
         return Err(Refusal::Type);
     }
-    if breaks_counted(s) {
+    if header_rule::breaks_segment(h.size, h.kind, h.segments, h.number) {
         return Err(Refusal::Segment);
     }
-    if header_rule::breaks_time(s.date, s.milliseconds) {
+    if header_rule::breaks_time(h.date, h.milliseconds) {
         return Err(Refusal::DateOrTime);
     }
     Ok(())
-}
-
-// Whether the size and N as they count, or the segment number, break a rule of segments.
-fn breaks_counted(s: Stored) -> bool
-    ensures { result ≡ some_broken (counted_checks s) }
-{
-    let size = header_rule::size_of(s.size, s.kind, s.segments, s.number);
-    let count = header_rule::count_of(s.size, s.kind, s.segments);
-    header_rule::breaks_segment(size, s.kind, count, s.number)
 }
 
 // The header reported of these stored values, in either form.
 fn report(s: Stored) -> Header
     ensures { result ≡ as_reported s }
 {
-    let size = header_rule::size_of(s.size, s.kind, s.segments, s.number);
-    let segments = header_rule::count_of(s.size, s.kind, s.segments);
+    let size = s.reported_size();
+    let segments = s.reported_count();
     let number = number_of(segments, s.number);
     Header {
         size,

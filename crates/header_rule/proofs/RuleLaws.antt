@@ -28,6 +28,13 @@ number_kept n k low high = go (eqb n 1) refl
     go true q = let one : n ≡ 1 = eqb-true n 1 q in number_lone n k one ∙ omega (arith, one)
     go false q = simp q
 
+pub number_twice : (n k : ℕ) → reported_number n (reported_number n k) ≡ reported_number n k
+number_twice n k = go (eqb n 1)
+  where
+    go : (t : Bool) → pick t 1 (pick t 1 k) ≡ pick t 1 k
+    go true = refl
+    go false = refl
+
 -- the segment's checks of a radial: it is the one segment there is
 pub radial_alone : (size : Halfwords) (kind n k : ℕ) → kind ≡ radial_type
     → some_broken (segment_checks size kind n (reported_number n k)) ≡ not (eqb n 1)

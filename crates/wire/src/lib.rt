@@ -13,10 +13,10 @@ pub mod refusal;
 use number::Number;
 
 // A count of bytes and a count of halfwords are different types. Only `to_halfwords` converts between them.
-#[derive(Clone, Copy)]
+#[derive(Clone, Copy, Default)]
 pub struct Bytes(pub u32);
 
-#[derive(Clone, Copy)]
+#[derive(Clone, Copy, Default)]
 pub struct Halfwords(pub u32);
 
 // The most bytes of a message, which are also the most of a session's body.
