@@ -37,6 +37,7 @@ const NUMBER_PLACE: u32 = 14;
 
 // The header of a message, which is a data frame's whole body. Nearly all are accepted in the short form, so that is put in line where a
 // header is read; the long form and the refusals are a call away.
+#[tactic(auto, using(crate::proofs::HeaderLaws::short_read))]
 pub fn read_header(message: &[u8]) -> Result<Header, Refusal>
     ensures { tell_header result ≡ header_of message.now }
 {
@@ -48,6 +49,7 @@ pub fn read_header(message: &[u8]) -> Result<Header, Refusal>
 }
 
 // The same, with neither form tried first.
+#[tactic(auto, using(crate::proofs::HeaderLaws::header_read, crate::proofs::HeaderLaws::header_refused))]
 pub fn read_either(body: &[u8]) -> Result<Header, Refusal>
     ensures { tell_header result ≡ header_of body.now }
 {
@@ -84,6 +86,7 @@ pub fn stored_in(message: &[u8]) -> Stored
 }
 
 // A header of zeros, used until a header has been read.
+#[tactic(auto, unfolding(crate::specs::Header::stored_in, crate::specs::Header::header_in, wire::specs::Numbers::num))]
 pub fn no_header() -> Header
     ensures { result ≡ header_in [] }
 {

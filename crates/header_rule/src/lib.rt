@@ -1,4 +1,4 @@
-// The rules of a message header's values, 5 to 8: each takes the values that it is about, and says whether they break it.
+// The values of a message header as stored, and their rules, 5 to 8: each takes the values that it is about, and says whether they break it.
 #![tactic(auto)]
 
 ghost use Rattle.std.specs.Prelude.{◌≡◌};
