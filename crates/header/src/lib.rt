@@ -153,7 +153,7 @@ pub fn check_header(s: Stored, long: usize) -> Result<(), Refusal>
     if long < HEADER {
         return Err(Refusal::MessageShort);
     }
-    if s.breaks_form(long) {
+    if header_rule::breaks_form(s, long) {
         return Err(Refusal::Size);
     }
     let h = report(s);
@@ -173,8 +173,8 @@ pub fn check_header(s: Stored, long: usize) -> Result<(), Refusal>
 fn report(s: Stored) -> Header
     ensures { result ≡ as_reported s }
 {
-    let size = s.reported_size();
-    let segments = s.reported_count();
+    let size = header_rule::size_of(s);
+    let segments = header_rule::count_of(s);
     let number = number_of(segments, s.number);
     Header {
         size,
