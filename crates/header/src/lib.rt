@@ -175,7 +175,7 @@ fn report(s: Stored) -> Header
 {
     let size = header_rule::size_of(s);
     let segments = header_rule::count_of(s);
-    let number = number_of(segments, s.number);
+    let number = if segments == 1 { 1 } else { s.number };
     Header {
         size,
         channel: s.channel,
@@ -186,13 +186,4 @@ fn report(s: Stored) -> Header
         segments,
         number,
     }
-}
-
-fn number_of(segments: u16, number: u16) -> u16
-    ensures { result ≡ reported_number segments number }
-{
-    if segments != 1 {
-        return number;
-    }
-    1
 }
