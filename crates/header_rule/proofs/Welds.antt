@@ -19,13 +19,13 @@ pub breaks_size-one : (κs size long r r₂ last last₂ : _) → breaks_size.Le
     → breaks_size.Learnt κs (size, (long, tt)) r₂ last₂ → r ≡ r₂
 breaks_size-one κs size long r r₂ last last₂ l l₂ = l ∙ sym l₂
 
-pub breaks_form-says : (κs self long r last : _) → breaks_form.Learnt κs (self, (long, tt)) r last
-    → r ≡ some_broken (form_checks self.size self.kind self.segments self.number long)
-breaks_form-says κs self long r last l = l
+pub breaks_form-says : (κs s long r last : _) → breaks_form.Learnt κs (s, (long, tt)) r last
+    → r ≡ some_broken (form_checks s.size s.kind s.segments s.number long)
+breaks_form-says κs s long r last l = l
 
-pub breaks_form-one : (κs self long r r₂ last last₂ : _) → breaks_form.Learnt κs (self, (long, tt)) r last
-    → breaks_form.Learnt κs (self, (long, tt)) r₂ last₂ → r ≡ r₂
-breaks_form-one κs self long r r₂ last last₂ l l₂ = l ∙ sym l₂
+pub breaks_form-one : (κs s long r r₂ last last₂ : _) → breaks_form.Learnt κs (s, (long, tt)) r last
+    → breaks_form.Learnt κs (s, (long, tt)) r₂ last₂ → r ≡ r₂
+breaks_form-one κs s long r r₂ last last₂ l l₂ = l ∙ sym l₂
 
 pub size_of-says : (κs s r last : _) → type_size.Learnt κs (s, tt) r last → r ≡ reported_size s.size s.kind s.segments s.number
 size_of-says κs s r last l = l
