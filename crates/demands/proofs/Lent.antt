@@ -23,7 +23,7 @@ use Rattle.censor.specs.Censor.{censor_form, censor_written}
 use Rattle.map_spec.specs.Reading.{map_checks, map_in}
 use Rattle.compare_spec.specs.Differences.{differences}
 use Rattle.compare_spec.specs.Comparing.{comparison, halfwords, comparison_of}
-use Rattle.compare.specs.Told.{comparison_says, tell_compare}
+use Rattle.compare.specs.Told.{compared_as, tell_compare}
 use Rattle.demands.specs.Notions.{KeptLent}
 use Rattle.demands.specs.Orders.{set_checks, comparison_checks, salvage_checks}
 use Rattle.demands.proofs.ByChecksLaws.{inside, inside_join, by_outcome, outcome_untouched, kept-lent}
@@ -67,7 +67,7 @@ pub compare_kept : (old new out : List ℕ)
     → KeptLent (Promise tell_compare (comparison_of old new out)) tell_compare (comparison_checks old new (length out))
     (comparison_of old new out) out
 compare_kept old new out =
-    all_kept comparison_says (λ c. record { old_elevations = c.old_elevations; new_elevations = c.new_elevations; differences = c.differences }) (λ v. refl) (λ x. refl) (map_checks old ++ map_checks new) (comparison (map_in old) (map_in new))
+    all_kept compared_as (λ c. record { old_elevations = c.old_elevations; new_elevations = c.new_elevations; differences = c.differences }) (λ v. refl) (λ x. refl) (map_checks old ++ map_checks new) (comparison (map_in old) (map_in new))
     (halfwords (differences (map_in old) (map_in new))) out (inside_join (map_checks old) (map_checks new) (map_inside old) (map_inside new))
 
 pub set_kept : (frames out : List ℕ) → KeptLent (Promise tell_set (set_of frames out)) tell_set (set_checks frames (length out))
