@@ -79,8 +79,20 @@ impl fmt::Write for Page {
     }
 }
 
-// The character of a byte of a name, or a question mark where the byte is none that prints.
-pub fn letter(b: u8) -> char {
+// The bytes of a name, shown as characters, with a question mark for each byte that is none that prints.
+#[derive(Clone, Copy)]
+pub struct Letters<'a>(pub &'a [u8]);
+
+impl fmt::Display for Letters<'_> {
+    fn fmt<W: fmt::Write>(&self, f: &mut fmt::Formatter<W>) -> fmt::Result {
+        for b in self.0 {
+            f.write_char(letter(*b))?;
+        }
+        Ok(())
+    }
+}
+
+fn letter(b: u8) -> char {
     match b {
         b' '..=b'~' => char::from(b),
         _ => '?',

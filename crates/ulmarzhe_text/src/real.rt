@@ -2,10 +2,8 @@
 ghost use Rattle.std.specs.Prelude.{◌<◌, ◌≤◌, ◌^◌};
 
 use std::fmt;
+use std::num::f32_to_bits_with_nan;
 use wire::{INFINITE, SIGN};
-
-// What the language's one NaN stands for.
-const NO_NUMBER: u32 = 2143289344;
 
 // The least bits of an angle that has more than eighteen digits before its decimals.
 const LONG: u32 = 1560281088;
@@ -22,7 +20,7 @@ pub struct Real(pub f32);
 
 impl fmt::Display for Real {
     fn fmt<W: fmt::Write>(&self, f: &mut fmt::Formatter<W>) -> fmt::Result {
-        let bits = bits_of(self.0);
+        let bits = f32_to_bits_with_nan(self.0);
         let size = bits % SIGN;
         if INFINITE < size {
             return f.write_str("no number");
@@ -100,9 +98,4 @@ fn halve(n: u64, times: u32) -> u64
         return whole;
     }
     whole + 1
-}
-
-// The bits of a float.
-pub fn bits_of(x: f32) -> u32 {
-    if x.is_nan() { NO_NUMBER } else { x.to_bits() }
 }
