@@ -32,7 +32,7 @@ impl<'a> Reading<'a> {
         Reading::begin(file, window, base, 0)
     }
 
-    // The same, with the first `fill` bytes of the window kept and looked at as though the file had begun with them.
+    // A file that stands at its start. The window's first `fill` bytes stay, and what is read lies behind them.
     pub fn after(file: &'a File, window: &'a mut [u8; WINDOW], fill: usize) -> Self {
         Reading::begin(file, window, 0, fill)
     }
