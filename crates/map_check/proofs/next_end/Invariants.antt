@@ -1,11 +1,10 @@
-use Prim.Native.Nat.{◌-◌, ◌≤◌}
+use Prim.Native.Nat.{◌-◌}
 use lib.ListN.{length}
-use Rattle.map_spec.specs.Map.{halfword_numbers}
 use Rattle.map_check.proofs.RisingLaws.{Rising}
 use Rattle.map_check.proofs.next_end.Given as goal
 
 abbrev pub invariant-loop-at : goal.invariant-loop-at
-invariant-loop-at l = (l.at ≤ length l.zones) × (l.from ≤ halfword_numbers) × Rising l.zones l.zone l.from l.at
+invariant-loop-at l = Rising l.zones l.zone l.from l.at
 
 abbrev pub decreases-loop-at : goal.decreases-loop-at
 decreases-loop-at l = length l.zones - l.at

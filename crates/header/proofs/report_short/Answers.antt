@@ -1,5 +1,0 @@
-use borrow.Author.Rules.{rules}
-use Rattle.header.proofs.report_short.Goals as goal
-
-pub returns : goal.returns
-returns c = cc
