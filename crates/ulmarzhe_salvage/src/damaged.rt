@@ -181,17 +181,19 @@ fn fail(rt: &HostRuntime, out: &mut Output, what: &[u8], why: Error) {
 }
 
 fn frames_from(stream: &[u8], start: usize) -> Frames {
-    let mut end = start;
-    let mut count = 0u64;
-    for _ in 0..WINDOW {
-        let long = salvage_find::whole_at(stream, end);
-        if long == 0 {
+    let mut frames = Frames {
+        count: 0,
+        start,
+        end: start,
+    };
+    for count in 1..u64::MAX {
+        let Some(length) = salvage_find::whole_at(stream, frames.end) else {
             break;
-        }
-        count = count.wrapping_add(1);
-        end = end.saturating_add(long);
+        };
+        frames.count = count;
+        frames.end = frames.end.saturating_add(length);
     }
-    Frames { count, start, end }
+    frames
 }
 
 // How far the walk of a long recording is. `next`: the place at which it is shown next; `length`: the recording's.
