@@ -2,29 +2,17 @@
 use Prim.Native.Nat.{ℕ, ◌+◌, ◌*◌, ◌-◌, ◌≤◌, ◌<◌}
 use native.Mathlib.Nat.{add-zero}
 use native.Mathlib.Omega.{arith}
-use mathlib.Core.Path.{◌≡◌, refl, sym, ap, ◌∙◌}
+use mathlib.Core.Path.{◌≡◌, sym, ap, ◌∙◌}
 use mathlib.Core.Bool.{Bool, true, false}
-use mathlib.Core.List.{List, [], ◌∷◌, ◌++◌, map, map-append}
+use mathlib.Core.List.{List, ◌++◌, map, map-append}
 use mir.Val.{bool_byte}
-use lib.ListN.{length, take, drop, set}
+use lib.ListN.{length, take, drop}
 use Rattle.wire.specs.Sheets.{Sheet, sheet, onto}
 use Rattle.wire.proofs.SheetLaws.{lay-room, lay-none, onto-append, onto-long}
 use Rattle.compare_spec.specs.Differences.{Difference}
 use Rattle.compare_spec.specs.Comparing.{difference_size, six_of, halfwords}
 use Rattle.compare_spec.proofs.Most.{halfwords-length}
 use Rattle.compare.specs.Steps.{listing, one_if}
-
--- six halfwords stored one after the other in six places
-pub six_stored : (out : List ℕ) (a b c d e f : ℕ) → length out ≡ difference_size
-    → set (set (set (set (set (set out 0 a) 1 b) 2 c) 3 d) 4 e) 5 f ≡ a ∷ b ∷ c ∷ d ∷ e ∷ f ∷ []
-six_stored [] a b c d e f h = absurd (omega arith)
-six_stored (x₁ ∷ []) a b c d e f h = absurd (omega arith)
-six_stored (x₁ ∷ x₂ ∷ []) a b c d e f h = absurd (omega arith)
-six_stored (x₁ ∷ x₂ ∷ x₃ ∷ []) a b c d e f h = absurd (omega arith)
-six_stored (x₁ ∷ x₂ ∷ x₃ ∷ x₄ ∷ []) a b c d e f h = absurd (omega arith)
-six_stored (x₁ ∷ x₂ ∷ x₃ ∷ x₄ ∷ x₅ ∷ []) a b c d e f h = absurd (omega arith)
-six_stored (x₁ ∷ x₂ ∷ x₃ ∷ x₄ ∷ x₅ ∷ x₆ ∷ []) a b c d e f h = refl
-six_stored (x₁ ∷ x₂ ∷ x₃ ∷ x₄ ∷ x₅ ∷ x₆ ∷ x₇ ∷ xs) a b c d e f h = absurd (omega arith)
 
 -- ---- many differences
 pub listing-append : (ds es : List Difference) (s : Sheet) → listing (ds ++ es) s ≡ listing es (listing ds s)

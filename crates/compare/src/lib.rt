@@ -14,10 +14,10 @@ ghost use Rattle.compare_spec.specs.Comparing.{difference_size, comparison_of};
 ghost use Rattle.compare.specs.Told.{tell_compare};
 ghost use Rattle.compare.specs.Steps.{most_counted, listing, one_if, zones_differences, size_fetched, list_of, Same, Counts, Checked};
 
-use map::{AZIMUTHS, HEAD_SIZE, MOST_ELEVATIONS, MapAnswer};
+use map::{AZIMUTHS, HEAD_SIZE, MOST_ELEVATIONS};
 use map_check::{FIELD_SIZE, LAST_KILOMETRE, MOST_ZONES, ZONE_SIZE};
 use map_zone::{code_of, end_of};
-use wire::refusal;
+use wire::refusal::Refusal;
 
 // The halfwords that a difference takes.
 const DIFFERENCE_SIZE: usize = 6;
@@ -28,11 +28,12 @@ const MOST_RUNS: usize = 2 * MOST_ZONES - 1;
 // Room in halfwords for the most differences that two maps can have.
 pub const MOST: usize = DIFFERENCE_SIZE * (MOST_ELEVATIONS * (AZIMUTHS * MOST_RUNS));
 
-// The elevation segments of the old and of the new map and the number of differences, or the number of refusal.
+// Two maps compared: the elevation segments of either, and the number of differences.
 #[derive(Clone, Copy)]
-pub enum CompareAnswer {
-    Compared(u16, u16, u32),
-    Refused(u8),
+pub struct Comparison {
+    pub old_elevations: u16,
+    pub new_elevations: u16,
+    pub differences: u32,
 }
 
 // Azimuths in a row: how many, and how many bytes they take.
@@ -40,15 +41,6 @@ pub enum CompareAnswer {
 struct Run {
     azimuths: usize,
     bytes: usize,
-}
-
-fn least(a: u16, b: u16) -> u16
-    ensures { result ≡ pick (ltb a b) a b }
-{
-    if a < b {
-        return a;
-    }
-    b
 }
 
 // The place of the zone that covers the next kilometre: the same place, or the next zone's if this zone ends here.
@@ -70,19 +62,6 @@ fn begun(ends: bool, first: u16, next: u16) -> u16
         return next;
     }
     first
-}
-
-// A difference, stored in six halfwords.
-fn put(out: &mut [u16], elevation: u16, azimuth: u16, first: u16, last: u16, old: u16, new: u16)
-    requires { length out.old ≡ difference_size }
-    ensures { out.new ≡ elevation ∷ azimuth ∷ first ∷ last ∷ old ∷ new ∷ [] }
-{
-    out[0] = elevation;
-    out[1] = azimuth;
-    out[2] = first;
-    out[3] = last;
-    out[4] = old;
-    out[5] = new;
 }
 
 // Counts the stretch of kilometres from `first` to before `next` if `lists` is true, and lists it where there is room.
@@ -110,7 +89,7 @@ fn list(
         return count;
     }
     let last = next - 1;
-    put(&mut out[at..end], elevation, azimuth, first, last, old, new);
+    out[at..end].copy_from_slice(&[elevation, azimuth, first, last, old, new]);
     count + 1
 }
 
@@ -156,7 +135,7 @@ fn compare_zones(
         is = other;
         let end_old = end_of(zone_old);
         let end_new = end_of(zone_new);
-        let end = least(end_old, end_new);
+        let end = end_old.min(end_new);
         i = past(i, end_old, end);
         j = past(j, end_new, end);
         next = end + 1;
@@ -172,20 +151,11 @@ fn size_of(part: &[u8]) -> usize
     FIELD_SIZE + ZONE_SIZE * wire::fetch::<u16>(part, 0) as usize
 }
 
-fn shorter(old: &[u8], new: &[u8]) -> usize
-    ensures { (result ≤ length old.now) × (result ≤ length new.now) }
-{
-    if old.len() < new.len() {
-        return old.len();
-    }
-    new.len()
-}
-
 // How many bytes at the start of two parts are the same, in steps of four. Up to seven bytes at the end may not be compared.
 fn same_bytes(old: &[u8], new: &[u8]) -> usize
     ensures { (result ≤ length old.now) × (result ≤ length new.now) × Same result old.now new.now }
 {
-    let end = shorter(old, new);
+    let end = old.len().min(new.len());
     let mut at: usize = 0;
     while at + 2 * ZONE_SIZE <= end {
         if four_at(old, at) != four_at(new, at) {
@@ -206,8 +176,7 @@ fn pass(part: &[u8], same: usize, most: usize) -> Run
     ensures { (result.azimuths ≤ most) × (result.bytes ≤ same) × (result.bytes ≡ run_size azimuth_part result.azimuths part.now) }
 {
     let mut at: usize = 0;
-    let mut count: usize = 0;
-    while count < most {
+    for count in 0..most {
         let size = size_of(&part[at..]);
         if same - at < size {
             return Run {
@@ -216,10 +185,9 @@ fn pass(part: &[u8], same: usize, most: usize) -> Run
             };
         }
         at += size;
-        count += 1;
     }
     Run {
-        azimuths: count,
+        azimuths: most,
         bytes: at,
     }
 }
@@ -266,27 +234,33 @@ fn has_room(old: &[u8], new: &[u8], elevations: u16, out: &mut [u16]) -> bool
 }
 
 // Compares two checked bodies with these numbers of elevation segments.
-fn compare_checked(old: &[u8], new: &[u8], older: u16, newer: u16, out: &mut [u16]) -> CompareAnswer
+fn compare_checked(
+    old: &[u8],
+    new: &[u8],
+    older: u16,
+    newer: u16,
+    out: &mut [u16],
+) -> Result<Comparison, Refusal>
     requires { Counts older old.now × Counts newer new.now }
     ensures { Promise tell_compare (comparison_of old.now new.now out.old) result out.new }
 {
-    let elevations = least(older, newer);
+    let elevations = older.min(newer);
     if !has_room(old, new, elevations, out) {
-        return CompareAnswer::Refused(refusal::OUTPUT_SMALL);
+        return Err(Refusal::OutputSmall);
     }
     let count = compare_azimuths(old, new, elevations, out);
-    CompareAnswer::Compared(older, newer, count as u32)
+    Ok(Comparison {
+        old_elevations: older,
+        new_elevations: newer,
+        differences: count as u32,
+    })
 }
 
 // Compares two bodies 15: reports their elevation segments and the number of differences, and lists each as six halfwords.
-pub fn compare(old: &[u8], new: &[u8], out: &mut [u16]) -> CompareAnswer
+pub fn compare(old: &[u8], new: &[u8], out: &mut [u16]) -> Result<Comparison, Refusal>
     ensures { Promise tell_compare (comparison_of old.now new.now out.old) result out.new }
 {
-    match map::check_map(old) {
-        MapAnswer::Refused(number) => CompareAnswer::Refused(number),
-        MapAnswer::Map(_, _, older) => match map::check_map(new) {
-            MapAnswer::Refused(number) => CompareAnswer::Refused(number),
-            MapAnswer::Map(_, _, newer) => { compare_checked(old, new, older, newer, out) }
-        },
-    }
+    let older = map::check_map(old)?.elevations;
+    let newer = map::check_map(new)?.elevations;
+    compare_checked(old, new, older, newer, out)
 }

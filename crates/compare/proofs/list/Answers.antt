@@ -24,9 +24,7 @@ pub returns : goal.returns
 returns c =
     let if1 = c.if-out-end in
     let if2 = c.if-not-lists in
-    let put = c.put in
+    let copied = c.copy_from_slice in
     let a = c.args in
-    list-laid a.elevation a.azimuth a.first a.next a.old a.new a.count a.out.now a.lists
-    (6 * a.count + 6 - 6 * a.count)
-    put.new.out if2.false (omega arith) put.ensures
-    if1.false
+    list-laid a.elevation a.azimuth a.first a.next a.old a.new a.count a.out.now a.lists (6 * a.count + 6 - 6 * a.count) copied.new.self
+    if2.false (omega arith) copied.ensures.after if1.false

@@ -8,7 +8,7 @@ use Rattle.compare.proofs.SameBytes.{same_more}
 use Rattle.compare.proofs.same_bytes.Goals as goal
 
 pub loop-at-init : goal.loop-at-init
-loop-at-init c = (c.shorter-end.ensures.0, c.shorter-end.ensures.1, omega arith, λ k h. absurd (omega arith))
+loop-at-init c = (omega (arith, c.min-end.ensures), omega (arith, c.min-end.ensures), omega arith, λ k h. absurd (omega arith))
 
 pub returns-then-four_at : goal.returns-then-four_at
 returns-then-four_at c =
@@ -19,8 +19,8 @@ pub returns-then-four_at-2 : goal.returns-then-four_at-2
 returns-then-four_at-2 c =
     let old = c.args.old.now in
     let new = c.args.new.now in
-    let old_fits : Octets old = λ i. (c.shared_slice_known-1.given i).fits in
-    let new_fits : Octets new = λ i. (c.shared_slice_known-2-1.given i).fits in
+    let old_fits : Octets old = λ i. (c.type_inv.old i).fits in
+    let new_fits : Octets new = λ i. (c.type_inv.new i).fits in
     let l = c.loop-at in
     let more = c.loop-at-test.true in
     let four : Same (l.at + zone_size) old new =
@@ -32,8 +32,8 @@ pub loop-at-preserved : goal.loop-at-preserved
 loop-at-preserved c =
     let old = c.args.old.now in
     let new = c.args.new.now in
-    let old_fits : Octets old = λ i. (c.shared_slice_known-1.given i).fits in
-    let new_fits : Octets new = λ i. (c.shared_slice_known-2-1.given i).fits in
+    let old_fits : Octets old = λ i. (c.type_inv.old i).fits in
+    let new_fits : Octets new = λ i. (c.type_inv.new i).fits in
     let l = c.loop-at in
     let more = c.loop-at-test.true in
     let four : Same (l.at + zone_size) old new =
