@@ -58,7 +58,7 @@ use Rattle.map.proofs.code_at.Reads as code_at
 use Rattle.compare_spec.specs.Comparing.{comparison_of}
 use Rattle.compare.specs.Told.{tell_compare}
 use Rattle.compare.proofs.compare.Reads as compare
-use Rattle.demands.specs.Notions.{ByChecks, Kept, KeptStruct, KeptLent}
+use Rattle.demands.specs.Notions.{ByChecks, Kept, KeptNumber, KeptLent}
 use Rattle.demands.specs.Orders.{stream_checks, set_checks, moment_checks, coded_checks, gate_checks, comparison_checks, salvage_checks}
 
 -- ---- gates handed over: "an empty part where gates are handed over" on a refusal
@@ -105,12 +105,12 @@ pub record Demand1 : Type 0 where
       (then_room (write_checks given body.now) (frames_of given body.now) (length out.now))
       (write_of given body.now out.now) out.now
   -- `check_radial`, `read_heading`, `read_radial`
-  pub check_radial : (κs body s : _) → KeptStruct (λ r. check_radial_reads.Learnt κs (body, tt) r s) number_of (radial_checks body.now)
+  pub check_radial : (κs body s : _) → KeptNumber (λ r. check_radial_reads.Learnt κs (body, tt) r s) (radial_checks body.now)
       (radial_of body.now)
-  pub heading : (κs body s : _) → KeptStruct (λ r. read_heading.Learnt κs (body, tt) r s) heading_shown (radial_checks body.now)
-      (radial_of body.now)
-  pub radial : (κs body s : _) → KeptStruct (λ r. read_radial.Learnt κs (body, tt) r s) shown (radial_checks body.now)
-      (radial_of body.now)
+  pub heading : (κs body s : _) → Kept (λ r. read_heading.Learnt κs (body, tt) r s) tell_heading (radial_checks body.now)
+      (heading_shown (radial_of body.now))
+  pub radial : (κs body s : _) → Kept (λ r. read_radial.Learnt κs (body, tt) r s) tell_radial (radial_checks body.now)
+      (shown (radial_of body.now))
   -- `moment`, `block`, `code`
   pub moment : (κs body name s : _)
       → Kept (λ r. moment.Learnt κs (body, (name, tt)) r s) tell_moment (moment_checks body.now (num 4 name 0))

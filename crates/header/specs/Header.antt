@@ -1,5 +1,5 @@
 -- "The message header": its table, its checks in their order, and what is read of it. The rules of its values stand in `header_rule`.
-use Rattle.std.specs.Prelude.{ℕ, ◌+◌, Bool, List, [], ◌∷◌, ◌++◌, ltb, length, drop}
+use Rattle.std.specs.Prelude.{ℕ, Bool, List, [], ◌∷◌, ◌++◌, ltb, length, drop}
 use Rattle.wire.specs.Numbers.{num}
 use Rattle.wire.specs.Tables.{Field, field}
 use Rattle.wire.specs.Checks.{pick, Check, check}
