@@ -160,6 +160,17 @@ module _ {T A : Type 0} (f : T → A) (g : A → T) (reads : (v : A) → f (g v)
         untouched = λ r after n e q. e.leaves ∙ u n q;
       }
 
+-- the same where an Ok holds what the rule gives
+module _ {A : Type 0} where
+  pub kept-value : (ks : List Check) (right : Answer A) → ByChecks ks right
+      → Kept (λ (r : Result A Refusal). tell (λ v. v) r ≡ right) (tell (λ v. v)) ks right
+  kept-value = kept (λ v. v) (λ v. v) (λ v. refl) (λ v. refl)
+
+  pub kept-lent-value : {O : Type 0} (ks : List Check) (right : Outcome O A) (out : O) → ByChecks ks right.answer
+      → ((n : ℕ) → right.answer ≡ refused n → right.output ≡ out)
+      → KeptLent (Promise (tell (λ (v : A). v)) right) (tell (λ v. v)) ks right out
+  kept-lent-value = kept-lent (λ v. v) (λ v. v) (λ v. refl) (λ v. refl)
+
 -- an entry that returns nothing but whether it refuses
 pub kept_number : {A : Type 0} (ks : List Check) (right : Answer A) → ByChecks ks right
     → KeptNumber (λ (r : Result (Unit {0}) Refusal). number_in r ≡ number_of right) ks right

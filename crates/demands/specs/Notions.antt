@@ -6,7 +6,7 @@ use Rattle.std.specs.Prelude.{ℕ, ◌≡◌, true, List, [], ◌∷◌, Result}
 use Rattle.wire.specs.Properties.{One}
 use Rattle.wire.specs.Checks.{among, Check, AllHold, Blamed}
 use Rattle.wire.specs.Answers.{Answer, refused, given, number_of, Outcome, Promise}
-use Rattle.wire.specs.Refusals.{number_in}
+use Rattle.wire.specs.Refusals.{number, number_in}
 use Rattle.wire.specs.declared.refusal.Refusal.{Refusal}
 
 -- the numbers of refusal, as docs/RULES.md and crates/wire/src/refusal.rt have them
@@ -44,6 +44,12 @@ pub record KeptLent {R O A : Type 0} (P : R → O → Type 0) (tell : R → Answ
   pub told : (r : R) (after : O) → P r after → Promise tell right r after
   pub by_checks : ByChecks ks right.answer
   pub untouched : (r : R) (after : O) (n : ℕ) → P r after → right.answer ≡ refused n → after ≡ out
+
+-- the refusal with a number, of which P holds: no two have the same number
+pub record RefusedAs (P : Refusal → Type 0) (n : ℕ) : Type 0 where
+  pub refusal : Refusal
+  pub numbered : number refusal ≡ n
+  pub is : P refusal
 
 -- ---- an entry by its contract P and the C function by its contract Q, of an answer and what then stands in what was lent, one output or
 -- two

@@ -9,6 +9,7 @@ ghost use Rattle.header.specs.Header.{number_place, stored_in, as_reported, head
 ghost use Rattle.header.specs.Steps.{stored_or0, accepted_short, reported_short, refusal_of};
 ghost use Rattle.header.specs.Told.{tell_header};
 
+use header_rule::Stored;
 use wire::Halfwords;
 use wire::refusal::Refusal;
 
@@ -25,20 +26,6 @@ pub struct Header {
     pub number: u16,
 }
 
-// The values at the start of a message as stored: not yet checked. Where N is 1 the segment number has no meaning; in the long form
-// `segments` and `number` are the two halves of the length.
-#[derive(Clone, Copy, Default)]
-pub struct Stored {
-    size: Halfwords,
-    channel: u8,
-    kind: u8,
-    sequence: u16,
-    date: u16,
-    milliseconds: u32,
-    segments: u16,
-    number: u16,
-}
-
 pub const HEADER: usize = 16;
 
 // Where the channel, the sequence number and the segment number begin.
@@ -50,6 +37,7 @@ const NUMBER_PLACE: u32 = 14;
 
 // The header of a message, which is a data frame's whole body. Nearly all are accepted in the short form, so that is put in line where a
 // header is read; the long form and the refusals are a call away.
+#[tactic(auto, using(crate::proofs::HeaderLaws::short_read))]
 pub fn read_header(message: &[u8]) -> Result<Header, Refusal>
     ensures { tell_header result ≡ header_of message.now }
 {
@@ -61,6 +49,7 @@ pub fn read_header(message: &[u8]) -> Result<Header, Refusal>
 }
 
 // The same, with neither form tried first.
+#[tactic(auto, using(crate::proofs::HeaderLaws::header_read, crate::proofs::HeaderLaws::header_refused))]
 pub fn read_either(body: &[u8]) -> Result<Header, Refusal>
     ensures { tell_header result ≡ header_of body.now }
 {
@@ -97,6 +86,7 @@ pub fn stored_in(message: &[u8]) -> Stored
 }
 
 // A header of zeros, used until a header has been read.
+#[tactic(auto, unfolding(crate::specs::Header::stored_in, crate::specs::Header::header_in, wire::specs::Numbers::num))]
 pub fn no_header() -> Header
     ensures { result ≡ header_in [] }
 {
@@ -163,7 +153,7 @@ pub fn check_header(s: Stored, long: usize) -> Result<(), Refusal>
     if long < HEADER {
         return Err(Refusal::MessageShort);
     }
-    if header_rule::breaks_form(s.size, s.kind, s.segments, s.number, long) {
+    if s.breaks_form(long) {
         return Err(Refusal::Size);
     }
     let h = report(s);
@@ -183,8 +173,8 @@ pub fn check_header(s: Stored, long: usize) -> Result<(), Refusal>
 fn report(s: Stored) -> Header
     ensures { result ≡ as_reported s }
 {
-    let size = header_rule::size_of(s.size, s.kind, s.segments, s.number);
-    let segments = header_rule::count_of(s.size, s.kind, s.segments);
+    let size = s.reported_size();
+    let segments = s.reported_count();
     let number = number_of(segments, s.number);
     Header {
         size,
