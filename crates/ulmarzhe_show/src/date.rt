@@ -13,12 +13,9 @@ impl fmt::Display for Stamp {
         if header_rule::breaks_time(self.date, self.milliseconds) {
             return write!(f, "day {} and {} ms", self.date, self.milliseconds);
         }
-        write!(
-            f,
-            "{} {}",
-            Day::numbered(self.date),
-            Time(self.milliseconds)
-        )
+        let day = Day::numbered(self.date);
+        let time = Time(self.milliseconds);
+        write!(f, "{day} {time}")
     }
 }
 

@@ -16,7 +16,8 @@ use wire::refusal::Refusal;
 
 // A damaged place.
 pub fn list_stop(place: u64, why: Refusal, out: &mut Output) {
-    write!(out.page, "{place:>10}  stopped, {}\n", Refused(why));
+    let refused = Refused(why);
+    write!(out.page, "{place:>10}  stopped, {refused}\n");
     out.refuse();
 }
 
@@ -26,13 +27,10 @@ pub fn list_none(place: u64, out: &mut Output) {
 }
 
 pub fn list_refused(found: Found<'_>, why: Refusal, out: &mut Output) {
+    let place = found.place;
     let size = found.message.len();
-    write!(
-        out.page,
-        "{:>10}  data, {size} bytes, {}\n",
-        found.place,
-        Refused(why)
-    );
+    let refused = Refused(why);
+    write!(out.page, "{place:>10}  data, {size} bytes, {refused}\n");
     out.refuse();
 }
 
@@ -44,19 +42,12 @@ impl Task for Frames {
         let place = found.place;
         let size = found.message.len();
         if found.kind != DATA {
-            write!(
-                out.page,
-                "{place:>10}  {}, {size} bytes\n",
-                name_of(found.kind)
-            );
+            let name = name_of(found.kind);
+            write!(out.page, "{place:>10}  {name}, {size} bytes\n");
             return;
         }
-        match header::read_header(found.message) {
-            Ok(h) => write!(
-                out.page,
-                "{place:>10}  data, {size} bytes, {}\n",
-                Heading(h)
-            ),
+        match header::read_header(found.message).map(Heading) {
+            Ok(heading) => write!(out.page, "{place:>10}  data, {size} bytes, {heading}\n"),
             Err(why) => list_refused(found, why, out),
         }
     }
@@ -138,15 +129,13 @@ impl fmt::Display for Direction {
             date: h.date,
             milliseconds: h.time,
         };
-        write!(f, "{}  {stamp}", Letters(&h.station.to_be_bytes()))?;
-        write!(f, "  azimuth {} at {}", h.azimuth_number, Angle(h.azimuth))?;
-        write!(
-            f,
-            "  elevation {} at {}",
-            h.elevation_number,
-            Angle(h.elevation)
-        )?;
-        write!(f, "  {}", RadialStatus(h.status))
+        let azimuth = Angle(h.azimuth);
+        let elevation = Angle(h.elevation);
+        let status = RadialStatus(h.status);
+        write!(f, "{}  {stamp}  ", Letters(&h.station.to_be_bytes()))?;
+        write!(f, "azimuth {} at {azimuth}  ", h.azimuth_number)?;
+        write!(f, "elevation {} at {elevation}  ", h.elevation_number)?;
+        write!(f, "{status}")
     }
 }
 
