@@ -28,7 +28,7 @@ pub fn list_none(place: u64, out: &mut Output) {
 
 pub fn list_refused(found: Found<'_>, why: Refusal, out: &mut Output) {
     let place = found.place;
-    let size = found.message.len();
+    let size = found.body.len();
     let refused = Refused(why);
     write!(out.page, "{place:>10}  data, {size} bytes, {refused}\n");
     out.refuse();
@@ -40,13 +40,13 @@ pub struct Frames;
 impl Task for Frames {
     fn take(&mut self, found: Found<'_>, out: &mut Output) {
         let place = found.place;
-        let size = found.message.len();
+        let size = found.body.len();
         if found.kind != DATA {
             let name = name_of(found.kind);
             write!(out.page, "{place:>10}  {name}, {size} bytes\n");
             return;
         }
-        match header::read_header(found.message).map(Heading) {
+        match header::read_header(found.body).map(Heading) {
             Ok(heading) => write!(out.page, "{place:>10}  data, {size} bytes, {heading}\n"),
             Err(why) => list_refused(found, why, out),
         }

@@ -139,8 +139,12 @@ impl Table {
     }
 
     fn add(&mut self, row: usize, column: usize, n: u64) {
-        if row < ROWS && column < COLUMNS {
-            self.rows[row][column] = self.rows[row][column].wrapping_add(n);
+        let cell = self
+            .rows
+            .get_mut(row)
+            .and_then(|columns| columns.get_mut(column));
+        if let Some(cell) = cell {
+            *cell = cell.wrapping_add(n);
         }
     }
 
@@ -199,7 +203,7 @@ fn refused_one(old: &[u8]) -> &'static str {
 
 fn show_comparison(rt: &HostRuntime, c: Comparison, list: &[u16; MOST], out: &mut Output) {
     let mut table = Table::default();
-    for listed in list.as_chunks::<6>().0.iter().take(c.count as usize) {
+    for listed in list.as_chunks::<6>().0.iter().take(c.differences as usize) {
         let d = Difference::from(*listed);
         table.count(d);
         write!(out.page, "{d}\n");
@@ -209,20 +213,22 @@ fn show_comparison(rt: &HostRuntime, c: Comparison, list: &[u16; MOST], out: &mu
         }
     }
     put_summary(c, &table, &mut out.page);
-    if c.count != 0 || c.old != c.new {
+    if c.differences != 0 || c.old_elevations != c.new_elevations {
         out.refuse();
     }
 }
 
 fn put_summary(c: Comparison, table: &Table, page: &mut Page) {
-    match c.count {
+    match c.differences {
         0 => write!(page, "no difference\n"),
         1 => write!(page, "1 difference\n"),
         n => write!(page, "{n} differences\n"),
     }
-    put_left_out(c.old, c.new, page);
-    if 0 < c.count {
-        table.put(usize::from(c.old.min(c.new)), page);
+    let old = c.old_elevations;
+    let new = c.new_elevations;
+    put_left_out(old, new, page);
+    if 0 < c.differences {
+        table.put(usize::from(old.min(new)), page);
     }
 }
 

@@ -11,12 +11,12 @@ use ulmarzhe_text::system;
 use ulmarzhe_text::window::{Reading, WINDOW};
 use wire::refusal::Refusal;
 
-// A frame that was found: where in the recording it begins, its kind, and the message that is its body.
+// A frame that was found: where in the recording it begins, its kind, and its body, which of a data frame is a message.
 #[derive(Clone, Copy)]
 pub struct Found<'a> {
     pub place: u64,
     pub kind: u32,
-    pub message: &'a [u8],
+    pub body: &'a [u8],
 }
 
 impl<'a> Found<'a> {
@@ -25,11 +25,11 @@ impl<'a> Found<'a> {
         if self.kind != DATA {
             return Ok(None);
         }
-        let h = header::read_header(self.message)?;
+        let h = header::read_header(self.body)?;
         if h.kind != RADIAL {
             return Ok(None);
         }
-        Ok(self.message.get(HEADER..))
+        Ok(self.body.get(HEADER..))
     }
 }
 
@@ -96,7 +96,7 @@ impl<'a> Walk<'a> {
         Found {
             place,
             kind: frame.kind,
-            message: self
+            body: self
                 .reading
                 .bytes()
                 .get(frame.start..frame.next)
