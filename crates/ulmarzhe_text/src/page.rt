@@ -1,169 +1,100 @@
-// Text is written into a page that the caller lends. Each function takes how far the page is filled and answers how far it is then.
-// Text past the page's end is dropped; callers empty the page long before. Behind the page lies the room that is lent to the library.
-use crate::part::{part, sum};
+// A page that text is written on, by `write!` or byte by byte. What has no room on it is dropped; callers empty it long before.
+ghost use Rattle.std.specs.Prelude.{◌≤◌};
+ghost use Rattle.ulmarzhe_text.specs.declared.page.TheConstants.{PAGE};
+
+use std::fmt;
+use std::fmt::Display;
 use std::io::{Print, Result};
 
 pub const PAGE: usize = 65536;
 
-// The longest answer: a frame of the longest radial.
-pub const ROOM: usize = 1048588;
+const DIGITS: [u8; 16] = *b"0123456789abcdef";
 
-pub const SHEET: usize = PAGE + ROOM;
-
-pub fn put_byte(sheet: &mut [u8; SHEET], at: usize, b: u8) -> usize {
-    if at < PAGE {
-        sheet[at] = b;
-        return at + 1;
-    }
-    at
+#[derive(Drop)]
+pub struct Page {
+    bytes: [u8; PAGE],
+    at: usize,
+    ghost fits: { at ≤ PAGE },
 }
 
-pub fn put_text(sheet: &mut [u8; SHEET], at: usize, words: &[u8]) -> usize {
-    let mut next = at;
-    let mut i = 0;
-    while i < words.len() {
-        next = put_byte(sheet, next, words[i]);
-        i += 1;
-    }
-    next
-}
-
-// Words with numbers among them. `#` stands for the next number; `@`, `&` and `^` for one in two, three and eighteen digits, with zeros
-// in front; `<` and `>` for one at the right of five and of ten places; `%` and `~` for one in four and in eight hexadecimal digits;
-// `$` for the letter whose number it is.
-pub fn fill_in(sheet: &mut [u8; SHEET], at: usize, words: &[u8], numbers: &[u64]) -> usize {
-    let mut next = at;
-    let mut i = 0;
-    let mut k = 0;
-    while i < words.len() {
-        let mark = words[i];
-        if is_plain(mark) {
-            next = put_byte(sheet, next, mark);
-        } else {
-            next = put_number(sheet, next, mark, nth(numbers, k));
-            k = sum(k, takes(mark));
+impl Page {
+    pub fn new() -> Self {
+        Page {
+            bytes: [0; PAGE],
+            at: 0,
         }
-        i += 1;
     }
-    next
-}
 
-// A space or a small letter is never a mark. Most bytes are such.
-fn is_plain(mark: u8) -> bool {
-    if mark == b' ' {
-        return true;
+    pub fn put(&mut self, text: &[u8]) {
+        let long = text.len().min(PAGE - self.at);
+        let end = self.at + long;
+        self.bytes[self.at..end].copy_from_slice(&text[..long]);
+        self.at = end;
     }
-    b'a' <= mark && mark <= b'z'
-}
 
-// A number of a list, or 0 past its last.
-pub fn nth(numbers: &[u64], k: usize) -> u64 {
-    if k < numbers.len() {
-        return numbers[k];
-    }
-    0
-}
-
-fn takes(mark: u8) -> usize {
-    match mark {
-        b'$' | b'#' | b'@' | b'&' | b'^' | b'<' | b'>' | b'%' | b'~' => 1,
-        _ => 0,
-    }
-}
-
-fn put_number(sheet: &mut [u8; SHEET], at: usize, mark: u8, n: u64) -> usize {
-    match mark {
-        b'#' => put_decimal(sheet, at, n, 0, b'0'),
-        b'@' => put_decimal(sheet, at, n, 1, b'0'),
-        b'&' => put_decimal(sheet, at, n, 2, b'0'),
-        b'^' => put_decimal(sheet, at, n, 17, b'0'),
-        b'<' => put_decimal(sheet, at, n, 4, b' '),
-        b'>' => put_decimal(sheet, at, n, 9, b' '),
-        b'%' => put_halfword(sheet, at, n),
-        b'~' => {
-            let next = put_halfword(sheet, at, n / 65536);
-            put_halfword(sheet, next, n)
+    pub fn put_byte(&mut self, b: u8) {
+        if self.at < PAGE {
+            self.bytes[self.at] = b;
+            self.at += 1;
         }
-        b'$' => put_byte(sheet, at, letter(n)),
-        _ => put_byte(sheet, at, mark),
+    }
+
+    // A byte in two hexadecimal digits.
+    pub fn put_octet(&mut self, b: u8) {
+        self.put_byte(DIGITS[usize::from(b / 16)]);
+        self.put_byte(DIGITS[usize::from(b % 16)]);
+    }
+
+    // What `write!` calls. It returns nothing, since a page takes every text.
+    pub fn write_fmt<D: Display + Drop>(&mut self, text: D) {
+        let _ = fmt::Write::write(self, text);
+    }
+
+    // What is written on it.
+    pub fn text(&self) -> &[u8] {
+        &self.bytes[..self.at]
+    }
+
+    pub fn len(&self) -> usize {
+        self.at
+    }
+
+    pub fn is_empty(&self) -> bool {
+        self.at == 0
+    }
+
+    pub fn clear(&mut self) {
+        self.at = 0;
+    }
+
+    pub fn send(&self, to: &impl Print) -> Result<()> {
+        to.write_all(self.text())
     }
 }
 
-fn letter(n: u64) -> u8 {
-    let b = (n % 256) as u8;
-    if b < b' ' {
-        return b'?';
+impl fmt::Write for Page {
+    fn write_str(&mut self, text: &str) -> fmt::Result {
+        self.put(text.as_bytes());
+        Ok(())
     }
-    if b'~' < b {
-        return b'?';
-    }
-    b
 }
 
-// A number with at least `before` places before its last digit, filled with `blank` in front.
-fn put_decimal(sheet: &mut [u8; SHEET], at: usize, n: u64, before: usize, blank: u8) -> usize {
-    let wide = places(n / 10, before);
-    let next = put_front(sheet, at, n / 10, wide, blank);
-    put_byte(sheet, next, glyph((n % 10) as u8))
-}
+// The bytes of a name, shown as characters, with a question mark for each byte that is none that prints.
+#[derive(Clone, Copy)]
+pub struct Letters<'a>(pub &'a [u8]);
 
-fn places(n: u64, least: usize) -> usize {
-    let mut rest = n;
-    let mut k = 0;
-    while k < 20 {
-        if rest == 0 {
-            return if k < least { least } else { k };
+impl fmt::Display for Letters<'_> {
+    fn fmt<W: fmt::Write>(&self, f: &mut fmt::Formatter<W>) -> fmt::Result {
+        for b in self.0 {
+            f.write_char(letter(*b))?;
         }
-        rest /= 10;
-        k += 1;
+        Ok(())
     }
-    k
 }
 
-// Writes a number in `wide` places, last digit first, or nothing if it would go past the page's end.
-fn put_front(sheet: &mut [u8; SHEET], at: usize, n: u64, wide: usize, blank: u8) -> usize {
-    let end = sum(at, wide);
-    if PAGE < end {
-        return at;
+fn letter(b: u8) -> char {
+    match b {
+        b' '..=b'~' => char::from(b),
+        _ => '?',
     }
-    let mut i = end;
-    let mut rest = n;
-    while at < i {
-        i -= 1;
-        sheet[i] = digit(rest, blank);
-        rest /= 10;
-    }
-    end
-}
-
-// The last digit of what is left of a number, or `blank` if nothing is left.
-fn digit(rest: u64, blank: u8) -> u8 {
-    if rest == 0 {
-        return blank;
-    }
-    b'0' + (rest % 10) as u8
-}
-
-fn glyph(d: u8) -> u8 {
-    let d = d % 16;
-    if d < 10 { b'0' + d } else { b'a' + (d - 10) }
-}
-
-fn put_halfword(sheet: &mut [u8; SHEET], at: usize, n: u64) -> usize {
-    let next = put_octet(sheet, at, (n / 256 % 256) as u8);
-    put_octet(sheet, next, (n % 256) as u8)
-}
-
-// A byte in hexadecimal.
-pub fn put_octet(sheet: &mut [u8; SHEET], at: usize, b: u8) -> usize {
-    let next = put_byte(sheet, at, glyph(b / 16));
-    put_byte(sheet, next, glyph(b % 16))
-}
-
-// Writes the page up to a place.
-pub fn send(to: &impl Print, sheet: &[u8; SHEET], at: usize) -> Result<()> {
-    if PAGE < at {
-        return to.write_all(part(sheet, 0, PAGE));
-    }
-    to.write_all(part(sheet, 0, at))
 }

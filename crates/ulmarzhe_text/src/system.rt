@@ -1,8 +1,4 @@
 // What the program asks of the system: the words of its command line, files by name, and its streams.
-ghost use Rattle.std.specs.Prelude.{◌≤◌, IfOk, length};
-
-use crate::part::{less, part};
-use crate::words;
 use std::env::{Env, FillError};
 use std::fs;
 use std::fs::{File, OpenOptions};
@@ -19,32 +15,19 @@ const TOO_LONG: i32 = 36;
 
 const NO_TEXT: i32 = 84;
 
-// Puts a word of the command line at a buffer's start and answers its length. Word 0 is the program's own name.
-pub fn word(rt: &impl Env, i: usize, buffer: &mut [u8]) -> Result<usize>
-    ensures { IfOk result (λ n. n ≤ length buffer.new) }
-{
-    match rt.arg(i, buffer) {
-        Ok(length) => Ok(length),
-        Err(FillError::NotPresent) => Err(Error::from_raw_os_error(ABSENT)),
-        Err(FillError::TooLong) => Err(Error::from_raw_os_error(TOO_LONG)),
-    }
-}
-
-// The same, and 0 for a word that is not there or longer than the buffer.
-pub fn word_or_none(rt: &impl Env, i: usize, buffer: &mut [u8]) -> usize
-    ensures { result ≤ length buffer.new }
-{
-    match word(rt, i, buffer) {
-        Ok(length) => length,
-        Err(_) => 0,
-    }
+// Puts a word of the command line into a buffer and answers it. Word 0 is the program's own name.
+pub fn word<'a>(rt: &impl Env, i: usize, buffer: &'a mut [u8]) -> Result<&'a [u8]> {
+    let length = rt.arg(i, buffer).map_err(|why| match why {
+        FillError::NotPresent => Error::from_raw_os_error(ABSENT),
+        FillError::TooLong => Error::from_raw_os_error(TOO_LONG),
+    })?;
+    Ok(&buffer[..length])
 }
 
 // How many words the command line has, the program's own name among them.
 pub fn count_words(rt: &impl Env) -> usize {
-    let mut none = [0u8; 1];
     for i in 0..usize::MAX {
-        if let Err(FillError::NotPresent) = rt.arg(i, &mut none) {
+        if let Err(FillError::NotPresent) = rt.arg(i, &mut [0]) {
             return i;
         }
     }
@@ -53,10 +36,7 @@ pub fn count_words(rt: &impl Env) -> usize {
 
 // The system's names are bytes, and those of the language are text.
 fn text_of(path: &[u8]) -> Result<&str> {
-    match str::from_utf8(path) {
-        Ok(text) => Ok(text),
-        Err(_) => Err(Error::from_raw_os_error(NO_TEXT)),
-    }
+    str::from_utf8(path).map_err(|_| Error::from_raw_os_error(NO_TEXT))
 }
 
 pub fn open_read(rt: &HostRuntime, path: &[u8]) -> Result<File> {
@@ -106,14 +86,10 @@ pub fn tell(rt: &HostRuntime, what: &[u8], why: Error) {
     say(rt, b"\n");
 }
 
-// The words of an error without its number.
+// The words of an error without the number that follows them in parentheses. A zero byte ends them too.
 fn reason_of(text: &[u8]) -> &[u8] {
-    let end = words::until(text, 0, 0);
-    let number = words::until(text, 0, b'(');
-    if number < end {
-        return part(text, 0, less(number, 1));
-    }
-    part(text, 0, end)
+    let mut parts = text.split(|b| matches!(*b, 0 | b'('));
+    parts.next().unwrap_or_default().trim_ascii_end()
 }
 
 // Whether standard error is a terminal.

@@ -1,7 +1,9 @@
 // A file of any length, read by windows: what is looked at lies whole in the window, or is too long for it.
-use crate::part::{less, sum};
+ghost use Rattle.std.specs.Prelude.{◌≤◌};
+ghost use Rattle.ulmarzhe_text.specs.declared.window.TheConstants.{WINDOW};
+
 use std::fs::File;
-use std::io::{Error, Read, Result};
+use std::io::{Error, Read};
 
 // The longest line of cases. The longest frame, 1,048,588 bytes, fits in four times.
 pub const WINDOW: usize = 4718592;
@@ -11,115 +13,119 @@ const AT_ONCE: usize = 262144;
 
 // What is looked at begins at `from` in the window. The window is filled up to `fill`, and its first byte is the file's byte at `base`.
 // `ended`: nothing is left to read; `failed`: why it could not be read.
-#[derive(Clone, Copy)]
+#[derive(Drop)]
 pub struct Reading<'a> {
-    pub file: &'a File,
-    pub base: u64,
-    pub from: usize,
-    pub fill: usize,
+    file: &'a File,
+    window: &'a mut [u8; WINDOW],
+    base: u64,
+    from: usize,
+    fill: usize,
     pub ended: bool,
     pub failed: Option<Error>,
+    ghost looks_inside: { from ≤ fill },
+    ghost fits: { fill ≤ WINDOW },
 }
 
-pub fn begin(file: &File, base: u64) -> Reading<'_> {
-    Reading {
-        file,
-        base,
-        from: 0,
-        fill: 0,
-        ended: false,
-        failed: None,
+impl<'a> Reading<'a> {
+    // A file that stands at its byte `base`.
+    pub fn new(file: &'a File, window: &'a mut [u8; WINDOW], base: u64) -> Self {
+        Reading::begin(file, window, base, 0)
     }
-}
 
-// The place in the file of what is looked at.
-pub fn place_of(r: Reading<'_>) -> u64 {
-    std::num::wrapping_add_u64(r.base, r.from as u64)
-}
+    // A file that stands at its start. The window's first `fill` bytes stay, and what is read lies behind them.
+    pub fn after(file: &'a File, window: &'a mut [u8; WINDOW], fill: usize) -> Self {
+        Reading::begin(file, window, 0, fill)
+    }
 
-// Reads more after the bytes that are looked at.
-pub fn read_more<'a>(r: Reading<'a>, window: &mut [u8; WINDOW]) -> Reading<'a> {
-    let mut r = make_room(r, window);
-    match read_at(r.file, window, r.fill) {
-        Ok(got) => {
-            r.fill = sum(r.fill, got);
-            r.ended = got == 0;
-            r.failed = None;
-        }
-        Err(why) => {
-            r.ended = true;
-            r.failed = Some(why);
+    fn begin(file: &'a File, window: &'a mut [u8; WINDOW], base: u64, fill: usize) -> Self {
+        Reading {
+            file,
+            window,
+            base,
+            from: 0,
+            fill: fill.min(WINDOW),
+            ended: false,
+            failed: None,
         }
     }
-    r
-}
 
-// Moves the bytes that are looked at to the window's start, unless they may stay.
-fn make_room<'a>(r: Reading<'a>, window: &mut [u8; WINDOW]) -> Reading<'a> {
-    if may_stay(r) {
-        return r;
+    // The bytes in the window.
+    pub fn bytes(&self) -> &[u8] {
+        &self.window[..self.fill]
     }
-    let fill = move_down(window, r.from, r.fill);
-    let mut moved = begin(r.file, place_of(r));
-    moved.fill = fill;
-    moved
-}
 
-// Few bytes are moved each time, so that what is read stays in the cache. Many are moved only where the window is full: a long run or a
-// long frame would else be moved at each read.
-fn may_stay(r: Reading<'_>) -> bool {
-    if r.from == 0 {
-        return true;
+    pub fn bytes_mut(&mut self) -> &mut [u8] {
+        let fill = self.fill;
+        let window = &mut *self.window;
+        &mut window[..fill]
     }
-    if less(r.fill, r.from) <= AT_ONCE {
-        return false;
-    }
-    AT_ONCE <= less(WINDOW, r.fill)
-}
 
-fn move_down(window: &mut [u8; WINDOW], from: usize, fill: usize) -> usize {
-    let mut i = 0;
-    let mut next = from;
-    while next < fill {
-        if WINDOW <= next {
-            return i;
+    // Where in the window what is looked at begins.
+    pub fn start(&self) -> usize {
+        self.from
+    }
+
+    // The place in the file of what is looked at.
+    pub fn place(&self) -> u64 {
+        self.base.wrapping_add(self.from as u64)
+    }
+
+    // Looks at another place of the window, or at the end of what it holds.
+    pub fn look_at(&mut self, from: usize) {
+        self.from = from.min(self.fill);
+    }
+
+    // Whether the window can hold no more of what is looked at.
+    pub fn is_full(&self) -> bool {
+        self.from == 0 && self.fill == WINDOW
+    }
+
+    // Reads more after the bytes that are looked at.
+    pub fn read_more(&mut self) {
+        self.make_room();
+        let fill = self.fill;
+        let end = WINDOW.min(fill + AT_ONCE);
+        let mut file = self.file;
+        let window = &mut *self.window;
+        match file.read(&mut window[fill..end]) {
+            Ok(got) => {
+                self.fill += got;
+                self.ended = got == 0;
+                self.failed = None;
+            }
+            Err(why) => {
+                self.ended = true;
+                self.failed = Some(why);
+            }
         }
-        window[i] = window[next];
-        i += 1;
-        next += 1;
     }
-    i
-}
 
-fn read_at(file: &File, window: &mut [u8], at: usize) -> Result<usize> {
-    if window.len() < at {
-        return Ok(0);
-    }
-    let mut file = file;
-    if AT_ONCE < window.len() - at {
-        let end = at + AT_ONCE;
-        return file.read(&mut window[at..end]);
-    }
-    file.read(&mut window[at..])
-}
-
-// Looks at another place of the window.
-pub fn look_at(r: Reading<'_>, from: usize) -> Reading<'_> {
-    let mut r = r;
-    r.from = from;
-    r
-}
-
-// Reads a file to its end, or as far as the window holds it.
-pub fn read_all<'a>(r: Reading<'a>, window: &mut [u8; WINDOW]) -> Reading<'a> {
-    let mut r = r;
-    let mut turns = u64::MAX;
-    while 0 < turns {
-        r = read_more(r, window);
-        if r.ended {
-            return r;
+    // Moves the bytes that are looked at to the window's start, unless they may stay.
+    fn make_room(&mut self) {
+        if self.may_stay() {
+            return;
         }
-        turns -= 1;
+        let held = self.from..self.fill;
+        let window = &mut *self.window;
+        window.copy_within(held, 0);
+        self.base = self.place();
+        self.fill -= self.from;
+        self.from = 0;
     }
-    r
+
+    // Few bytes are moved each time, so that what is read stays in the cache. Many are moved only where the window is full: a long run or
+    // a long frame would else be moved at each read.
+    fn may_stay(&self) -> bool {
+        self.from == 0 || AT_ONCE < self.fill - self.from && AT_ONCE <= WINDOW - self.fill
+    }
+
+    // Reads a file to its end, or as far as the window holds it.
+    pub fn read_all(&mut self) {
+        for _ in 0..u64::MAX {
+            self.read_more();
+            if self.ended {
+                return;
+            }
+        }
+    }
 }
