@@ -6,5 +6,8 @@ use Rattle.wire.specs.declared.refusal.Refusal.{Refusal}
 use Rattle.compare_spec.specs.Comparing.{Comparison}
 use Rattle.compare.specs.declared.Comparison.{Comparison as Compared}
 
+abbrev pub compared_as : Compared → Comparison
+compared_as c = record { old_elevations = c.old_elevations; new_elevations = c.new_elevations; differences = c.differences }
+
 abbrev pub tell_compare : Result Compared Refusal → Answer Comparison
-tell_compare = tell (λ c. record { old_elevations = c.old_elevations; new_elevations = c.new_elevations; differences = c.differences })
+tell_compare = tell compared_as

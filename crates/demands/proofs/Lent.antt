@@ -67,7 +67,9 @@ pub compare_kept : (old new out : List ℕ)
     → KeptLent (Promise tell_compare (comparison_of old new out)) tell_compare (comparison_checks old new (length out))
     (comparison_of old new out) out
 compare_kept old new out =
-    all_kept compared_as (λ c. record { old_elevations = c.old_elevations; new_elevations = c.new_elevations; differences = c.differences }) (λ v. refl) (λ x. refl) (map_checks old ++ map_checks new) (comparison (map_in old) (map_in new))
+    all_kept compared_as
+    (λ c. record { old_elevations = c.old_elevations; new_elevations = c.new_elevations; differences = c.differences }) (λ v. refl) (λ x. refl)
+    (map_checks old ++ map_checks new) (comparison (map_in old) (map_in new))
     (halfwords (differences (map_in old) (map_in new))) out (inside_join (map_checks old) (map_checks new) (map_inside old) (map_inside new))
 
 pub set_kept : (frames out : List ℕ) → KeptLent (Promise tell_set (set_of frames out)) tell_set (set_checks frames (length out))
