@@ -21,7 +21,7 @@ use Rattle.censor.specs.Censor.{censor_form, censor_of}
 use Rattle.censor.specs.Told.{shown as zones_shown, censor_shown}
 use Rattle.map_spec.specs.Map.{code_at}
 use Rattle.map_spec.specs.Reading.{segments_in, map_checks, map_in, summary, asked_checks, summary_of, code_of}
-use Rattle.map.specs.Told.{tell_map, tell_code}
+use Rattle.map.specs.Told.{summarised}
 use Rattle.demands.specs.Notions.{ByChecks}
 use Rattle.demands.specs.Orders.{stream_checks, moment_checks, coded_checks, gate_checks}
 use Rattle.demands.specs.Demand1.{Demand1}
@@ -98,7 +98,8 @@ demand1 = record {
   censor = λ κs body s. kept-value (body_checks censor_form body.now) (censor_shown (censor_of body.now))
       (by_shown zones_shown (body_checks censor_form body.now) (censor_of body.now) (by_censor body.now));
   write_censor = λ κs list out list'. censor_kept list.now out.now;
-  map = λ κs body s. kept tell_map show_map map_back map_apart (map_checks body.now) (summary_of body.now) (by_map body.now);
+  map = λ κs body s. kept summarised (λ s. record { date = s.date; minutes = s.minutes; elevations = s.elevations }) (λ v. refl) (λ x. refl)
+      (map_checks body.now) (summary_of body.now) (by_map body.now);
   map_code = λ κs body elevation azimuth kilometre s.
       kept-value (map_checks body.now ++ asked_checks (segments_in body.now) elevation
       azimuth kilometre)

@@ -10,7 +10,8 @@ use Rattle.radial_spec.specs.Description.{constants, Moment, Description, block_
 use Rattle.radial_spec.specs.Refusal.{radial_of}
 use Rattle.radial_spec.specs.Lookups.{Asked, no_such, lies, blocks, constant_lying, moment_lying, block_of}
 use Rattle.radial_spec.proofs.Accepted.{with_blocks}
-use Rattle.radial.specs.Told.{head_of, shown}
+use Rattle.std.specs.Prelude.{Ok}
+use Rattle.radial.specs.Told.{radial_told, head_of, shown}
 use Rattle.radial.specs.Theorems.{moment_from, block_from, handed}
 use Rattle.radial.proofs.HandedLaws.{heads-taken, handed_is}
 use Rattle.c_radial.specs.declared.UlmBlock.{UlmBlock}
@@ -53,17 +54,15 @@ faces_handed b d e =
     (constant_lying RRAD d.radial_block) ∷ [] in
     let count : block_count d - k ≡ length d.moments = omega arith in
     let moments : moments_from_c b (asked before d.moments) 4 (block_count d - k)
-    ≡ map (moment_from b) (take (block_count d - k) (shown (given d)).moments) =
+    ≡ map (moment_from b) (take (block_count d - k) (radial_told d).moments) =
     ap (λ (n : ℕ). moments_from_c b (asked before d.moments) 4 n) count ∙ run b before d.moments
     ∙ sym (ap (map (moment_from b)) (heads-taken d))
     in
-    let whole : handed (shown (given d)) b ≡ given d =
-    ap (λ (a : Answer Description). handed (shown a) b) (sym e) ∙ handed_is b (shown (radial_of b)) refl ∙ e
-    in
+    let whole : handed (Ok (radial_told d)) b ≡ given d = handed_is b (Ok (radial_told d)) (ap shown (sym e)) ∙ e in
     ap (λ (a : Answer Description). from_c (radial_face a)
     (λ n. block_face (onward a (λ x. given (get_or (no_such ∷ map lies (blocks x)) n no_such)))) b) e
-    ∙ ap (with_blocks d (block_from b (shown (given d)).volume) (block_from b (shown (given d)).elevation)
-    (block_from b (shown (given d)).radial)) moments
+    ∙ ap (with_blocks d (block_from b (radial_told d).volume) (block_from b (radial_told d).elevation)
+    (block_from b (radial_told d).radial)) moments
     ∙ cc whole
 
 -- structs that are the faces, one by one

@@ -11,11 +11,13 @@ use denote.Ref.{Bor}
 use borrow.Author.Tests.{ltb-true, ltb-false}
 use Rattle.wire.specs.Numbers.{num, Octets}
 use Rattle.wire.specs.Answers.{Answer, refused, given}
+use Rattle.wire.specs.Checks.{pick}
+use Rattle.header_rule.specs.Rules.{not_permitted}
 use Rattle.wire.proofs.NumberLaws.{num-fits}
 use Rattle.header.specs.declared.Header.{Header}
 use Rattle.std.specs.Prelude.{Result, Ok, Err}
 use Rattle.wire.specs.declared.refusal.Refusal.{Refusal}
-use Rattle.wire.specs.declared.refusal.Refusal.TheVariants.{Size, DateOrTime}
+use Rattle.wire.specs.declared.refusal.Refusal.TheVariants.{Size, DateOrTime, «Type», Segment}
 use Rattle.header.specs.Header.{header_in, header_of}
 use Rattle.header.specs.Told.{tell_header}
 use Rattle.header_form.specs.Theorems.{Long, LengthHolds, TimeHolds, CountsAsOne}
@@ -104,13 +106,19 @@ beyond body body' d o long e same = demand3.unnamed body body' d (record { octet
         go true q = same i (ltb-true i most_said q)
         go false q = absurd (never_named body.now d i o e (ltb-false i most_said q) n)
 
+-- 6 and 7 as refusals
+type_or_segment : (b : Bool) → refused {A = Header} (pick b 6 7) ≡ tell_header (Err (pick b «Type» Segment))
+type_or_segment true = refl
+type_or_segment false = refl
+
 pub long-radial : LongRadial
 long-radial = record {
   accepted = λ κs message r s l e. accepted message.now l r e;
   counts = λ κs message h s l e. counts message.now l h (sym e);
   wrong_length = λ κs message r s l wrong e. header_apart r (Err Size) (e ∙ (long_exactly message.now l).wrong_length wrong);
   wrong_time = λ κs message r s l h wrong e. header_apart r (Err DateOrTime) (e ∙ (long_exactly message.now l).wrong_time h wrong);
-  other = λ κs message r s long mark type e. header_apart r (Err _) (e ∙ marked_other message.now long mark type);
+  other = λ κs message r s long mark type e. header_apart r (Err _)
+      (e ∙ marked_other message.now long mark type ∙ type_or_segment (not_permitted (num 1 message.now 3)));
   fixed = λ κs κs' message message' h r' s s' place o o' l low high but differ e e'.
       header_apart r' (Err Size) (e' ∙ no_freedom message.now message'.now h place o o' l (sym e) low high but differ);
   size = λ κs message h s e. (size_is_true message.now h (sym e), by_size message.now h (sym e));

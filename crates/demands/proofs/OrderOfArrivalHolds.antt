@@ -19,7 +19,12 @@ use Rattle.set_spec.proofs.Accepted.{answering}
 use Rattle.set_order.specs.Theorems.{Rearranged, AfterAll, Same}
 use Rattle.set_order.proofs.AnyOrder.{two_lines, one_list, any_order, one-frame, other_numbers, stays}
 use Rattle.set_order.proofs.Exempt.{any_two_differ}
-use Rattle.set.specs.Told.{tell_set}
+use Rattle.std.specs.Prelude.{Result, Ok, Err}
+use Rattle.wire.specs.declared.refusal.Refusal.{Refusal}
+use Rattle.wire.proofs.RefusalLaws.{refusals, refusal_of, number_there}
+use Rattle.wire.specs.Refusals.{number}
+use Rattle.set.specs.declared.Set.{Set}
+use Rattle.set.specs.Told.{set_says, tell_set}
 use Rattle.set.proofs.Welds.{set_apart}
 use Rattle.c_set.specs.declared.UlmSet.{UlmSet}
 use Rattle.c_set.specs.Face.{set_face}

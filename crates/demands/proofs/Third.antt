@@ -16,10 +16,12 @@ use Rattle.radial_spec.proofs.Naming.{named_exactly, unnamed_places, unnamed, ga
 use Rattle.radial_spec.proofs.Finding.{found_by_name, none_named}
 use Rattle.radial_heading.specs.Told.{heading_shown}
 use Rattle.std.specs.Prelude.{Ok}
+use Rattle.wire.proofs.RefusalLaws.{number_in-apart}
 use Rattle.radial.specs.declared.Lying.{Lying}
 use Rattle.radial.specs.Told.{Told, shown, head_of, head_shown, code_shown, head_if_any, block_shown}
 use Rattle.radial.proofs.HandedLaws.{handed_exactly}
-use Rattle.radial.proofs.Welds.{moment_apart, block_apart, code_apart}
+use Rattle.radial.proofs.Welds.{radial_apart, moment_apart, block_apart, code_apart}
+use Rattle.radial_heading.proofs.Welds.{heading_apart}
 use Rattle.radial_gates.specs.Told.{count_of, part_of, LiesAt}
 use Rattle.gate_value.proofs.Welds.{gate_apart}
 use Rattle.gate_value.proofs.GateLaws.{gate_unnamed}

@@ -6,7 +6,7 @@ use mathlib.Core.List.{List, [], ◌∷◌, ◌++◌, map}
 use lib.ListN.{length, length-map}
 use borrow.Author.Tests.{ltb-false}
 use Rattle.wire.specs.Numbers.{Octets}
-use Rattle.wire.specs.Answers.{given, Outcome, Promise}
+use Rattle.wire.specs.Answers.{refused, given, Outcome, Promise, refusal}
 use Rattle.wire.specs.Writing.{filled, room_check}
 use Rattle.wire.proofs.CheckLaws.{all_hold_append}
 use Rattle.map_spec.specs.Map.{Zone, FilterMap}
@@ -17,6 +17,10 @@ use Rattle.compare_spec.specs.Comparing.{Comparison, halfwords, most_halfwords, 
 use Rattle.compare_spec.proofs.Most.{halfwords-length}
 use Rattle.compare_spec.proofs.InTurn.{map-given, answered, both_good}
 use Rattle.compare_spec.proofs.Theorems.{compared_exactly, swapped, room_for_all, refused-in_order, itself_answered}
+use Rattle.std.specs.Prelude.{Result, Ok, Err}
+use Rattle.wire.specs.declared.refusal.Refusal.{Refusal}
+use Rattle.wire.proofs.RefusalLaws.{refusals, refusal_of, number_there}
+use Rattle.compare.specs.declared.Comparison.{Comparison as MapComparison}
 use Rattle.compare.specs.Told.{tell_compare}
 use Rattle.compare.proofs.Welds.{compare_apart}
 use Rattle.c_lent.specs.Face.{Leaves}

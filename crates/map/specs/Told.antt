@@ -6,8 +6,11 @@ use Rattle.wire.specs.declared.refusal.Refusal.{Refusal}
 use Rattle.map_spec.specs.Reading.{Summary}
 use Rattle.map.specs.declared.MapSummary.{MapSummary}
 
+abbrev pub summarised : MapSummary → Summary
+summarised s = record { date = s.date; minutes = s.minutes; elevations = s.elevations }
+
 abbrev pub tell_map : Result MapSummary Refusal → Answer Summary
-tell_map = tell (λ s. record { date = s.date; minutes = s.minutes; elevations = s.elevations })
+tell_map = tell summarised
 
 abbrev pub tell_code : Result ℕ Refusal → Answer ℕ
 tell_code = tell (λ code. code)
