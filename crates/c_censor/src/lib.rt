@@ -19,12 +19,20 @@ pub struct UlmCensor {
 pub fn censor(body: &[u8]) -> UlmCensor
     ensures { result ≡ censor_face (censor_of body.now) }
 {
-    let read = censor::read_censor(body);
-    let regions = read.regions;
-    UlmCensor {
-        refusal: read.number as u32,
-        count: read.count as u32,
-        regions,
+    match censor::read_censor(body) {
+        Ok(read) => {
+            let regions = read.regions;
+            UlmCensor {
+                refusal: 0,
+                count: read.count as u32,
+                regions,
+            }
+        }
+        Err(refusal) => UlmCensor {
+            refusal: refusal.number() as u32,
+            count: 0,
+            regions: [0; 150],
+        },
     }
 }
 

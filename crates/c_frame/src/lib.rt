@@ -3,12 +3,13 @@
 
 ghost use Rattle.std.specs.Prelude.{◌≡◌};
 ghost use Rattle.wire.specs.Answers.{refused, given};
+ghost use Rattle.wire.specs.Refusals.{number};
 ghost use Rattle.frame.specs.Session.{frame_at};
 ghost use Rattle.header.specs.Header.{header_of};
 ghost use Rattle.c_frame.specs.Face.{no_frame, frame_face, header_shown, header_face};
 
-use frame::FrameAnswer;
-use header::{Header, HeaderAnswer};
+use header::Header;
+use wire::refusal::Refusal;
 
 #[repr(C)]
 #[derive(Clone, Copy)]
@@ -40,7 +41,7 @@ pub fn frame(buf: &[u8], place: usize) -> UlmFrame
     ensures { result ≡ frame_face place (frame_at buf.now place) }
 {
     match frame::frame_at(buf, place) {
-        FrameAnswer::Read(f) => UlmFrame {
+        Ok(Some(f)) => UlmFrame {
             refusal: 0,
             found: 1,
             kind: f.kind,
@@ -49,8 +50,8 @@ pub fn frame(buf: &[u8], place: usize) -> UlmFrame
             size: f.size.0 as u64,
             next: f.next as u64,
         },
-        FrameAnswer::End => no_frame(0, place),
-        FrameAnswer::Refused(number) => no_frame(number, place),
+        Ok(None) => no_frame(0, place),
+        Err(refusal) => no_frame(refusal.number(), place),
     }
 }
 
@@ -73,8 +74,8 @@ pub fn header(message: &[u8]) -> UlmHeader
     ensures { result ≡ header_face (header_of message.now) }
 {
     match header::read_either(message) {
-        HeaderAnswer::Read(h) => header_face(h),
-        HeaderAnswer::Refused(number) => no_header(number),
+        Ok(h) => header_face(h),
+        Err(refusal) => no_header(refusal),
     }
 }
 
@@ -84,10 +85,10 @@ pub fn header_face(h: Header) -> UlmHeader
     show_header(0, h)
 }
 
-pub fn no_header(number: u8) -> UlmHeader
-    ensures { result ≡ header_face (refused number) }
+pub fn no_header(refusal: Refusal) -> UlmHeader
+    ensures { result ≡ header_face (refused (number refusal)) }
 {
-    show_header(number, header::no_header())
+    show_header(refusal.number(), header::no_header())
 }
 
 fn show_header(number: u8, h: Header) -> UlmHeader

@@ -83,7 +83,7 @@ fn four(name: u32) -> [u8; 4]
     ensures { result ≡ be 4 name }
 {
     let mut bytes = [0u8; 4];
-    wire::store32(&mut bytes, 0, name);
+    wire::store::<u32>(&mut bytes, 0, name);
     bytes
 }
 

@@ -5,7 +5,8 @@ ghost use Rattle.std.specs.Prelude.{◌≡◌};
 ghost use Rattle.wire.specs.Writing.{tell_write};
 ghost use Rattle.c_lent.specs.Face.{written_face};
 
-use wire::WriteAnswer;
+use wire::Bytes;
+use wire::refusal::Refusal;
 
 #[repr(C)]
 #[derive(Clone, Copy)]
@@ -14,16 +15,16 @@ pub struct UlmWritten {
     pub length: u64,
 }
 
-pub fn written_face(answer: WriteAnswer) -> UlmWritten
+pub fn written_face(answer: Result<Bytes, Refusal>) -> UlmWritten
     ensures { result ≡ written_face (tell_write answer) }
 {
     match answer {
-        WriteAnswer::Written(long) => UlmWritten {
+        Ok(size) => UlmWritten {
             refusal: 0,
-            length: long.0 as u64,
+            length: size.0 as u64,
         },
-        WriteAnswer::Refused(number) => UlmWritten {
-            refusal: number as u32,
+        Err(refusal) => UlmWritten {
+            refusal: refusal.number() as u32,
             length: 0,
         },
     }

@@ -7,7 +7,6 @@ ghost use Rattle.c_lent.specs.Face.{Leaves, written_face};
 ghost use Rattle.c_request.specs.Face.{request_face};
 
 use c_lent::UlmWritten;
-use request::RequestAnswer;
 
 #[repr(C)]
 #[derive(Clone, Copy)]
@@ -20,17 +19,14 @@ pub fn request(body: &[u8]) -> UlmRequest
     ensures { result ≡ request_face (request_of body.now) }
 {
     match request::read_request(body) {
-        RequestAnswer::Code(code) => request_with(0, code),
-        RequestAnswer::Refused(number) => request_with(number, 0),
-    }
-}
-
-fn request_with(refusal: u8, code: u16) -> UlmRequest
-    ensures { result ≡ record { refusal = refusal; code = code } }
-{
-    UlmRequest {
-        refusal: refusal as u32,
-        code: code as u32,
+        Ok(code) => UlmRequest {
+            refusal: 0,
+            code: code as u32,
+        },
+        Err(refusal) => UlmRequest {
+            refusal: refusal.number() as u32,
+            code: 0,
+        },
     }
 }
 

@@ -1,23 +1,21 @@
 -- What each way through the reader and the writer comes to. Assumes nothing.
-use Prim.Native.Nat.{ℕ, suc, ◌+◌, ◌*◌, ◌-◌, ◌≤◌, ◌<◌}
+use Prim.Native.Nat.{ℕ, suc, ◌+◌, ◌*◌, ◌≤◌, ◌<◌}
 use native.Mathlib.Omega.{arith}
 use mathlib.Core.Path.{◌≡◌, refl, sym, ap, ◌∙◌}
 use mathlib.Core.Bool.{Bool, true, false, not}
-use mathlib.Core.List.{List, [], ◌∷◌, ◌++◌, append-nil}
+use mathlib.Core.List.{List, [], ◌∷◌, append-nil}
 use borrow.Author.Tests.{eq-eqb, ne_eqb, lt-ltb, le-ltb, ltb-false}
 use lib.Dec.{eqb, ltb}
-use lib.ListN.{length, replicate}
+use lib.ListN.{length}
 use Rattle.wire.specs.Numbers.{num, nums}
-use Rattle.wire.specs.Checks.{pick, either, Check, decide, some_broken}
+use Rattle.wire.specs.Checks.{pick, either, Check, decide}
 use Rattle.wire.specs.Answers.{refused, given, refusal}
 use Rattle.wire.specs.Writing.{filled, wrote, room_check}
 use Rattle.wire.specs.Sizes.{bytes}
 use Rattle.wire.specs.Tables.{render, run}
 use Rattle.form_spec.specs.Forms.{outside, times, long, numbers_at, rows_of, numbers_in, body_checks}
-use Rattle.wire.proofs.NumberLaws.{nums-length}
-use Rattle.form_spec.proofs.FormLaws.{outside_from, times_long, times-count, fields_alone, AllWide, times-wide, numbers-wide, table-wide, form_decide}
+use Rattle.form_spec.proofs.FormLaws.{outside_from, times_long, times-count, AllWide, times-wide, numbers-wide, table-wide, form_decide}
 use Rattle.censor.specs.Censor.{most_regions, counts, region_fields, region, censor_form, count, fields, censor_of, body_of, censor_written}
-use Rattle.censor.specs.Told.{places, shown}
 use Rattle.censor.specs.Steps.{region_bytes, regions_broken}
 use Rattle.censor.proofs.Halfwords.{run_long}
 
@@ -65,13 +63,10 @@ all_ways body =
     (numbers_in censor_form body) [] refused
     (given (numbers_in censor_form body))
 
--- a body whose count is n, and the array that holds the fields of its regions
+-- a body whose count is n
 module _ (body : List ℕ) (n : ℕ) (e : num 2 body 0 ≡ n) where
   abbrev pub found : List ℕ
   found = nums 2 body 2 (region_fields * n)
-
-  abbrev pub held : List ℕ
-  held = found ++ replicate (places - region_fields * n) 0
 
   pub read_ways : censor_of body
       ≡ ways (ltb (length body) 2) (outside counts n) (not (eqb (length body) (2 + region_bytes * n))) (regions_broken n found) refused
@@ -92,19 +87,11 @@ module _ (body : List ℕ) (n : ℕ) (e : num 2 body 0 ≡ n) where
         let a : 2 ≤ length body = omega arith in
         read_ways ∙ simp (le-ltb (length body) 2 a, few n h, eq-eqb (length body) (2 + region_bytes * n) m)
 
-    -- the regions in the array are those of the body
-    padded : regions_broken n held ≡ regions_broken n found
-    padded =
-        let l : length (times n region) ≤ length found = omega (arith, nums-length 2 body 2 (region_fields * n), regions_count n) in
-        ap some_broken (fields_alone (times n region) found (replicate (places - region_fields * n) 0) l)
+    pub body-broken : regions_broken n found ≡ true → censor_of body ≡ refused 24
+    body-broken b = read-fields ∙ simp b
 
-    pub body-broken : regions_broken n held ≡ true → censor_of body ≡ refused 24
-    body-broken b = read-fields ∙ simp (sym padded ∙ b)
-
-    pub body-shown : regions_broken n held ≡ false → record { number = 0; count = n; regions = held } ≡ shown (censor_of body)
-    body-shown b =
-        let fine : censor_of body ≡ given (n ∷ found) = read-fields ∙ simp (sym padded ∙ b) in
-        rw (fine, nums-length 2 body 2 (region_fields * n)) refl
+    pub body-fine : regions_broken n found ≡ false → censor_of body ≡ given (n ∷ found)
+    body-fine b = read-fields ∙ simp b
 
 -- ---- the writer
 module _ (list out : List ℕ) where

@@ -9,12 +9,12 @@ use lib.Dec.{eqb, ltb}
 use lib.ListN.{length, replicate}
 use lib.Seq.{take_at}
 use Rattle.wire.specs.Numbers.{num, nums}
-use Rattle.wire.specs.Answers.{Answer, refused, given}
+use Rattle.wire.specs.Answers.{Answer, refused, given, onward}
 use Rattle.form_spec.specs.Forms.{outside, rows_of}
 use Rattle.wire.proofs.NumberLaws.{nums-length}
 use Rattle.form_spec.proofs.FormLaws.{table_fits, read_is_table, written_is_read as form_written, read_is_written as form-read}
 use Rattle.censor.specs.Censor.{counts, region_fields, censor_form, count, censor_of, censor_written}
-use Rattle.censor.specs.Told.{places, shown, tell_censor}
+use Rattle.censor.specs.Told.{places, censor_shown, list_of}
 use Rattle.censor.specs.Steps.{region_bytes, regions_broken}
 use Rattle.censor.specs.Theorems.{BodyIsTable, WrittenIsRead, ReadIsWritten, StructTells}
 use Rattle.censor.proofs.StepLaws.{ways, regions_wide, read_ways}
@@ -36,7 +36,7 @@ read_is_written body out list o e room = form-read censor_form (omega arith) bod
 
 -- ---- the struct
 ways_told : (n : ℕ) (l : List ℕ) → length l ≡ region_fields * n → (a h m b : Bool)
-    → tell_censor (shown (ways a h m b refused (given (n ∷ l)))) ≡ ways a h m b refused (given (n ∷ l))
+    → onward (censor_shown (ways a h m b refused (given (n ∷ l)))) (λ censor. given (list_of censor)) ≡ ways a h m b refused (given (n ∷ l))
 ways_told n l k true h m b = refl
 ways_told n l k false true m b = refl
 ways_told n l k false false true b = refl
@@ -49,7 +49,7 @@ struct_tells body =
     let n = num 2 body 0 in
     let l = nums 2 body 2 (region_fields * n) in
     let w = read_ways body n refl in
-    ap (λ (x : Answer (List ℕ)). tell_censor (shown x)) w
+    ap (λ (x : Answer (List ℕ)). onward (censor_shown x) (λ censor. given (list_of censor))) w
     ∙ ways_told n l (nums-length 2 body 2 (region_fields * n)) (ltb (length body) 2) (outside counts n)
     (not (eqb (length body) (2 + region_bytes * n))) (regions_broken n l)
     ∙ sym w

@@ -2,11 +2,11 @@
 -- struct that is handed back tells the answer.
 use Rattle.std.specs.Prelude.{ℕ, ◌≤◌, ◌<◌, ◌≡◌, List, length, get_or, take}
 use Rattle.wire.specs.Numbers.{Octets}
-use Rattle.wire.specs.Answers.{given}
+use Rattle.wire.specs.Answers.{given, onward}
 use Rattle.wire.specs.Writing.{wrote}
 use Rattle.wire.specs.declared.Bytes.{Bytes}
 use Rattle.censor.specs.Censor.{body_of, censor_of, censor_written}
-use Rattle.censor.specs.Told.{shown, tell_censor}
+use Rattle.censor.specs.Told.{censor_shown, list_of}
 
 -- every number of the list is a halfword
 abbrev pub Halfwords : List ℕ → Type 0
@@ -28,4 +28,4 @@ ReadIsWritten = (body out list : List ℕ) → Octets body → censor_of body �
 
 -- the struct holds the whole answer
 abbrev pub StructTells : Type 0
-StructTells = (body : List ℕ) → tell_censor (shown (censor_of body)) ≡ censor_of body
+StructTells = (body : List ℕ) → onward (censor_shown (censor_of body)) (λ censor. given (list_of censor)) ≡ censor_of body

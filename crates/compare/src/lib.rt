@@ -120,7 +120,7 @@ fn four_at(part: &[u8], at: usize) -> u32
     requires { at + zone_size ≤ length part.now }
     ensures { result ≡ num zone_size part.now at }
 {
-    wire::fetch32(&part[at..at + ZONE_SIZE], 0)
+    wire::fetch::<u32>(&part[at..at + ZONE_SIZE], 0)
 }
 
 // Compares the azimuth at the start of both parts. The zones of both are walked together, from one end to the next end of either.
@@ -169,7 +169,7 @@ fn compare_zones(
 fn size_of(part: &[u8]) -> usize
     ensures { result ≡ size_fetched part.now }
 {
-    FIELD_SIZE + ZONE_SIZE * wire::fetch16(part, 0) as usize
+    FIELD_SIZE + ZONE_SIZE * wire::fetch::<u16>(part, 0) as usize
 }
 
 fn shorter(old: &[u8], new: &[u8]) -> usize

@@ -1,3 +1,3 @@
--- What one turn of the loop copies, and what the loop comes to.
+-- What a copy leaves by the two lengths, and that the contract says it.
 pub mod CopyLaws
 pub mod Welds

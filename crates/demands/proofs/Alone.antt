@@ -8,9 +8,10 @@ use Rattle.wire.specs.Numbers.{num}
 use Rattle.wire.specs.Checks.{AllHold}
 use Rattle.wire.specs.Answers.{given, Outcome}
 use Rattle.frame.specs.Session.{head_size}
+use Rattle.std.specs.Prelude.{Result, Ok, Err}
+use Rattle.wire.specs.declared.refusal.Refusal.{Refusal}
+use Rattle.wire.specs.declared.refusal.Refusal.TheVariants.{Segment}
 use Rattle.header.specs.declared.Header.{Header}
-use Rattle.header.specs.declared.HeaderAnswer.{HeaderAnswer}
-use Rattle.header.specs.declared.HeaderAnswer.TheVariants.{Read, Refused}
 use Rattle.header.specs.Header.{stored_in, count_of, header_in, header_of}
 use Rattle.header.specs.Told.{tell_header}
 use Rattle.header.specs.Theorems.{Lone, number_place, ButTwoBytes}
@@ -46,11 +47,11 @@ others b h e n =
     sym (ap (λ (x : Header). x.number) q) ∙ number_other (count_of (stored_in b)) (stored_in b).number other
 
 -- ---- what is accepted
-accepted : (b : List ℕ) (r : HeaderAnswer) → Lone b → tell_header r ≡ header_of b
-    → (r ≡ Read (header_in b)) ↔ AllHold (lone_checks (stored_in b) (length b))
+accepted : (b : List ℕ) (r : Result Header Refusal) → Lone b → tell_header r ≡ header_of b
+    → (r ≡ Ok (header_in b)) ↔ AllHold (lone_checks (stored_in b) (length b))
 accepted b r lone e = (
   λ q. (lone_by_other_checks b lone).0 (sym e ∙ ap tell_header q),
-  λ h. header_apart r (Read (header_in b)) (e ∙ (lone_by_other_checks b lone).1 h),
+  λ h. header_apart r (Ok (header_in b)) (e ∙ (lone_by_other_checks b lone).1 h),
 )
 
 -- ---- two calls
@@ -67,7 +68,7 @@ lone = record {
   one = λ κs message h s l. one message.now h (sym l);
   others = λ κs message h s l. others message.now h (sym l);
   accepted = λ κs message r s a l. accepted message.now r a l;
-  outside = λ κs message r s short other h out l. header_apart r (Refused 7) (l ∙ number_outside message.now short other h out);
+  outside = λ κs message r s short other h out l. header_apart r (Err Segment) (l ∙ number_outside message.now short other h out);
   header = λ κs κs' message message' r r' s s' a but l l'.
       header_apart r r' (l ∙ lone_header message.now message'.now a but ∙ sym l');
   header_for_c = λ κs κs' message message' r r' s s' a but l l'. l ∙ ap header_face (lone_header message.now message'.now a but) ∙ sym l';

@@ -7,11 +7,15 @@ use mathlib.Core.Logic.{◌⊎◌, inl, inr, ⊎_elim}
 use mathlib.Core.List.{List, [], ◌∷◌, ◌++◌, append_assoc}
 use lib.ListN.{length, drop}
 use Rattle.wire.specs.Checks.{among, Check, first, decide, AllHold, Blamed}
-use Rattle.wire.specs.Answers.{Answer, refused, given, onward, rule, Outcome, outcome, Promise}
+use Rattle.wire.specs.Answers.{Answer, refused, given, number_of, onward, rule, Outcome, outcome, Promise}
 use Rattle.wire.proofs.CheckLaws.{never, numbers_pass, pass-join, first_passes, passed, decide-none, decide-some, decide-map, all_hold, all_hold_join, blame}
+use Rattle.std.specs.Prelude.{Result, Ok, Err}
+use Rattle.wire.specs.declared.refusal.Refusal.{Refusal}
+use Rattle.wire.specs.Refusals.{tell, number_in}
+use Rattle.wire.proofs.RefusalLaws.{refusals, refusal_of, number_there, tell_apart, number_in-apart}
 use Rattle.wire.proofs.AnswerLaws.{rule_given, rule_refused, outcome_answer, outcome_refused, only, only_answer}
 use Rattle.frame.specs.Walk.{turns, walked, Checked, answers, in_order}
-use Rattle.demands.specs.Notions.{table, OfTheTable, ByChecks, Kept, KeptStruct, KeptLent}
+use Rattle.demands.specs.Notions.{table, OfTheTable, ByChecks, Kept, KeptNumber, KeptLent}
 
 -- ---- numbers of the table, by a test that is computed
 abbrev pub inside : List Check → Bool
@@ -116,36 +120,75 @@ by_shown f ks (refused n) h = record {
 }
 by_shown f ks (given v) h = record { numbered = λ k e. never (cc e); blamed = λ k e. never (cc e); passed = λ w e. h.passed v refl }
 
--- ---- entries: `show` makes an answer that tells what is right, and no two tell the same
-module _ {R A : Type 0} (tell : R → Answer A) (show : Answer A → R) (back : (a : Answer A) → tell (show a) ≡ a) (apart : (a b : R)
-    → tell a ≡ tell b → a ≡ b)
-  where
-    pub kept : (ks : List Check) (right : Answer A) → ByChecks ks right → Kept (λ (r : R). tell r ≡ right) tell ks right
-    kept ks right h = record {
-      one = record { the = show right; meets = back right; only = λ r e. only_answer tell apart right r (show right) e (back right) };
-      told = λ r e. e;
+-- ---- entries that return a result
+-- `f` reads the value of an Ok, and `g` makes it of what is read: so a result is made of each answer that tells it, and no two tell the same
+module _ {T A : Type 0} (f : T → A) (g : A → T) (reads : (v : A) → f (g v) ≡ v) (back : (x : T) → g (f x) ≡ x) where
+  abbrev show : Answer A → Result T Refusal
+  show (refused n) = Err (refusal_of n)
+  show (given v) = Ok (g v)
+
+  tells : (a : Answer A) → ((n : ℕ) → a ≡ refused n → OfTheTable n) → tell f (show a) ≡ a
+  tells (refused n) h = ap refused (number_there n refusals (h n refl))
+  tells (given v) h = ap given (reads v)
+
+  apart : (a b : Result T Refusal) → tell f a ≡ tell f b → a ≡ b
+  apart = tell_apart f (λ x y e. sym (back x) ∙ ap g e ∙ back y)
+
+  pub kept : (ks : List Check) (right : Answer A) → ByChecks ks right → Kept (λ r. tell f r ≡ right) (tell f) ks right
+  kept ks right h =
+      let e = tells right h.numbered in
+      record {
+        one = record { the = show right; meets = e; only = λ r q. only_answer (tell f) apart right r (show right) q e };
+        told = λ r q. q;
+        by_checks = h;
+      }
+
+  pub kept-lent : {O : Type 0} (ks : List Check) (right : Outcome O A) (out : O) → ByChecks ks right.answer
+      → ((n : ℕ) → right.answer ≡ refused n → right.output ≡ out) → KeptLent (Promise (tell f) right) (tell f) ks right out
+  kept-lent ks right out h u =
+      let meets : Promise (tell f) right (show right.answer) right.output
+      = record { answers = tells right.answer h.numbered; leaves = refl } in
+      record {
+        one = record {
+          the = (show right.answer, right.output);
+          meets = meets;
+          only = λ p e. let q = only (tell f) apart right p.0 (show right.answer) p.1 right.output e meets in
+              λ i. (q.0 i, q.1 i);
+        };
+        told = λ r after e. e;
+        by_checks = h;
+        untouched = λ r after n e q. e.leaves ∙ u n q;
+      }
+
+-- the same where an Ok holds what the rule gives
+module _ {A : Type 0} where
+  pub kept-value : (ks : List Check) (right : Answer A) → ByChecks ks right
+      → Kept (λ (r : Result A Refusal). tell (λ v. v) r ≡ right) (tell (λ v. v)) ks right
+  kept-value = kept (λ v. v) (λ v. v) (λ v. refl) (λ v. refl)
+
+  pub kept-lent-value : {O : Type 0} (ks : List Check) (right : Outcome O A) (out : O) → ByChecks ks right.answer
+      → ((n : ℕ) → right.answer ≡ refused n → right.output ≡ out)
+      → KeptLent (Promise (tell (λ (v : A). v)) right) (tell (λ v. v)) ks right out
+  kept-lent-value = kept-lent (λ v. v) (λ v. v) (λ v. refl) (λ v. refl)
+
+-- an entry that returns nothing but whether it refuses
+pub kept_number : {A : Type 0} (ks : List Check) (right : Answer A) → ByChecks ks right
+    → KeptNumber (λ (r : Result (Unit {0}) Refusal). number_in r ≡ number_of right) ks right
+kept_number {A} ks right h =
+    let e = numbered right h.numbered in
+    record {
+      one = record { the = only_number right; meets = e; only = λ r q. number_in-apart r (only_number right) (q ∙ sym e) };
+      told = λ r q. q;
       by_checks = h;
     }
+  where
+    only_number : Answer A → Result (Unit {0}) Refusal
+    only_number (refused n) = Err (refusal_of n)
+    only_number (given v) = Ok tt
 
-    pub kept-lent : {O : Type 0} (ks : List Check) (right : Outcome O A) (out : O) → ByChecks ks right.answer
-        → ((n : ℕ) → right.answer ≡ refused n → right.output ≡ out) → KeptLent (Promise tell right) tell ks right out
-    kept-lent ks right out h u =
-        let meets : Promise tell right (show right.answer) right.output = record { answers = back right.answer; leaves = refl } in
-        record {
-          one = record {
-            the = (show right.answer, right.output);
-            meets = meets;
-            only = λ p e. let q = only tell apart right p.0 (show right.answer) p.1 right.output e meets in
-                λ i. (q.0 i, q.1 i);
-          };
-          told = λ r after e. e;
-          by_checks = h;
-          untouched = λ r after n e q. e.leaves ∙ u n q;
-        }
-
-pub kept_struct : {R A : Type 0} (show : Answer A → R) (ks : List Check) (right : Answer A) → ByChecks ks right
-    → KeptStruct (λ (r : R). r ≡ show right) show ks right
-kept_struct show ks right h = record { one = record { the = show right; meets = refl; only = λ r e. e }; shown = λ r e. e; by_checks = h }
+    numbered : (a : Answer A) → ((n : ℕ) → a ≡ refused n → OfTheTable n) → number_in (only_number a) ≡ number_of a
+    numbered (refused n) h = number_there n refusals (h n refl)
+    numbered (given v) h = refl
 
 -- an outcome by one list
 pub by_outcome : {O A : Type 0} (ks : List Check) (out : O) (v : A) (after : O) → inside ks ≡ true

@@ -5,41 +5,29 @@ use mathlib.Core.List.{List, ◌++◌}
 use lib.ListN.{drop}
 use Rattle.form_spec.specs.Forms.{numbers_in, body_checks}
 use Rattle.wire.specs.Numbers.{num}
-use Rattle.wire.specs.Answers.{number_of}
 use Rattle.frame.specs.Session.{frame_at}
-use Rattle.frame.specs.Told.{tell_frame}
-use Rattle.frame.proofs.Welds.{frame_apart}
+use Rattle.frame.specs.Told.{stream_says}
 use Rattle.header.specs.Header.{header_in, header_checks, header_of}
-use Rattle.header.specs.Told.{tell_header}
-use Rattle.header.proofs.Welds.{header_apart}
 use Rattle.set_spec.specs.Segment.{own_checks, placed_in, segment_at}
-use Rattle.set_segment.specs.Told.{tell_segment}
-use Rattle.set_segment.proofs.Welds.{segment_apart}
+use Rattle.set_segment.specs.Told.{placed}
 use Rattle.radial_spec.specs.Refusal.{radial_checks, radial_of}
 use Rattle.radial_spec.specs.Lookups.{moment_of, coded_of, block_of}
-use Rattle.radial_heading.specs.Told.{heading_shown}
-use Rattle.radial.specs.Told.{shown, tell_moment, head_shown, tell_coded, code_shown, tell_block, block_shown}
-use Rattle.radial.proofs.Welds.{moment_apart, code_apart, block_apart}
+use Rattle.radial_heading.specs.Told.{heading_of, heading_shown}
+use Rattle.radial.specs.Told.{radial_told, shown, head_shown, code_shown, if_any, block_shown}
 use Rattle.gate_value.specs.Value.{value_checks, value_of, gate_of}
-use Rattle.gate_value.specs.Told.{tell_gate}
-use Rattle.gate_value.proofs.Welds.{gate_apart}
+use Rattle.gate_value.specs.Told.{meaning}
 use Rattle.request.specs.Request.{request_form, request_of}
-use Rattle.request.specs.Told.{tell_request}
-use Rattle.request.proofs.Welds.{request_apart}
 use Rattle.censor.specs.Censor.{censor_form, censor_of}
-use Rattle.censor.specs.Told.{shown as zonesShown}
+use Rattle.censor.specs.Told.{shown as zones_shown, censor_shown}
 use Rattle.map_spec.specs.Map.{code_at}
 use Rattle.map_spec.specs.Reading.{segments_in, map_checks, map_in, summary, asked_checks, summary_of, code_of}
 use Rattle.map.specs.Told.{tell_map, tell_code}
-use Rattle.map.proofs.Welds.{map_apart, code_apart as map-code-apart}
 use Rattle.demands.specs.Notions.{ByChecks}
 use Rattle.demands.specs.Orders.{stream_checks, moment_checks, coded_checks, gate_checks}
 use Rattle.demands.specs.Demand1.{Demand1}
-use Rattle.demands.proofs.ByChecksLaws.{inside_join, by_rule, kept, kept_struct}
+use Rattle.demands.proofs.ByChecksLaws.{inside_join, by_rule, by_shown, kept, kept-value, kept_number}
 use Rattle.demands.proofs.Inside.{body_inside, map_inside, header_inside, own_inside}
-use Rattle.demands.proofs.Shows.{show_frame, frame_back, show_header, header_back, show_segment, segment_back, show_moment, moment_back}
-use Rattle.demands.proofs.Shows.{show_coded, coded_back, show_block, block_back, show_request, request_back, show_gate, gate_back}
-use Rattle.demands.proofs.Shows.{show_map, map_back, show_code, code_back}
+use Rattle.demands.proofs.Shows.{frame_said, frame_reads, frame_back, segment_said, block_said, block_reads, block_back, gate_said, gate_reads, gate_back}
 use Rattle.demands.proofs.Readers.{by_stream, by_radial, by_moment, by_coded, by_block, by_value, by_gate}
 use Rattle.demands.proofs.Parts.{kept_gates, kept_lent-gates}
 use Rattle.demands.proofs.Lent.{set_kept, write_kept, request_kept, censor_kept, compare_kept, salvage_kept}
@@ -72,44 +60,47 @@ by_censor b = by_rule (body_checks censor_form b) (numbers_in censor_form b) (bo
 pub demand1 : Demand1
 demand1 = record {
   frame = λ κs stream place s.
-      kept tell_frame show_frame frame_back frame_apart (stream_checks stream.now place) (frame_at stream.now place)
+      kept stream_says frame_said frame_reads frame_back (stream_checks stream.now place) (frame_at stream.now place)
       (by_stream stream.now place);
   header = λ κs message s.
-      kept tell_header show_header header_back header_apart (header_checks message.now) (header_of message.now) (by_header message.now);
+      kept-value (header_checks message.now) (header_of message.now) (by_header message.now);
   segment = λ κs frames at s.
-      kept tell_segment show_segment segment_back segment_apart (own_checks (drop at frames.now)) (segment_at frames.now at)
+      kept placed segment_said (λ p. refl) (λ s. refl) (own_checks (drop at frames.now)) (segment_at frames.now at)
       (by_segment frames.now at);
   set = λ κs frames out frames'. set_kept frames.now out.now;
   write = λ κs given body out given' body'. write_kept given body.now out.now;
-  check_radial = λ κs body s. kept_struct number_of (radial_checks body.now) (radial_of body.now) (by_radial body.now);
-  heading = λ κs body s. kept_struct heading_shown (radial_checks body.now) (radial_of body.now) (by_radial body.now);
-  radial = λ κs body s. kept_struct shown (radial_checks body.now) (radial_of body.now) (by_radial body.now);
+  check_radial = λ κs body s. kept_number (radial_checks body.now) (radial_of body.now) (by_radial body.now);
+  heading = λ κs body s. kept-value (radial_checks body.now) (heading_shown (radial_of body.now))
+      (by_shown heading_of (radial_checks body.now) (radial_of body.now) (by_radial body.now));
+  radial = λ κs body s. kept-value (radial_checks body.now) (shown (radial_of body.now))
+      (by_shown radial_told (radial_checks body.now) (radial_of body.now) (by_radial body.now));
   moment = λ κs body name s.
-      kept tell_moment show_moment moment_back moment_apart (moment_checks body.now (num 4 name 0))
+      kept-value (moment_checks body.now (num 4 name 0))
       (head_shown (moment_of body.now (num 4 name 0)))
       (by_moment body.now (num 4 name 0));
-  block = λ κs body k s. kept tell_block show_block block_back block_apart (radial_checks body.now)
+  block = λ κs body k s. kept if_any block_said block_reads block_back (radial_checks body.now)
       (block_shown (block_of body.now k)) (by_block body.now k);
   code = λ κs body name gate s.
-      kept tell_coded show_coded coded_back code_apart (coded_checks body.now (num 4 name 0) gate)
+      kept-value (coded_checks body.now (num 4 name 0) gate)
       (code_shown (coded_of body.now (num 4 name 0) gate))
       (by_coded body.now (num 4 name 0) gate);
   gates = λ κs body name s. kept_gates body (num 4 name 0);
   lent = kept_lent-gates;
   gate = λ κs body name gate s.
-      kept tell_gate show_gate gate_back gate_apart (gate_checks body.now (num 4 name 0) gate) (gate_of body.now (num 4 name 0) gate)
+      kept meaning gate_said gate_reads gate_back (gate_checks body.now (num 4 name 0) gate) (gate_of body.now (num 4 name 0) gate)
       (by_gate body.now (num 4 name 0) gate);
   value = λ κs code scale offset s.
-      kept tell_gate show_gate gate_back gate_apart (value_checks scale offset) (value_of code scale offset) (by_value code scale offset);
+      kept meaning gate_said gate_reads gate_back (value_checks scale offset) (value_of code scale offset) (by_value code scale offset);
   request = λ κs body s.
-      kept tell_request show_request request_back request_apart (body_checks request_form body.now) (request_of body.now)
+      kept-value (body_checks request_form body.now) (request_of body.now)
       (by_request body.now);
   write_request = λ κs list out list'. request_kept list.now out.now;
-  censor = λ κs body s. kept_struct zonesShown (body_checks censor_form body.now) (censor_of body.now) (by_censor body.now);
+  censor = λ κs body s. kept-value (body_checks censor_form body.now) (censor_shown (censor_of body.now))
+      (by_shown zones_shown (body_checks censor_form body.now) (censor_of body.now) (by_censor body.now));
   write_censor = λ κs list out list'. censor_kept list.now out.now;
   map = λ κs body s. kept tell_map show_map map_back map_apart (map_checks body.now) (summary_of body.now) (by_map body.now);
   map_code = λ κs body elevation azimuth kilometre s.
-      kept tell_code show_code code_back map-code-apart (map_checks body.now ++ asked_checks (segments_in body.now) elevation
+      kept-value (map_checks body.now ++ asked_checks (segments_in body.now) elevation
       azimuth kilometre)
       (code_of body.now elevation azimuth kilometre) (by_query body.now elevation azimuth kilometre);
   compare = λ κs old new out old' new'. compare_kept old.now new.now out.now;

@@ -13,8 +13,9 @@ use Rattle.wire.specs.Numbers.{num, Octets}
 use Rattle.wire.specs.Answers.{Answer, refused, given}
 use Rattle.wire.proofs.NumberLaws.{num-fits}
 use Rattle.header.specs.declared.Header.{Header}
-use Rattle.header.specs.declared.HeaderAnswer.{HeaderAnswer}
-use Rattle.header.specs.declared.HeaderAnswer.TheVariants.{Read, Refused}
+use Rattle.std.specs.Prelude.{Result, Ok, Err}
+use Rattle.wire.specs.declared.refusal.Refusal.{Refusal}
+use Rattle.wire.specs.declared.refusal.Refusal.TheVariants.{Size, DateOrTime}
 use Rattle.header.specs.Header.{header_in, header_of}
 use Rattle.header.specs.Told.{tell_header}
 use Rattle.header_form.specs.Theorems.{Long, LengthHolds, TimeHolds, CountsAsOne}
@@ -56,10 +57,10 @@ refused_c b r n e q = ap (λ (x : UlmHeader). x.refusal) (e ∙ ap header_face q
 
 -- ---- the header, by its answer
 module _ (b : List ℕ) (l : Long b) where
-  accepted : (r : HeaderAnswer) → tell_header r ≡ header_of b → (r ≡ Read (header_in b)) ↔ (LengthHolds b × TimeHolds b)
+  accepted : (r : Result Header Refusal) → tell_header r ≡ header_of b → (r ≡ Ok (header_in b)) ↔ (LengthHolds b × TimeHolds b)
   accepted r e = (
     λ q. (long_exactly b l).accepted.0 (sym e ∙ ap tell_header q),
-    λ h. header_apart r (Read (header_in b)) (e ∙ (long_exactly b l).accepted.1 h),
+    λ h. header_apart r (Ok (header_in b)) (e ∙ (long_exactly b l).accepted.1 h),
   )
 
   counts : (h : Header) → header_of b ≡ given h → CountsAsOne b h
@@ -107,11 +108,11 @@ pub long-radial : LongRadial
 long-radial = record {
   accepted = λ κs message r s l e. accepted message.now l r e;
   counts = λ κs message h s l e. counts message.now l h (sym e);
-  wrong_length = λ κs message r s l wrong e. header_apart r (Refused 5) (e ∙ (long_exactly message.now l).wrong_length wrong);
-  wrong_time = λ κs message r s l h wrong e. header_apart r (Refused 8) (e ∙ (long_exactly message.now l).wrong_time h wrong);
-  other = λ κs message r s long mark type e. header_apart r (Refused _) (e ∙ marked_other message.now long mark type);
+  wrong_length = λ κs message r s l wrong e. header_apart r (Err Size) (e ∙ (long_exactly message.now l).wrong_length wrong);
+  wrong_time = λ κs message r s l h wrong e. header_apart r (Err DateOrTime) (e ∙ (long_exactly message.now l).wrong_time h wrong);
+  other = λ κs message r s long mark type e. header_apart r (Err _) (e ∙ marked_other message.now long mark type);
   fixed = λ κs κs' message message' h r' s s' place o o' l low high but differ e e'.
-      header_apart r' (Refused 5) (e' ∙ no_freedom message.now message'.now h place o o' l (sym e) low high but differ);
+      header_apart r' (Err Size) (e' ∙ no_freedom message.now message'.now h place o o' l (sym e) low high but differ);
   size = λ κs message h s e. (size_is_true message.now h (sym e), by_size message.now h (sym e));
   accepted_for_c = λ κs message r s l e. accepted_for_c message.now l r e;
   counts_for_c = λ κs message r s l e z. counts_for_c message.now l r e z;

@@ -19,8 +19,6 @@ use Rattle.set_spec.proofs.Accepted.{answering}
 use Rattle.set_order.specs.Theorems.{Rearranged, AfterAll, Same}
 use Rattle.set_order.proofs.AnyOrder.{two_lines, one_list, any_order, one-frame, other_numbers, stays}
 use Rattle.set_order.proofs.Exempt.{any_two_differ}
-use Rattle.set.specs.declared.SetAnswer.{SetAnswer}
-use Rattle.set.specs.declared.SetAnswer.TheVariants.{Set, Refused}
 use Rattle.set.specs.Told.{tell_set}
 use Rattle.set.proofs.Welds.{set_apart}
 use Rattle.c_set.specs.declared.UlmSet.{UlmSet}
@@ -36,20 +34,36 @@ abbrev right : Call → Outcome (List ℕ) SetSays
 right c = set_of c.buf.now c.out.now
 
 -- ---- what comes of a call, by the rule's outcome; and back
-ends : (c : Call) (r : SetAnswer) (after : List ℕ) → right c ≡ record { answer = tell_set r; output = after } → Ends c r after
+ends : (c : Call) (r : Result Set Refusal) (after : List ℕ) → right c ≡ record { answer = tell_set r; output = after } → Ends c r after
 ends c r after e = comes tell_set set_apart set_face (right c) r after e
 
-back : (c : Call) (r : SetAnswer) (after : List ℕ) → Ends c r after → right c ≡ record { answer = tell_set r; output = after }
+back : (c : Call) (r : Result Set Refusal) (after : List ℕ) → Ends c r after → right c ≡ record { answer = tell_set r; output = after }
 back c r after m = λ i. record { answer = sym m.met.answers i; output = sym m.met.leaves i }
 
 takes : (c : Call) (s : SetSays) → (right c).answer ≡ given s → (body : List ℕ) × Accepts c s.header body
 takes c s e =
     let a = answering c.buf.now c.out.now s e in
-    (a.body, ends c (Set s.header (bytes (length a.body))) (filled a.body c.out.now) a.is)
+    (a.body, ends c (Ok (record { header = s.header; length = bytes (length a.body) })) (filled a.body c.out.now) a.is)
 
+-- a call that the rule refuses, and back
 refuses : (c : Call) (n : ℕ) → (right c).answer ≡ refused n → Refuses c n
-refuses c n e = ends c (Refused n) c.out.now
-    (λ i. record { answer = e i; output = set_untouched c.buf.now c.out.now n e i })
+refuses c n e =
+    let numbered = number_there n refusals ((set_kept c.buf.now c.out.now).by_checks.numbered n e) in
+    record {
+      refusal = refusal_of n;
+      numbered = numbered;
+      is = ends c (Err (refusal_of n)) c.out.now
+          (λ i. record { answer = (e ∙ ap refused (sym numbered)) i; output = set_untouched c.buf.now c.out.now n e i });
+    }
+
+refused-so : (c : Call) (n : ℕ) → Refuses c n → right c ≡ refusal c.out.now n
+refused-so c n a = back c (Err a.refusal) c.out.now a.is ∙ ap (refusal c.out.now) a.numbered
+
+number-of : (c : Call) (n : ℕ) → Refuses c n → (right c).answer ≡ refused n
+number-of c n a = ap (λ (o : Outcome (List ℕ) SetSays). o.answer) (refused-so c n a)
+
+refuses_so : (c : Call) (n : ℕ) → right c ≡ refusal c.out.now n → Refuses c n
+refuses_so c n e = refuses c n (ap (λ (o : Outcome (List ℕ) SetSays). o.answer) e)
 
 refuses_for_c : (c : Call) (r : UlmSet) → r ≡ set_face (right c).answer → (r.refusal ≡ 0 → ⊥) → Refuses c r.refusal
 refuses_for_c c r e refused-it = go (right c).answer refl
@@ -61,16 +75,16 @@ refuses_for_c c r e refused-it = go (right c).answer refl
 -- a call that ends after all frames, by the rule's number
 settled : (c : Call) → Settled c → AfterAll (number_of (right c).answer)
 settled c (taken h body a) = inl (ap number_of (sym a.met.answers))
-settled c (absent a) = inr (inl (ap number_of (sym a.met.answers)))
-settled c (small a) = inr (inr (ap number_of (sym a.met.answers)))
+settled c (absent a) = inr (inl (ap number_of (number-of c 12 a)))
+settled c (small a) = inr (inr (ap number_of (number-of c 13 a)))
 
 -- ---- in any order
 same_answer : (c d : Call) → Same c.buf.now c.out.now d.buf.now d.out.now → SameAnswer c d
 same_answer c d s = record {
-  accepted = λ h body a. let long = bytes (length body) in
-      ends d (Set h long) (filled body d.out.now) (s.taken h body (back c (Set h long) (filled body c.out.now) a));
-  absent = λ a. ends d (Refused 12) d.out.now (s.absent (back c (Refused 12) c.out.now a));
-  small = λ a. ends d (Refused 13) d.out.now (s.small (back c (Refused 13) c.out.now a));
+  accepted = λ h body a. let set : Set = record { header = h; length = bytes (length body) } in
+      ends d (Ok set) (filled body d.out.now) (s.taken h body (back c (Ok set) (filled body c.out.now) a));
+  absent = λ a. refuses_so d 12 (s.absent (refused-so c 12 a));
+  small = λ a. refuses_so d 13 (s.small (refused-so c 13 a));
 }
 
 in_any_order : (c d : Call) → Rearranged c.buf.now d.buf.now → length c.out.now ≡ length d.out.now → SameAnswer c d
@@ -99,16 +113,16 @@ long-count b l = counts_once b l
 -- any call on these bytes refuses so
 on_bytes : (frames : List ℕ) (n : ℕ) → ((out : List ℕ) → set_of frames out ≡ refusal out n) → (c : Call) → c.buf.now ≡ frames
     → Refuses c n
-on_bytes frames n r c e = ends c (Refused n) c.out.now (ap (λ (b : List ℕ). set_of b c.out.now) e ∙ r c.out.now)
+on_bytes frames n r c e = refuses_so c n (ap (λ (b : List ℕ). set_of b c.out.now) e ∙ r c.out.now)
 
 pub order_of_arrival : OrderOfArrival
 order_of_arrival = record {
-  accepts = λ c h long after l. takes c (record { header = h; long = long }) (sym l.answers);
+  accepts = λ c set after l. takes c (set_says set) (sym l.answers);
   accepts_for_c = λ c r after l z.
       given_for_c set_face (λ (u : UlmSet). u.refusal) (λ n. refl) (right c).answer
       (set_kept c.buf.now c.out.now).by_checks.numbered r l.answers z
       (λ s e. let p = takes c s e in ((s.header, p.0), p.1));
-  refuses = λ c n after l. refuses c n (sym l.answers);
+  refuses = λ c r after l. refuses c (number r) (sym l.answers);
   refuses_for_c = λ c r after l above. refuses_for_c c r l.answers above;
   one_list = λ c t. one_list c.buf.now c.out.now (settled c t);
   any_order = λ c d o. in_any_order c d o.frames o.room;
@@ -120,11 +134,11 @@ order_of_arrival = record {
   lone = λ c each f t k m o. one-frame c.buf.now c.out.now each f (settled c t) k m (lone_count (body_in f) o);
   long = λ c each f t k m o. one-frame c.buf.now c.out.now each f (settled c t) k m (long-count (body_in f) o);
   others = λ c d n r a in_turn.
-      let o = other_numbers c.buf.now d.buf.now c.out.now d.out.now n r (sym a.met.answers) in_turn in
-      record { own = o.own; number = o.number; other = o.other; is = ends d (Refused o.number) d.out.now o.is };
+      let o = other_numbers c.buf.now d.buf.now c.out.now d.out.now n r (number-of c n a) in_turn in
+      record { own = o.own; number = o.number; other = o.other; is = refuses_so d o.number o.is };
   stays = λ c d each rest n k e a in_turn.
-      ends d (Refused n) d.out.now (ap (λ (b : List ℕ). set_of b d.out.now) e
-      ∙ stays c.buf.now rest c.out.now d.out.now each n k (sym a.met.answers) in_turn);
+      refuses_so d n (ap (λ (b : List ℕ). set_of b d.out.now) e
+      ∙ stays c.buf.now rest c.out.now d.out.now each n k (number-of c n a) in_turn);
   exempt = λ m n s t.
       let x = any_two_differ m n s t in
       record {

@@ -6,7 +6,9 @@ use lib.Dec.{eqb}
 use lib.ListN.{length, take, drop}
 use Rattle.wire.specs.Numbers.{Octets}
 use Rattle.wire.specs.Checks.{pick}
-use Rattle.wire.specs.Answers.{refused, given, Outcome, Promise}
+use Rattle.std.specs.Prelude.{Ok}
+use Rattle.wire.specs.Answers.{Answer, given, onward, Outcome, Promise}
+use Rattle.set_segment.specs.Told.{placed}
 use Rattle.wire.specs.Sizes.{bytes}
 use Rattle.wire.specs.declared.Bytes.{Bytes}
 use Rattle.wire.proofs.CheckLaws.{all_hold}
@@ -20,7 +22,7 @@ use Rattle.request.proofs.Theorems.{body_is_table}
 use Rattle.censor.specs.declared.Censor.{Censor}
 use Rattle.form_spec.specs.Forms.{body_by}
 use Rattle.censor.specs.Censor.{region_fields, censor_form, censor_of}
-use Rattle.censor.specs.Told.{shown, tell_censor}
+use Rattle.censor.specs.Told.{censor_shown, list_of}
 use Rattle.censor.proofs.Theorems.{struct_tells, body_is_table as zones-are-table}
 use Rattle.map_spec.specs.Reading.{Summary, map_checks, map_in, summary, summary_of}
 use Rattle.map_spec.proofs.Theorems.{accepted_exactly}
@@ -29,7 +31,6 @@ use Rattle.set_spec.specs.Segment.{own_checks, Placed, placed_in, segment_at}
 use Rattle.set_spec.specs.Walk.{SetSays, set_of}
 use Rattle.set_spec.specs.Theorems.{accepted}
 use Rattle.set_spec.proofs.Accepted.{answering, accepted_exactly_if_whole}
-use Rattle.set.specs.declared.SetAnswer.TheVariants.{Set}
 use Rattle.set.specs.Told.{tell_set}
 use Rattle.set.proofs.Welds.{set_apart}
 use Rattle.writer_head.specs.declared.Given.{Given}
@@ -51,12 +52,10 @@ segment_lies b at p e =
     (sym (ap (λ (x : Placed). x.start) q), sym (ap (λ (x : Placed). x.next) q))
 
 -- ---- message 8: the struct tells the list
-censor-stands : (body : List ℕ) (r : Censor) → Octets body → r ≡ shown (censor_of body) → r.number ≡ 0
-    → body ≡ body_by censor_form (r.count ∷ take (region_fields * r.count) r.regions)
-censor-stands body r o e z =
-    let list = r.count ∷ take (region_fields * r.count) r.regions in
-    let told : tell_censor r ≡ given list = ap (λ (n : ℕ). pick (eqb n 0) (given list) (refused r.number)) z in
-    zones-are-table body list o (sym (struct_tells body) ∙ ap tell_censor (sym e) ∙ told)
+censor-stands : (body : List ℕ) (r : Censor) → Octets body → given r ≡ censor_shown (censor_of body) → body ≡ body_by censor_form (list_of r)
+censor-stands body r o e =
+    zones-are-table body (list_of r) o
+    (sym (struct_tells body) ∙ ap (λ (a : Answer Censor). onward a (λ censor. given (list_of censor))) (sym e))
 
 -- ---- message 15: the map that stands in the body
 map-stands : (body : List ℕ) (s : Summary) → Octets body → given s ≡ summary_of body → MapStands body s
@@ -74,7 +73,7 @@ map-stands body s o e =
 
 -- ---- a set accepted by the rule, and by a whole buffer
 module _ (frames out : List ℕ) (h : Header) (long : Bytes) (after : List ℕ) where
-  joins : Promise tell_set (set_of frames out) (Set h long) after → Joins frames out h long after
+  joins : Promise tell_set (set_of frames out) (Ok (record { header = h; length = long })) after → Joins frames out h long after
   joins p =
       let a = answering frames out (record { header = h; long = long }) (sym p.answers) in
       let w = (accepted_exactly_if_whole frames out h a.body).0 a.is in
@@ -86,7 +85,7 @@ module _ (frames out : List ℕ) (h : Header) (long : Bytes) (after : List ℕ) 
         left = p.leaves ∙ ap (λ (o : Outcome (List ℕ) SetSays). o.output) a.is;
       }
 
-  joined : Joins frames out h long after → Promise tell_set (set_of frames out) (Set h long) after
+  joined : Joins frames out h long after → Promise tell_set (set_of frames out) (Ok (record { header = h; length = long })) after
   joined j =
       let e = (accepted_exactly_if_whole frames out h j.body).1 (j.whole, j.room) in
       record {
@@ -125,15 +124,14 @@ pub demand2 : Demand2
 demand2 = record {
   frame = λ κs stream place f s o l. head-stands stream.now place f o (sym l);
   header = λ κs message h s o l. header-stands message.now h o (sym l);
-  segment = λ κs frames at h start next s l. segment_lies frames.now at (record { header = h; start = start; next = next }) l;
+  segment = λ κs frames at p s l. segment_lies frames.now at (placed p) l;
   request = λ κs body code s o l. body_is_table body.now code o (sym l);
-  censor = λ κs body r s o l z. censor-stands body.now r o l z;
-  map = λ κs body date minutes elevations s o l. map-stands body.now
-      (record { date = date; minutes = minutes; elevations = elevations }) o l;
-  whole = λ κs frames out h long f after. (joins frames.now out.now h long after, joined frames.now out.now h long after);
+  censor = λ κs body r s o l. censor-stands body.now r o l;
+  map = λ κs body m s o l. map-stands body.now (record { date = m.date; minutes = m.minutes; elevations = m.elevations }) o l;
+  whole = λ κs frames out set f after. (joins frames.now out.now set.header set.length after, joined frames.now out.now set.header set.length after);
   back = λ κs given body out size g b written κs' frames room r f after fits w same h l.
       let e = set_back given body.now out.now room.now size written frames.now fits (sym w.answers) w.leaves same h in (
-        set_apart r (Set (header_back given body.now) (bytes (length body.now))) (l.answers
+        set_apart r (Ok (record { header = header_back given body.now; length = bytes (length body.now) })) (l.answers
             ∙ ap (λ (o : Outcome (List ℕ) SetSays). o.answer) e),
         l.leaves ∙ ap (λ (o : Outcome (List ℕ) SetSays). o.output) e,
       );

@@ -15,9 +15,9 @@ use Rattle.radial_spec.proofs.Accepted.{exactly, unique}
 use Rattle.radial_spec.proofs.Naming.{named_exactly, unnamed_places, unnamed, gate-words}
 use Rattle.radial_spec.proofs.Finding.{found_by_name, none_named}
 use Rattle.radial_heading.specs.Told.{heading_shown}
+use Rattle.std.specs.Prelude.{Ok}
 use Rattle.radial.specs.declared.Lying.{Lying}
 use Rattle.radial.specs.Told.{Told, shown, head_of, head_shown, code_shown, head_if_any, block_shown}
-use Rattle.radial.specs.declared.MomentAnswer.TheVariants.{Moment as Found}
 use Rattle.radial.proofs.HandedLaws.{handed_exactly}
 use Rattle.radial.proofs.Welds.{moment_apart, block_apart, code_apart}
 use Rattle.radial_gates.specs.Told.{count_of, part_of, LiesAt}
@@ -67,9 +67,9 @@ module _ (body body' : Bor (List ℕ)) (d : Description) (u : ButUnnamed body.no
 
   unaltered : SameFromEach body body'
   unaltered = record {
-    check = λ κs κs' r r' s s' p q. p ∙ ap number_of (sym same.radial) ∙ sym q;
-    heading = λ κs κs' r r' s s' p q. p ∙ ap heading_shown (sym same.radial) ∙ sym q;
-    reader = λ κs κs' r r' s s' p q. p ∙ ap shown (sym same.radial) ∙ sym q;
+    check = λ κs κs' r r' s s' p q. number_in-apart r r' (p ∙ ap number_of (sym same.radial) ∙ sym q);
+    heading = λ κs κs' r r' s s' p q. heading_apart r r' (p ∙ ap heading_shown (sym same.radial) ∙ sym q);
+    reader = λ κs κs' r r' s s' p q. radial_apart r r' (p ∙ ap shown (sym same.radial) ∙ sym q);
     moment = λ κs κs' name r r' s s' p q. moment_apart r r' (p ∙ ap head_shown (sym (same.moment (num 4 name 0))) ∙ sym q);
     block = λ κs κs' k r r' s s' p q. block_apart r r' (p ∙ ap block_shown (sym (same.block k)) ∙ sym q);
     whole = λ κs k s l p. same_block k l (block_of b k) refl p;
@@ -108,7 +108,7 @@ demand3 = record {
   handed_to_c = handed_to_c;
   found = found_by_name;
   none = none_named;
-  looked_up = λ κs body name r s d m e i n l. moment_apart r (Found (head_of m)) (l
+  looked_up = λ κs body name r s d m e i n l. moment_apart r (Ok (head_of m)) (l
       ∙ ap head_shown ((found_by_name body.now d (num 4 name 0) m e).1 (i, n)));
   words = λ κs body name r s m o e l. words body r (num 4 name 0) m o e l;
   named = named_exactly;

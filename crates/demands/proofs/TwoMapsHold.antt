@@ -17,8 +17,6 @@ use Rattle.compare_spec.specs.Comparing.{Comparison, halfwords, most_halfwords, 
 use Rattle.compare_spec.proofs.Most.{halfwords-length}
 use Rattle.compare_spec.proofs.InTurn.{map-given, answered, both_good}
 use Rattle.compare_spec.proofs.Theorems.{compared_exactly, swapped, room_for_all, refused-in_order, itself_answered}
-use Rattle.compare.specs.declared.CompareAnswer.{CompareAnswer}
-use Rattle.compare.specs.declared.CompareAnswer.TheVariants.{Compared as Told, Refused}
 use Rattle.compare.specs.Told.{tell_compare}
 use Rattle.compare.proofs.Welds.{compare_apart}
 use Rattle.c_lent.specs.Face.{Leaves}
@@ -33,9 +31,20 @@ use Rattle.demands.proofs.Lent.{compare_kept}
 abbrev right : Call → Outcome (List ℕ) Comparison
 right c = comparison_of c.old.now c.new.now c.out.now
 
-ends : (c : Call) (answer : CompareAnswer) (left : List ℕ) → right c ≡ record { answer = tell_compare answer; output = left }
+ends : (c : Call) (answer : Result MapComparison Refusal) (left : List ℕ) → right c ≡ record { answer = tell_compare answer; output = left }
     → Ends c answer (comparison_face (tell_compare answer)) left
 ends c = comes tell_compare compare_apart comparison_face (right c)
+
+refuses : (c : Call) (n : ℕ) → right c ≡ refusal c.out.now n → Refuses c n
+refuses c n e =
+    let listed = (compare_kept c.old.now c.new.now c.out.now).by_checks.numbered n (ap (λ (o : Outcome (List ℕ) Comparison). o.answer) e) in
+    let numbered = number_there n refusals listed in
+    record {
+      refusal = refusal_of n;
+      numbered = numbered;
+      is = subst (λ k. Ends c (Err (refusal_of n)) (comparison_face (refused k)) c.out.now) numbered
+          (ends c (Err (refusal_of n)) c.out.now (e ∙ ap (refusal c.out.now) (sym numbered)));
+    }
 
 -- the differences of two good maps, and the halfwords that they take
 the_list : (old new : List ℕ) (m n : FilterMap) (ds : List Difference) → Good old new m n ds → ds ≡ differences m n
@@ -50,7 +59,7 @@ too_little : (c : Call) (m n : FilterMap) (ds : List Difference) → Good c.old.
     → length c.out.now < 6 * length ds
     → Refuses c 13
 too_little c m n ds g h =
-    ends c (Refused 13) c.out.now
+    refuses c 13
     ((refused-in_order c.old.now c.new.now c.out.now).too_little m n g.in_old g.in_new
     (omega (arith, h, the_size c.old.now c.new.now m n ds g)))
 
@@ -66,7 +75,7 @@ listed c f =
     let n = f.n in
     let ds = differences m n in
     subst (Lists c m n) (sym (the_list old new m n f.ds f.good))
-    (ends c (Told (length m.elevations) (length n.elevations) (length ds)) (filled (halfwords ds) out)
+    (ends c (Ok (record { old_elevations = length m.elevations; new_elevations = length n.elevations; differences = length ds })) (filled (halfwords ds) out)
     ((refused-in_order old new out).enough m n f.good.in_old f.good.in_new (room_is old new out f)))
 
 -- the maps the other way round
@@ -88,7 +97,7 @@ turned old new out f =
 itself : (c : Call) (m : FilterMap) → map_of c.old.now ≡ given m → c.new.now ≡ c.old.now
     → Reports c (length m.elevations) (length m.elevations) 0 c.out.now
 itself c m e same =
-    ends c (Told (length m.elevations) (length m.elevations) 0) c.out.now
+    ends c (Ok (record { old_elevations = length m.elevations; new_elevations = length m.elevations; differences = 0 })) c.out.now
     (ap (λ (b : List ℕ). comparison_of c.old.now b c.out.now) same ∙ itself_answered c.old.now c.out.now m e)
 
 -- ---- what is accepted
@@ -138,13 +147,13 @@ two_maps = record {
     meets = (compared_exactly m n (differences m n)).0 refl;
     only = λ ds c. (compared_exactly m n ds).1 c;
   };
-  old_bad = λ c number e. ends c (Refused number) c.out.now ((refused-in_order c.old.now c.new.now
+  old_bad = λ c number e. refuses c number ((refused-in_order c.old.now c.new.now
       c.out.now).old_bad number e);
-  new_bad = λ c m number e f. ends c (Refused number) c.out.now ((refused-in_order c.old.now c.new.now
+  new_bad = λ c m number e f. refuses c number ((refused-in_order c.old.now c.new.now
       c.out.now).new_bad m number e f);
   too_little = too_little;
   listed = listed;
-  accepted = λ c older newer count after p. fits c.old.now c.new.now c.out.now _ (sym p.answers);
+  accepted = λ c told after p. fits c.old.now c.new.now c.out.now _ (sym p.answers);
   accepted_for_c = λ c r after p z.
       let k = compare_kept c.old.now c.new.now c.out.now in
       given_for_c comparison_face (λ (u : UlmComparison). u.refusal) (λ n. refl) (right c).answer k.by_checks.numbered r p.answers z

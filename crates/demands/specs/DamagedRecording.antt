@@ -1,7 +1,10 @@
 -- K10. "Salvage of a damaged recording.": the result of every call of the compiled `salvage` and of `ulm_salvage`. What is kept of a buffer
 -- and what is skipped is defined by its account, over its bytes and the checks of frame and header: the pieces joined are the buffer,
 -- each frame kept passes, none begins at a skipped byte, and the runs are longest.
-use Rattle.std.specs.Prelude.{ℕ, suc, ◌+◌, ◌*◌, ◌/◌, ◌≤◌, ◌<◌, ◌≡◌, length, take}
+use Rattle.std.specs.Prelude.{ℕ, suc, ◌+◌, ◌*◌, ◌/◌, ◌≤◌, ◌<◌, ◌≡◌, length, take, Result, Ok, Err}
+use Rattle.wire.specs.declared.refusal.Refusal.{Refusal}
+use Rattle.wire.specs.declared.refusal.Refusal.TheVariants.{OutputSmall}
+use Rattle.salvage.specs.declared.Salvage.{Salvage}
 use mathlib.Core.List.{List, flatten}
 use contract.Lifetimes.{Lfts}
 use denote.Ref.{Bor, MutBor, at_last}
@@ -12,8 +15,6 @@ use Rattle.salvage_spec.specs.Walk.{Run}
 use Rattle.salvage_spec.specs.Salvage.{numbers}
 use Rattle.salvage_spec.specs.Account.{Piece, Account, kept_in, runs_in}
 use Rattle.salvage_spec.specs.Theorems.{AllPass, long_all, least_frame, Apart}
-use Rattle.salvage.specs.declared.SalvageAnswer.{SalvageAnswer}
-use Rattle.salvage.specs.declared.SalvageAnswer.TheVariants.{Salvaged, Refused}
 use Rattle.salvage.proofs.salvage.Reads as salvage
 use Rattle.c_salvage.specs.declared.UlmSalvage.{UlmSalvage}
 use Rattle.c_salvage.specs.Face.{salvage_face}
@@ -29,7 +30,7 @@ pub record Call : Type 0 where
   pub buf' : Bor (List ℕ)
 
 -- what the contract says of a call that returned r and left these two in the outputs: of `salvage`, and of `ulm_salvage`
-abbrev pub Salvages : Call → SalvageAnswer → List ℕ × List ℕ → Type 0
+abbrev pub Salvages : Call → Result Salvage Refusal → List ℕ × List ℕ → Type 0
 Salvages c r left = salvage.Learnt c.κs (c.buf, (c.out, (c.runs, tt))) r
     (c.buf', (at_last c.out left.0, (at_last c.runs left.1, tt)))
 
@@ -39,12 +40,12 @@ SalvagesForC c r left =
     (c.buf', (at_last c.out left.0, (at_last c.runs left.1, tt)))
 
 -- the result of both calls
-abbrev pub Ends : Call → SalvageAnswer → UlmSalvage → List ℕ × List ℕ → Type 0
+abbrev pub Ends : Call → Result Salvage Refusal → UlmSalvage → List ℕ × List ℕ → Type 0
 Ends c = Comes (Salvages c) (SalvagesForC c)
 
 -- "13 and nothing written"; all numbers that are reported are 0
 abbrev pub Refuses : Call → Type 0
-Refuses c = Ends c (Refused 13) (salvage_face (refused 13)) (c.out.now, c.runs.now)
+Refuses c = Ends c (Err OutputSmall) (salvage_face (refused 13)) (c.out.now, c.runs.now)
 
 -- "the number of frames kept", the bytes written, the number of runs
 abbrev pub Reports : Call → ℕ → ℕ → ℕ → List ℕ → List ℕ → Type 0

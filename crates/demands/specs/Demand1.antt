@@ -29,9 +29,9 @@ use Rattle.writer.proofs.write_message.Reads as write_message
 use Rattle.radial_spec.specs.Refusal.{radial_checks, radial_of}
 use Rattle.radial_spec.specs.Lookups.{moment_of, coded_of, block_of, Part, gates_of, bytes_in}
 use Rattle.radial_check.proofs.check_radial.Reads as check_radial_reads
-use Rattle.radial_heading.specs.Told.{heading_shown}
+use Rattle.radial_heading.specs.Told.{tell_heading, heading_shown}
 use Rattle.radial_heading.proofs.read_heading.Reads as read_heading
-use Rattle.radial.specs.Told.{shown, tell_moment, head_shown, tell_coded, code_shown, tell_block, block_shown}
+use Rattle.radial.specs.Told.{tell_radial, shown, tell_moment, head_shown, tell_coded, code_shown, tell_block, block_shown}
 use Rattle.radial.proofs.read_radial.Reads as read_radial
 use Rattle.radial.proofs.moment.Reads as moment
 use Rattle.radial.proofs.code.Reads as code
@@ -48,7 +48,7 @@ use Rattle.request.specs.Told.{tell_request}
 use Rattle.request.proofs.read_request.Reads as read_request
 use Rattle.request.proofs.write_request.Reads as write_request_reads
 use Rattle.censor.specs.Censor.{censor_form, censor_of, censor_written}
-use Rattle.censor.specs.Told.{shown as zonesShown}
+use Rattle.censor.specs.Told.{tell_censor, censor_shown}
 use Rattle.censor.proofs.read_censor.Reads as read_censor
 use Rattle.censor.proofs.write_censor.Reads as write_censor_reads
 use Rattle.map_spec.specs.Reading.{segments_in, map_checks, asked_checks, summary_of, code_of}
@@ -58,7 +58,7 @@ use Rattle.map.proofs.code_at.Reads as code_at
 use Rattle.compare_spec.specs.Comparing.{comparison_of}
 use Rattle.compare.specs.Told.{tell_compare}
 use Rattle.compare.proofs.compare.Reads as compare
-use Rattle.demands.specs.Notions.{ByChecks, Kept, KeptStruct, KeptLent}
+use Rattle.demands.specs.Notions.{ByChecks, Kept, KeptNumber, KeptLent}
 use Rattle.demands.specs.Orders.{stream_checks, set_checks, moment_checks, coded_checks, gate_checks, comparison_checks, salvage_checks}
 
 -- ---- gates handed over: "an empty part where gates are handed over" on a refusal
@@ -105,12 +105,12 @@ pub record Demand1 : Type 0 where
       (then_room (write_checks given body.now) (frames_of given body.now) (length out.now))
       (write_of given body.now out.now) out.now
   -- `check_radial`, `read_heading`, `read_radial`
-  pub check_radial : (κs body s : _) → KeptStruct (λ r. check_radial_reads.Learnt κs (body, tt) r s) number_of (radial_checks body.now)
+  pub check_radial : (κs body s : _) → KeptNumber (λ r. check_radial_reads.Learnt κs (body, tt) r s) (radial_checks body.now)
       (radial_of body.now)
-  pub heading : (κs body s : _) → KeptStruct (λ r. read_heading.Learnt κs (body, tt) r s) heading_shown (radial_checks body.now)
-      (radial_of body.now)
-  pub radial : (κs body s : _) → KeptStruct (λ r. read_radial.Learnt κs (body, tt) r s) shown (radial_checks body.now)
-      (radial_of body.now)
+  pub heading : (κs body s : _) → Kept (λ r. read_heading.Learnt κs (body, tt) r s) tell_heading (radial_checks body.now)
+      (heading_shown (radial_of body.now))
+  pub radial : (κs body s : _) → Kept (λ r. read_radial.Learnt κs (body, tt) r s) tell_radial (radial_checks body.now)
+      (shown (radial_of body.now))
   -- `moment`, `block`, `code`
   pub moment : (κs body name s : _)
       → Kept (λ r. moment.Learnt κs (body, (name, tt)) r s) tell_moment (moment_checks body.now (num 4 name 0))
@@ -137,7 +137,7 @@ pub record Demand1 : Type 0 where
       (then_room (list_checks request_form list.now) (body_by request_form list.now) (length out.now))
       (request_written list.now out.now) out.now
   pub censor : (κs body s : _)
-      → KeptStruct (λ r. read_censor.Learnt κs (body, tt) r s) zonesShown (body_checks censor_form body.now) (censor_of body.now)
+      → Kept (λ r. read_censor.Learnt κs (body, tt) r s) tell_censor (body_checks censor_form body.now) (censor_shown (censor_of body.now))
   pub write_censor : (κs list out list' : _)
       → KeptLent (λ r after. write_censor_reads.Learnt κs (list, (out, tt)) r (list', (at_last out after, tt))) tell_write
       (then_room (list_checks censor_form list.now) (body_by censor_form list.now) (length out.now))

@@ -2,7 +2,7 @@
 -- that accepts, the table of what it reports stands in the bytes that it was given. And "a message that we write and then reassemble, given
 -- room, comes back with body, channel, type, sequence number, date and milliseconds". `Fits`, `Octets`: numbers given are of their types,
 -- bytes are bytes.
-use Rattle.std.specs.Prelude.{ℕ, ◌+◌, ◌*◌, ◌≤◌, ◌≡◌, ◌↔◌, List, [], ◌∷◌, length, take, drop}
+use Rattle.std.specs.Prelude.{ℕ, ◌+◌, ◌*◌, ◌≤◌, ◌≡◌, ◌↔◌, List, [], ◌∷◌, length, take, drop, Ok, Some}
 use denote.Ref.{Bor, MutBor, at_last}
 use Rattle.form_spec.specs.Forms.{body_by}
 use Rattle.wire.specs.Numbers.{Octets}
@@ -10,28 +10,21 @@ use Rattle.wire.specs.Tables.{render, Holds}
 use Rattle.wire.specs.Sizes.{bytes}
 use Rattle.wire.specs.Writing.{filled}
 use Rattle.wire.specs.declared.Bytes.{Bytes}
-use Rattle.wire.specs.declared.WriteAnswer.TheVariants.{Written}
 use Rattle.frame.specs.Session.{head_table, head_size, whole_long}
-use Rattle.frame.specs.declared.FrameAnswer.TheVariants.{Read}
 use Rattle.frame.proofs.frame_at.Reads as frame_at
 use Rattle.header.specs.Header.{header_size}
 use Rattle.header.specs.declared.Header.{Header}
-use Rattle.header.specs.declared.HeaderAnswer.TheVariants.{Read as ReadHeader}
 use Rattle.header_form.specs.Theorems.{Stands}
 use Rattle.header.proofs.read_header.Reads as read_header
 use Rattle.request.specs.Request.{request_form}
-use Rattle.request.specs.declared.RequestAnswer.TheVariants.{Code}
 use Rattle.request.proofs.read_request.Reads as read_request
 use Rattle.censor.specs.Censor.{region_fields, censor_form}
 use Rattle.censor.proofs.read_censor.Reads as read_censor
 use Rattle.map_spec.specs.Map.{FilterMap, InRange, map_bytes}
 use Rattle.map_spec.specs.Reading.{Summary}
-use Rattle.map.specs.declared.MapAnswer.TheVariants.{Map}
 use Rattle.map.proofs.check_map.Reads as check_map
-use Rattle.set_segment.specs.declared.SegmentAnswer.TheVariants.{Read as Segment}
 use Rattle.set_segment.proofs.segment_at.Reads as segment_at
 use Rattle.set_spec.specs.Whole.{Whole}
-use Rattle.set.specs.declared.SetAnswer.TheVariants.{Set}
 use Rattle.set.proofs.read_set.Reads as read_set
 use Rattle.writer_head.specs.declared.Given.{Given}
 use Rattle.writer.specs.Writing.{segments_of}
@@ -77,31 +70,31 @@ given_by channel kind sequence date ms = record { channel = channel; kind = kind
 
 pub record Demand2 : Type 1 where
   -- ---- what is read
-  pub frame : (κs : _) (stream : Bor (List ℕ)) (place f s : _) → Octets stream.now → frame_at.Learnt κs (stream, (place, tt)) (Read f) s
+  pub frame : (κs : _) (stream : Bor (List ℕ)) (place f s : _) → Octets stream.now → frame_at.Learnt κs (stream, (place, tt)) (Ok (Some f)) s
       → Holds stream.now place (render (head_table f.kind f.second f.size))
-  pub header : (κs : _) (message : Bor (List ℕ)) (h s : _) → Octets message.now → read_header.Learnt κs (message, tt) (ReadHeader h) s → Stands message.now h
+  pub header : (κs : _) (message : Bor (List ℕ)) (h s : _) → Octets message.now → read_header.Learnt κs (message, tt) (Ok h) s → Stands message.now h
   -- a segment's data begins after both heads, and its frame ends with its body
-  pub segment : (κs : _) (frames : Bor (List ℕ)) (at h start next s : _) → segment_at.Learnt κs (frames, (at, tt)) (Segment h start next) s
-      → (start ≡ at + (head_size + header_size)) × (next ≡ at + whole_long (drop at frames.now))
+  pub segment : (κs : _) (frames : Bor (List ℕ)) (at p s : _) → segment_at.Learnt κs (frames, (at, tt)) (Ok p) s
+      → (p.start ≡ at + (head_size + header_size)) × (p.next ≡ at + whole_long (drop at frames.now))
   -- messages 9, 8 and 15: the whole body, and nothing else
-  pub request : (κs : _) (body : Bor (List ℕ)) (code s : _) → Octets body.now → read_request.Learnt κs (body, tt) (Code code) s
+  pub request : (κs : _) (body : Bor (List ℕ)) (code s : _) → Octets body.now → read_request.Learnt κs (body, tt) (Ok code) s
       → body.now ≡ body_by request_form (code ∷ [])
-  pub censor : (κs : _) (body : Bor (List ℕ)) (r s : _) → Octets body.now → read_censor.Learnt κs (body, tt) r s → r.number ≡ 0
+  pub censor : (κs : _) (body : Bor (List ℕ)) (r s : _) → Octets body.now → read_censor.Learnt κs (body, tt) (Ok r) s
       → body.now ≡ body_by censor_form (r.count ∷ take (region_fields * r.count) r.regions)
-  pub map : (κs : _) (body : Bor (List ℕ)) (date minutes elevations s : _) → Octets body.now → check_map.Learnt κs (body, tt) (Map date minutes elevations) s
-      → MapStands body.now (record { date = date; minutes = minutes; elevations = elevations })
+  pub map : (κs : _) (body : Bor (List ℕ)) (m s : _) → Octets body.now → check_map.Learnt κs (body, tt) (Ok m) s
+      → MapStands body.now (record { date = m.date; minutes = m.minutes; elevations = m.elevations })
   -- `read_set` accepts exactly the whole sets that the output has room for
-  pub whole : (κs : _) (frames : Bor (List ℕ)) (out : MutBor (List ℕ)) (h long f after : _)
-      → read_set.Learnt κs (frames, (out, tt)) (Set h long) (f, (at_last out after, tt)) ↔ Joins frames.now out.now h long after
+  pub whole : (κs : _) (frames : Bor (List ℕ)) (out : MutBor (List ℕ)) (set f after : _)
+      → read_set.Learnt κs (frames, (out, tt)) (Ok set) (f, (at_last out after, tt)) ↔ Joins frames.now out.now set.header set.length after
   -- ---- what is written and read again
   -- what `write_message` accepted and wrote, given to `read_set` with room for the body, is answered with the header of what was given, N
   -- and number 1, and the length of the body; and the room holds the body and, after it, what it held. For every body and type.
   pub back : (κs given : _) (body : Bor (List ℕ)) (out size g b written : _) (κs' : _) (frames : Bor (List ℕ)) (room : MutBor (List ℕ)) (r f after : _) → Fits given
-      → write_message.Learnt κs (given, (body, (out, tt))) (Written size) (g, (b, (at_last out written, tt)))
+      → write_message.Learnt κs (given, (body, (out, tt))) (Ok size) (g, (b, (at_last out written, tt)))
       → frames.now ≡ take size.0 written
       → length body.now ≤ length room.now
       → read_set.Learnt κs' (frames, (room, tt)) r (f, (at_last room after, tt))
-      → (r ≡ Set (header_back given body.now) (bytes (length body.now))) × (after ≡ filled body.now room.now)
+      → (r ≡ Ok (record { header = header_back given body.now; length = bytes (length body.now) })) × (after ≡ filled body.now room.now)
   -- the same of `ulm_write` and `ulm_set`
   pub back_in_c : (κs channel kind sequence date ms : _) (body : Bor (List ℕ)) (out r c k q d m b written : _) (κs' : _) (frames : Bor (List ℕ)) (room : MutBor (List ℕ)) (a f after : _)
       → Fits (given_by channel kind sequence date ms)

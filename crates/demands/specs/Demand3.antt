@@ -1,7 +1,8 @@
 -- Demand 3. "A radial body is accepted exactly if some description meets [the] layout for a body of that length, stated apart from
 -- any reader, and agrees with the body at every byte that it names. Then there is only one, and it is what we hand over. With the length
 -- kept, altering any byte that the description does not name alters no answer about that radial."
-use Rattle.std.specs.Prelude.{ℕ, ◌≡◌, ◌↔◌, length, get_or}
+use Rattle.std.specs.Prelude.{ℕ, ◌≡◌, ◌↔◌, length, get_or, Ok, Some}
+use Rattle.radial.specs.declared.RadialBlock.TheVariants.{Constant}
 use denote.Ref.{Bor}
 use mathlib.Core.List.{List, map, Memᴰ}
 use Rattle.wire.specs.Numbers.{num, Octets}
@@ -13,8 +14,6 @@ use Rattle.radial_spec.specs.Lookups.{moment_of, gates_of, bytes_in}
 use Rattle.radial_spec.specs.Theorems.{Exactly, Unique, NamedExactly, UnnamedPlaces, FoundByName, NoneNamed}
 use Rattle.radial_check.proofs.check_radial.Reads as check_radial
 use Rattle.radial_heading.proofs.read_heading.Reads as read_heading
-use Rattle.radial.specs.declared.MomentAnswer.TheVariants.{Moment as Found}
-use Rattle.radial.specs.declared.BlockAnswer.TheVariants.{Constant}
 use Rattle.radial.specs.declared.Lying.{Lying}
 use Rattle.radial.specs.Told.{head_of}
 use Rattle.radial.specs.Theorems.{handed}
@@ -42,7 +41,7 @@ pub record SameFromEach (body body' : Bor (List ℕ)) : Type 0 where
   pub moment : (κs κs' name r r' s s' : _) → moment_of_reads.Learnt κs (body, (name, tt)) r s
       → moment_of_reads.Learnt κs' (body', (name, tt)) r' s' → r ≡ r'
   pub block : (κs κs' k r r' s s' : _) → block_at.Learnt κs (body, (k, tt)) r s → block_at.Learnt κs' (body', (k, tt)) r' s' → r ≡ r'
-  pub whole : (κs k s : _) (l : Lying) → block_at.Learnt κs (body, (k, tt)) (Constant l) s
+  pub whole : (κs k s : _) (l : Lying) → block_at.Learnt κs (body, (k, tt)) (Ok (Some (Constant l))) s
       → bytes_in body'.now (record { place = l.place; size = l.size }) ≡ bytes_in body.now (record { place = l.place; size = l.size })
   -- `gates`, `lent`: the part lies at the same place of its body, is as long, and holds the same bytes
   pub gates : (κs κs' name : _) (r r' : Bor (List ℕ)) (s s' : _) → gates_of_reads.Learnt κs (body, (name, tt)) r s → gates_of_reads.Learnt κs' (body', (name, tt)) r' s'
@@ -83,7 +82,7 @@ pub record Demand3 : Type 0 where
   pub none : NoneNamed
   pub looked_up : (κs : _) (body : Bor (List ℕ)) (name r s : _) (d : Description) (m : Moment) → radial_of body.now ≡ given d → Memᴰ m d.moments
       → m.name ≡ num 4 name 0
-      → moment_of_reads.Learnt κs (body, (name, tt)) r s → r ≡ Found (head_of m)
+      → moment_of_reads.Learnt κs (body, (name, tt)) r s → r ≡ Ok (head_of m)
   pub words : (κs : _) (body : Bor (List ℕ)) (name : _) (r : Bor (List ℕ)) (s : _) (m : Moment) → Octets body.now → moment_of body.now (num 4 name 0) ≡ given m
       → gates_of_reads.Learnt κs (body, (name, tt)) r s
       → r.now ≡ render (map (field (word_bytes m)) m.codes)

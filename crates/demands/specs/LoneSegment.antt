@@ -1,14 +1,13 @@
 -- K1. "Where N is 1, any segment number is accepted and reported as 1; no header or set answer then depends on its two bytes."
 -- Of every call of the compiled functions, as Notions says it. It is about headers that are not of the long form (K11): in the long form
 -- the bytes of N and of the number hold the length, and the page LongRadial says that they have none of this freedom.
-use Rattle.std.specs.Prelude.{ℕ, ◌+◌, ◌<◌, ◌≡◌, ◌⊎◌, ◌↔◌, false, length}
+use Rattle.std.specs.Prelude.{ℕ, ◌+◌, ◌<◌, ◌≡◌, ◌⊎◌, ◌↔◌, false, length, Ok, Err}
+use Rattle.wire.specs.declared.refusal.Refusal.TheVariants.{Segment}
 use mathlib.Core.List.{List, ◌++◌, flatten}
 use denote.Ref.{Bor, MutBor, at_last}
 use Rattle.wire.specs.Numbers.{num}
 use Rattle.wire.specs.Checks.{AllHold}
-use Rattle.wire.specs.declared.WriteAnswer.TheVariants.{Written}
 use Rattle.frame.specs.Session.{head_size}
-use Rattle.header.specs.declared.HeaderAnswer.TheVariants.{Read, Refused}
 use Rattle.header_rule.specs.Rules.{least_length}
 use Rattle.header.specs.Header.{header_size, stored_in, is_long, header_in}
 use Rattle.header.specs.Theorems.{Lone, number_place, ButTwoBytes}
@@ -34,18 +33,18 @@ pub record ButLoneNumber (frames frames' : List ℕ) : Type 0 where
 
 pub record LoneSegment : Type 1 where
   -- "reported as 1", and where N is not 1 the number is the stored one
-  pub one : (κs message h s : _) → read_header.Learnt κs (message, tt) (Read h) s → h.segments ≡ 1 → h.number ≡ 1
-  pub others : (κs : _) (message : Bor (List ℕ)) (h s : _) → read_header.Learnt κs (message, tt) (Read h) s → (h.segments ≡ 1 → ⊥)
+  pub one : (κs message h s : _) → read_header.Learnt κs (message, tt) (Ok h) s → h.segments ≡ 1 → h.number ≡ 1
+  pub others : (κs : _) (message : Bor (List ℕ)) (h s : _) → read_header.Learnt κs (message, tt) (Ok h) s → (h.segments ≡ 1 → ⊥)
       → h.number ≡ num 2 message.now number_place
   -- "any segment number is accepted": a message of one segment is accepted exactly if all other checks hold
   pub accepted : (κs : _) (message : Bor (List ℕ)) (r s : _) → Lone message.now → read_header.Learnt κs (message, tt) r s
-      → (r ≡ Read (header_in message.now)) ↔ AllHold (lone_checks (stored_in message.now) (length message.now))
+      → (r ≡ Ok (header_in message.now)) ↔ AllHold (lone_checks (stored_in message.now) (length message.now))
   -- "number 7 loses that cause for N = 1 only"
   pub outside : (κs : _) (message : Bor (List ℕ)) (r s : _) → is_long (stored_in message.now) ≡ false → ((stored_in message.now).segments ≡ 1 → ⊥)
       → AllHold (before_segment (stored_in message.now) (length message.now))
       → ((stored_in message.now).number ≡ 0) ⊎ ((stored_in message.now).segments < (stored_in message.now).number)
       → read_header.Learnt κs (message, tt) r s
-      → r ≡ Refused 7
+      → r ≡ Err Segment
   -- two calls of `read_header`, or of `ulm_header`, give the same answer
   pub header : (κs κs' : _) (message message' : Bor (List ℕ)) (r r' s s' : _) → Lone message.now → ButTwoBytes number_place message.now message'.now
       → read_header.Learnt κs (message, tt) r s → read_header.Learnt κs' (message', tt) r' s' → r ≡ r'
@@ -62,7 +61,7 @@ pub record LoneSegment : Type 1 where
       → (r ≡ r') × (after ≡ after')
   -- a message of one segment that `write_message` or `ulm_write` wrote has 1 in these bytes, where the short form holds it
   pub written : (κs given : _) (body : Bor (List ℕ)) (out size g b after : _)
-      → write_message.Learnt κs (given, (body, (out, tt))) (Written size) (g, (b, (at_last out after, tt)))
+      → write_message.Learnt κs (given, (body, (out, tt))) (Ok size) (g, (b, (at_last out after, tt)))
       → length (segments_of given.kind body.now) ≡ 1
       → header_size + length body.now < least_length.0
       → num 2 after (head_size + number_place) ≡ 1

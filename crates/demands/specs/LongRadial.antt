@@ -1,15 +1,14 @@
 -- K11. "A research radar sends message 31 beyond 65,534 halfwords. Size 65,535 now means that the two segment fields together, high half
 -- first, hold the length in bytes with the 16-byte header". Of every call of the compiled functions, as Notions says it; what Demand1,
 -- Demand2 and Wall say, they say of both forms.
-use Rattle.std.specs.Prelude.{ℕ, ◌+◌, ◌*◌, ◌≤◌, ◌<◌, ◌≡◌, ◌↔◌, List, length, get_or}
+use Rattle.std.specs.Prelude.{ℕ, ◌+◌, ◌*◌, ◌≤◌, ◌<◌, ◌≡◌, ◌↔◌, List, length, get_or, Ok, Err}
+use Rattle.wire.specs.declared.refusal.Refusal.TheVariants.{Size, DateOrTime, «Type», Segment}
 use denote.Ref.{Bor, at_last}
 use Rattle.wire.specs.Numbers.{num, Octets}
 use Rattle.wire.specs.Checks.{pick}
 use Rattle.wire.specs.Answers.{given}
-use Rattle.wire.specs.declared.WriteAnswer.TheVariants.{Written}
 use Rattle.frame.specs.Session.{head_size}
 use Rattle.header_rule.specs.Rules.{too_large, long_mark, not_permitted, radial_type}
-use Rattle.header.specs.declared.HeaderAnswer.TheVariants.{Read, Refused}
 use Rattle.header.specs.Header.{header_size, count_place, number_place, stored_in, is_long, header_in}
 use Rattle.header.specs.Theorems.{ButTwoBytes}
 use Rattle.header_form.specs.Theorems.{Long, LengthHolds, TimeHolds, CountsAsOne}
@@ -38,22 +37,22 @@ most_said = 65535
 pub record LongRadial : Type 1 where
   -- ---- the header: "even, 131,070 to 1,048,576, equal to the frame's body, otherwise 5"
   pub accepted : (κs : _) (message : Bor (List ℕ)) (r s : _) → Long message.now → read_header.Learnt κs (message, tt) r s
-      → (r ≡ Read (header_in message.now)) ↔ (LengthHolds message.now × TimeHolds message.now)
-  pub counts : (κs : _) (message : Bor (List ℕ)) (h s : _) → Long message.now → read_header.Learnt κs (message, tt) (Read h) s → CountsAsOne message.now h
+      → (r ≡ Ok (header_in message.now)) ↔ (LengthHolds message.now × TimeHolds message.now)
+  pub counts : (κs : _) (message : Bor (List ℕ)) (h s : _) → Long message.now → read_header.Learnt κs (message, tt) (Ok h) s → CountsAsOne message.now h
   pub wrong_length : (κs : _) (message : Bor (List ℕ)) (r s : _) → Long message.now → (LengthHolds message.now → ⊥)
-      → read_header.Learnt κs (message, tt) r s → r ≡ Refused 5
+      → read_header.Learnt κs (message, tt) r s → r ≡ Err Size
   pub wrong_time : (κs : _) (message : Bor (List ℕ)) (r s : _) → Long message.now → LengthHolds message.now → (TimeHolds message.now → ⊥)
-      → read_header.Learnt κs (message, tt) r s → r ≡ Refused 8
+      → read_header.Learnt κs (message, tt) r s → r ≡ Err DateOrTime
   -- "Only type 31 may use it: a type not permitted still gets 6, any other type with size 65,535 gets 7, and 5 isn't tested for them."
   pub other : (κs : _) (message : Bor (List ℕ)) (r s : _) → header_size ≤ length message.now → num 2 message.now 0 ≡ long_mark.0
       → (num 1 message.now 3 ≡ radial_type → ⊥) → read_header.Learnt κs (message, tt) r s
-      → r ≡ Refused (pick (not_permitted (num 1 message.now 3)) 6 7)
+      → r ≡ Err (pick (not_permitted (num 1 message.now 3)) «Type» Segment)
   -- "without K1's freedom": with another number in any two of the four bytes of the length the message is refused as 5
   pub fixed : (κs κs' : _) (message message' : Bor (List ℕ)) (h r' s s' place : _) → Octets message.now → Octets message'.now → Long message.now
       → count_place ≤ place → place ≤ number_place → ButTwoBytes place message.now message'.now → (message.now ≡ message'.now → ⊥)
-      → read_header.Learnt κs (message, tt) (Read h) s → read_header.Learnt κs' (message', tt) r' s' → r' ≡ Refused 5
+      → read_header.Learnt κs (message, tt) (Ok h) s → read_header.Learnt κs' (message', tt) r' s' → r' ≡ Err Size
   -- in both forms the size is the true one, and the form goes by it
-  pub size : (κs : _) (message : Bor (List ℕ)) (h s : _) → read_header.Learnt κs (message, tt) (Read h) s
+  pub size : (κs : _) (message : Bor (List ℕ)) (h s : _) → read_header.Learnt κs (message, tt) (Ok h) s
       → (h.size.0 * 2 ≡ length message.now) × (too_large h.size ≡ is_long (stored_in message.now))
   -- the same of `ulm_header`
   pub accepted_for_c : (κs : _) (message : Bor (List ℕ)) (r s : _) → Long message.now → ulm_header.Learnt κs (message, tt) r s
@@ -72,7 +71,7 @@ pub record LongRadial : Type 1 where
       → ulm_header.Learnt κs (message, tt) r s → r.refusal ≡ 0 → ulm_header.Learnt κs' (message', tt) r' s' → r'.refusal ≡ 5
   -- ---- the writer: "uses the long form exactly when the short one can't hold the length"
   pub written : (κs given : _) (body : Bor (List ℕ)) (out size g b after : _)
-      → write_message.Learnt κs (given, (body, (out, tt))) (Written size) (g, (b, (at_last out after, tt))) → given.kind ≡ radial_type
+      → write_message.Learnt κs (given, (body, (out, tt))) (Ok size) (g, (b, (at_last out after, tt))) → given.kind ≡ radial_type
       → RadialForm body.now after
   pub written_for_c : (κs channel kind sequence date ms : _) (body : Bor (List ℕ)) (out r c k q d m b after : _)
       → ulm_write.Learnt κs (channel, (kind, (sequence, (date, (ms, (body, (out, tt))))))) r

@@ -2,10 +2,12 @@
 -- Of an entry's contract the pages say `frame_at.Learnt κs (stream, (place, tt)) r s`: what the contract of the compiled `frame_at` says of
 -- a call with these arguments that returned r and left its parameters as s. Rattle makes it from the `ensures` in src/; κs are the call's
 -- lifetimes. An output lent to be written is left as `at_last out after`: the same memory, which then holds `after`.
-use Rattle.std.specs.Prelude.{ℕ, ◌≡◌, true, List, [], ◌∷◌}
+use Rattle.std.specs.Prelude.{ℕ, ◌≡◌, true, List, [], ◌∷◌, Result}
 use Rattle.wire.specs.Properties.{One}
 use Rattle.wire.specs.Checks.{among, Check, AllHold, Blamed}
-use Rattle.wire.specs.Answers.{Answer, refused, given, Outcome, Promise}
+use Rattle.wire.specs.Answers.{Answer, refused, given, number_of, Outcome, Promise}
+use Rattle.wire.specs.Refusals.{number, number_in}
+use Rattle.wire.specs.declared.refusal.Refusal.{Refusal}
 
 -- the numbers of refusal, as docs/RULES.md and crates/wire/src/refusal.rt have them
 abbrev pub table : List ℕ
@@ -29,10 +31,10 @@ pub record Kept {R A : Type 0} (P : R → Type 0) (tell : R → Answer A) (ks : 
   pub told : (r : R) → P r → tell r ≡ right
   pub by_checks : ByChecks ks right
 
--- the same for an entry that returns a struct: it is what `show` makes of the rule's answer
-pub record KeptStruct {R A : Type 0} (P : R → Type 0) (show : Answer A → R) (ks : List Check) (right : Answer A) : Type 0 where
+-- the same for an entry that returns nothing but whether it refuses: its number is the rule's
+pub record KeptNumber {T A : Type 0} (P : Result T Refusal → Type 0) (ks : List Check) (right : Answer A) : Type 0 where
   pub one : One P
-  pub shown : (r : R) → P r → r ≡ show right
+  pub told : (r : Result T Refusal) → P r → number_in r ≡ number_of right
   pub by_checks : ByChecks ks right
 
 -- the same for an entry that writes to lent memory, one output or two, which held `out`: "A refusal changes no lent byte"
@@ -42,6 +44,12 @@ pub record KeptLent {R O A : Type 0} (P : R → O → Type 0) (tell : R → Answ
   pub told : (r : R) (after : O) → P r after → Promise tell right r after
   pub by_checks : ByChecks ks right.answer
   pub untouched : (r : R) (after : O) (n : ℕ) → P r after → right.answer ≡ refused n → after ≡ out
+
+-- the refusal with a number, of which P holds: no two have the same number
+pub record RefusedAs (P : Refusal → Type 0) (n : ℕ) : Type 0 where
+  pub refusal : Refusal
+  pub numbered : number refusal ≡ n
+  pub is : P refusal
 
 -- ---- an entry by its contract P and the C function by its contract Q, of an answer and what then stands in what was lent, one output or
 -- two

@@ -2,7 +2,9 @@
 -- of the same length, is accepted too and gives the same header and the same body; and that a set refused as 12, or refused as 13, is
 -- refused by the same number in every rearrangement. Other numbers are exempt." The results of every call of the compiled `read_set` and of
 -- `ulm_set`. What a rearrangement is, and which numbers are the others, stands in Theorems of `set_order`.
-use Rattle.std.specs.Prelude.{ℕ, ◌≡◌, length}
+use Rattle.std.specs.Prelude.{ℕ, ◌≡◌, length, Result, Ok, Err}
+use Rattle.wire.specs.Refusals.{number}
+use Rattle.wire.specs.declared.refusal.Refusal.{Refusal}
 use mathlib.Core.List.{List, [], ◌∷◌, ◌++◌, flatten, Memᴰ}
 use contract.Lifetimes.{Lfts}
 use denote.Ref.{Bor, MutBor, at_last}
@@ -16,14 +18,13 @@ use Rattle.header.specs.Theorems.{Lone}
 use Rattle.header_form.specs.Theorems.{Long}
 use Rattle.set_spec.specs.Theorems.{Frames}
 use Rattle.set_order.specs.Theorems.{Rearranged, Merged, AfterAll, InTurn, BothInTurn, Differ}
-use Rattle.set.specs.declared.SetAnswer.{SetAnswer}
-use Rattle.set.specs.declared.SetAnswer.TheVariants.{Set, Refused}
+use Rattle.set.specs.declared.Set.{Set}
 use Rattle.set.specs.Told.{tell_set}
 use Rattle.set.proofs.read_set.Reads as read_set
 use Rattle.c_set.specs.declared.UlmSet.{UlmSet}
 use Rattle.c_set.specs.Face.{set_face}
 use Rattle.ulm.proofs.ulm_set.Reads as ulm_set
-use Rattle.demands.specs.Notions.{Comes}
+use Rattle.demands.specs.Notions.{Comes, RefusedAs}
 use Rattle.demands.specs.LoneSegment.{ButLoneNumber}
 
 -- a call of either: its lifetimes, the buffer and the output that it is lent, and the buffer as it leaves it
@@ -34,22 +35,22 @@ pub record Call : Type 0 where
   pub buf' : Bor (List ℕ)
 
 -- what the contract says of a call that returned r and left this in the output: of `read_set`, and of `ulm_set`
-abbrev pub Reads : Call → SetAnswer → List ℕ → Type 0
+abbrev pub Reads : Call → Result Set Refusal → List ℕ → Type 0
 Reads c r after = read_set.Learnt c.κs (c.buf, (c.out, tt)) r (c.buf', (at_last c.out after, tt))
 
 abbrev pub ReadsForC : Call → UlmSet → List ℕ → Type 0
 ReadsForC c r after = ulm_set.Learnt c.κs (c.buf, (c.out, tt)) r (c.buf', (at_last c.out after, tt))
 
 -- the result of both calls
-abbrev pub Ends : Call → SetAnswer → List ℕ → Type 0
+abbrev pub Ends : Call → Result Set Refusal → List ℕ → Type 0
 Ends c r after = Comes (Reads c) (ReadsForC c) r (set_face (tell_set r)) after
 
 -- accepted: the header h, the body's length, and in the output the body and after it what stood there
 abbrev pub Accepts : Call → Header → List ℕ → Type 0
-Accepts c h body = Ends c (Set h (bytes (length body))) (filled body c.out.now)
+Accepts c h body = Ends c (Ok (record { header = h; length = bytes (length body) })) (filled body c.out.now)
 
 abbrev pub Refuses : Call → ℕ → Type 0
-Refuses c n = Ends c (Refused n) c.out.now
+Refuses c n = RefusedAs (λ r. Ends c (Err r) c.out.now) n
 
 -- the three ends that the request speaks of: known after all frames
 pub data Settled (c : Call) : Type 0 where
@@ -70,10 +71,10 @@ pub record Reordered (c d : Call) : Type 0 where
 
 pub record OrderOfArrival : Type 0 where
   -- ---- every call accepts with one body, or refuses, so that what follows is about every call
-  pub accepts : (c : Call) (h : Header) (long : Bytes) (after : List ℕ) → Reads c (Set h long) after → (body : List ℕ) × Accepts c h body
+  pub accepts : (c : Call) (set : Set) (after : List ℕ) → Reads c (Ok set) after → (body : List ℕ) × Accepts c set.header body
   pub accepts_for_c : (c : Call) (r : UlmSet) (after : List ℕ) → ReadsForC c r after → r.refusal ≡ 0
       → (p : Header × List ℕ) × Accepts c p.0 p.1
-  pub refuses : (c : Call) (n : ℕ) (after : List ℕ) → Reads c (Refused n) after → Refuses c n
+  pub refuses : (c : Call) (r : Refusal) (after : List ℕ) → Reads c (Err r) after → Refuses c (number r)
   pub refuses_for_c : (c : Call) (r : UlmSet) (after : List ℕ) → ReadsForC c r after → (r.refusal ≡ 0 → ⊥) → Refuses c r.refusal
   -- ---- "its whole frames": a buffer that is accepted, or refused as 12 or 13, is a list of them, and of one list only
   pub one_list : (c : Call) → Settled c → One (Frames c.buf.now)

@@ -1,6 +1,8 @@
 -- K2. "Compare two filter maps.": the result of every call of the compiled `compare` and of `ulm_compare_maps`. `Compared` defines what is
 -- listed, over the codes of the two maps: sound, complete, of longest runs and in order.
-use Rattle.std.specs.Prelude.{ℕ, ◌*◌, ◌≤◌, ◌<◌, ◌≡◌, List, map, length}
+use Rattle.std.specs.Prelude.{ℕ, ◌*◌, ◌≤◌, ◌<◌, ◌≡◌, List, map, length, Result, Ok, Err}
+use Rattle.wire.specs.declared.refusal.Refusal.{Refusal}
+use Rattle.compare.specs.declared.MapComparison.{MapComparison}
 use contract.Lifetimes.{Lfts}
 use denote.Ref.{Bor, MutBor, at_last}
 use Rattle.wire.specs.Properties.{One}
@@ -12,13 +14,11 @@ use Rattle.map_spec.specs.Reading.{map_of}
 use Rattle.compare_spec.specs.Differences.{Difference, swapped}
 use Rattle.compare_spec.specs.Compared.{Compared}
 use Rattle.compare_spec.specs.Comparing.{halfwords, most_halfwords}
-use Rattle.compare.specs.declared.CompareAnswer.{CompareAnswer}
-use Rattle.compare.specs.declared.CompareAnswer.TheVariants.{Compared as Told, Refused}
 use Rattle.compare.proofs.compare.Reads as compare
 use Rattle.c_compare.specs.declared.UlmComparison.{UlmComparison}
 use Rattle.c_compare.specs.Face.{comparison_face}
 use Rattle.ulm.proofs.ulm_compare_maps.Reads as ulm_compare_maps
-use Rattle.demands.specs.Notions.{Comes}
+use Rattle.demands.specs.Notions.{Comes, RefusedAs}
 
 -- a call of either: its lifetimes, the two bodies and the output that it is lent, and the bodies as it leaves them
 pub record Call : Type 0 where
@@ -30,7 +30,7 @@ pub record Call : Type 0 where
   pub new' : Bor (List ℕ)
 
 -- what the contract says of a call that returned r and left `after` in the output: of `compare`, and of `ulm_compare_maps`
-abbrev pub Compares : Call → CompareAnswer → List ℕ → Type 0
+abbrev pub Compares : Call → Result MapComparison Refusal → List ℕ → Type 0
 Compares c r after = compare.Learnt c.κs (c.old, (c.new, (c.out, tt))) r (c.old', (c.new', (at_last c.out after, tt)))
 
 abbrev pub ComparesForC : Call → UlmComparison → List ℕ → Type 0
@@ -38,17 +38,17 @@ ComparesForC c r after = ulm_compare_maps.Learnt c.κs (c.old, (c.new, (c.out, t
     (c.old', (c.new', (at_last c.out after, tt)))
 
 -- the result of both calls
-abbrev pub Ends : Call → CompareAnswer → UlmComparison → List ℕ → Type 0
+abbrev pub Ends : Call → Result MapComparison Refusal → UlmComparison → List ℕ → Type 0
 Ends c = Comes (Compares c) (ComparesForC c)
 
 -- "all 0 on refusal", "with nothing written"
 abbrev pub Refuses : Call → ℕ → Type 0
-Refuses c number = Ends c (Refused number) (comparison_face (refused number)) c.out.now
+Refuses c n = RefusedAs (λ r. Ends c (Err r) (comparison_face (refused n)) c.out.now) n
 
 -- "both elevation counts and the number of differences are reported"
 abbrev pub Reports : Call → ℕ → ℕ → ℕ → List ℕ → Type 0
 Reports c older newer count left =
-    Ends c (Told older newer count) (record { refusal = 0; old_elevations = older; new_elevations = newer; differences = count }) left
+    Ends c (Ok (record { old_elevations = older; new_elevations = newer; differences = count })) (record { refusal = 0; old_elevations = older; new_elevations = newer; differences = count }) left
 
 -- the six halfwords of each difference from the output's start on, and after them what stood there
 abbrev pub Lists : Call → FilterMap → FilterMap → List Difference → Type 0
@@ -88,7 +88,7 @@ pub record TwoMaps : Type 0 where
       → Refuses c 13
   pub listed : (c : Call) (f : Fits c.old.now c.new.now c.out.now) → Lists c f.m f.n f.ds
   -- a call is accepted only if both maps are good and there is room
-  pub accepted : (c : Call) (older newer count : ℕ) (after : List ℕ) → Compares c (Told older newer count) after
+  pub accepted : (c : Call) (told : MapComparison) (after : List ℕ) → Compares c (Ok told) after
       → Fits c.old.now c.new.now c.out.now
   pub accepted_for_c : (c : Call) (r : UlmComparison) (after : List ℕ) → ComparesForC c r after → r.refusal ≡ 0
       → Fits c.old.now c.new.now c.out.now
@@ -102,4 +102,4 @@ pub record TwoMaps : Type 0 where
   pub swap : (c : Call) (f : Fits c.new.now c.old.now c.out.now) → Lists c f.n f.m (map swapped f.ds)
   -- "Date and time aren't compared": two calls whose maps differ only in these have the same result
   pub undated : (c d : Call) → ButDate c.old.now d.old.now → ButDate c.new.now d.new.now → c.out.now ≡ d.out.now
-      → (answer : CompareAnswer) (struct : UlmComparison) (left : List ℕ) → Ends c answer struct left → Ends d answer struct left
+      → (answer : Result MapComparison Refusal) (struct : UlmComparison) (left : List ℕ) → Ends c answer struct left → Ends d answer struct left

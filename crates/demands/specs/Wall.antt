@@ -1,18 +1,16 @@
 -- From the stream to the display: the gates that the renderer paints are the buffer's own bytes, at the range given by the frame, the
 -- header and the block's pointer. They lie inside that frame and are the moment's codes, one word each.
-use Rattle.std.specs.Prelude.{ℕ, ◌+◌, ◌-◌, ◌≤◌, ◌≡◌, List, map, length}
+use Rattle.std.specs.Prelude.{ℕ, ◌+◌, ◌-◌, ◌≤◌, ◌≡◌, List, map, length, Ok, Some}
 use Rattle.std.specs.Borrow.{Bor}
 use Rattle.wire.specs.Numbers.{num, Octets}
 use Rattle.wire.specs.Tables.{field, render}
 use Rattle.wire.specs.Answers.{given}
 use Rattle.frame.specs.Session.{head_size, data_kind}
 use Rattle.frame.specs.declared.Frame.{Frame}
-use Rattle.frame.specs.declared.FrameAnswer.TheVariants.{Read}
 use Rattle.frame.proofs.frame_at.Reads as frame_at
 use Rattle.header_rule.specs.Rules.{radial_type}
 use Rattle.header.specs.Header.{header_size}
 use Rattle.header.specs.declared.Header.{Header}
-use Rattle.header.specs.declared.HeaderAnswer.TheVariants.{Read as ReadHeader}
 use Rattle.header.proofs.read_header.Reads as read_header
 use Rattle.radial_spec.specs.Description.{moment_head, Moment, word_bytes, gate_bytes}
 use Rattle.radial_spec.specs.Lookups.{moment_of, Part}
@@ -24,10 +22,10 @@ use Rattle.radial_gates.proofs.gates.Reads as gates_of
 pub record Walked (κs₁ κs₂ κs₃ s₁ s₂ s₃ : _) (buffer message body gates : Bor (List ℕ)) (place : ℕ) (name : List ℕ) (f : Frame)
     (h : Header) (m : Moment) : Type 0
   where
-    pub framed : frame_at.Learnt κs₁ (buffer, (place, tt)) (Read f) s₁
+    pub framed : frame_at.Learnt κs₁ (buffer, (place, tt)) (Ok (Some f)) s₁
     pub carries : f.kind ≡ data_kind
     pub taken : LiesAt buffer message (record { place = f.start; size = f.size.0 })
-    pub headed : read_header.Learnt κs₂ (message, tt) (ReadHeader h) s₂
+    pub headed : read_header.Learnt κs₂ (message, tt) (Ok h) s₂
     pub typed : h.kind ≡ radial_type
     pub after : LiesAt message body (record { place = header_size; size = f.size.0 - header_size })
     pub bytes : Octets body.now

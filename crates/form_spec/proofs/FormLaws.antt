@@ -1,15 +1,13 @@
 -- Bodies by a table of ranges: what is read of one is its table, and reading and writing undo each other. Assumes nothing.
-use Prim.Native.Nat.{ℕ, zero, suc, ◌+◌, ◌*◌, ◌-◌, ◌^◌, ◌≤◌, ◌<◌}
+use Prim.Native.Nat.{ℕ, zero, suc, ◌+◌, ◌*◌, ◌^◌, ◌≤◌, ◌<◌}
 use native.Mathlib.Omega.{arith}
-use native.Mathlib.Nat.{mul-suc}
-use native.Mathlib.Numerals.{add-one}
 use mathlib.Core.Path.{◌≡◌, refl, sym, ap, ◌∙◌, subst}
-use mathlib.Core.Bool.{Bool, true, false, not}
+use mathlib.Core.Bool.{Bool, false, not}
 use mathlib.Core.List.{List, [], ◌∷◌, ◌++◌, append-nil, append_assoc, map}
-use borrow.Author.Tests.{eqb-true, eq-eqb, not-false, lt-ltb, le-ltb}
+use borrow.Author.Tests.{eqb-true, eq-eqb, not-false, le-ltb}
 use lib.Dec.{ltb}
 use lib.ListN.{length, get_or, take, drop, length-append}
-use lib.Seq.{take_all, drop-drop, get_or-drop}
+use lib.Seq.{take_all, drop-drop, drop_at, get_or-drop}
 use Rattle.wire.specs.Properties.{Each}
 use Rattle.wire.specs.Numbers.{num, nums, Octets}
 use Rattle.wire.specs.Tables.{Field, field, render, total, Fit, Spells}
@@ -25,10 +23,6 @@ use Rattle.wire.proofs.TableLaws.{render-length, reads_back, spelt}
 use Rattle.wire.proofs.WriteLaws.{accepted, wrote_all}
 
 -- ---- ranges
-pub outside_below : (x least most : ℕ) → x < least → outside (within least most) x ≡ true
-unfolding outside
-outside_below x least most h = simp (lt-ltb x least h)
-
 pub outside_from : (x least most : ℕ) → least ≤ x → outside (within least most) x ≡ ltb most x
 unfolding outside
 outside_from x least most h = simp (le-ltb x least h)
@@ -38,21 +32,6 @@ outside_from x least most h = simp (le-ltb x least h)
 pub fields_24 : (rs : List Row) (list : List ℕ) → AllNumbered 24 (field_checks rs list)
 fields_24 [] list = tt
 fields_24 (r ∷ rs) list = (refl, fields_24 rs (drop 1 list))
-
--- the same by the numbers' places in the list: one test after the other, and then what t says
-abbrev pub fields_then : List Row → ℕ → List ℕ → Bool → Bool
-fields_then [] k list t = t
-fields_then (r ∷ rs) k list t = either (outside r.range (get_or list k 0)) (fields_then rs (suc k) list t)
-
-pub fields_by_place : (rs : List Row) (k : ℕ) (list : List ℕ) → some_broken (field_checks rs (drop k list)) ≡ fields_then rs k list false
-fields_by_place [] k list = refl
-fields_by_place (r ∷ rs) k list =
-    let e : k + 0 ≡ k = omega arith in
-    let x : get_or (drop k list) 0 0 ≡ get_or list k 0 = get_or-drop k list 0 0 ∙ ap (λ (i : ℕ). get_or list i 0) e in
-    ap (λ (v : ℕ). either (outside r.range v) (some_broken (field_checks rs (drop 1 (drop k list))))) x
-    ∙ ap (λ (l : List ℕ). either (outside r.range (get_or list k 0)) (some_broken (field_checks rs l)))
-    (drop-drop 1 k list ∙ ap (λ (i : ℕ). drop i list) (add-one k))
-    ∙ ap (λ (t : Bool). either (outside r.range (get_or list k 0)) t) (fields_by_place rs (suc k) list)
 
 -- rows after rows
 pub fields-append : (rs ss : List Row) (list : List ℕ)
@@ -95,21 +74,16 @@ fields_alone [] l t h = refl
 fields_alone (r ∷ rs) [] t h = absurd (omega arith)
 fields_alone (r ∷ rs) (x ∷ l) t h = ap (λ (ks : List Check). check 24 (outside r.range x) ∷ ks) (fields_alone rs l t (omega arith))
 
--- rows n times, from number i on: those of number i, and those after it
-pub times-next : (rows : List Row) (n i : ℕ) (l : List ℕ) → i < n
-    → some_broken (field_checks (times (n - i) rows) (drop (length rows * i) l))
-    ≡ either (some_broken (field_checks rows (drop (length rows * i) l)))
-    (some_broken (field_checks (times (n - (i + 1)) rows) (drop (length rows * (i + 1)) l)))
-times-next rows n i l h =
-    let rest = drop (length rows * i) l in
-    let m : n - i ≡ suc (n - (i + 1)) = omega arith in
-    let k : length rows * i + length rows ≡ length rows * (i + 1) = sym (ap (λ (j : ℕ). length rows * j) (add-one i)
-    ∙ mul-suc (length rows) i) in
-    ap (λ (j : ℕ). some_broken (field_checks (times j rows) rest)) m
-    ∙ ap some_broken (fields-append rows (times (n - (i + 1)) rows) rest)
-    ∙ some_broken-append (field_checks rows rest) (field_checks (times (n - (i + 1)) rows) (drop (length rows) rest))
-    ∙ ap (λ (x : List ℕ). either (some_broken (field_checks rows rest)) (some_broken (field_checks (times (n - (i + 1)) rows) x)))
-    (drop-drop (length rows) (length rows * i) l ∙ ap (λ (j : ℕ). drop j l) k)
+-- rows once more: those of the first numbers, and those after them
+pub times-next : (rows : List Row) (n : ℕ) (x rest : List ℕ) → length x ≡ length rows
+    → some_broken (field_checks (times (suc n) rows) (x ++ rest))
+    ≡ either (some_broken (field_checks rows x)) (some_broken (field_checks (times n rows) rest))
+times-next rows n x rest h =
+    ap some_broken
+    (fields-append rows (times n rows) (x ++ rest)
+    ∙ ap (λ (l : List ℕ). field_checks rows (x ++ rest) ++ field_checks (times n rows) l) (drop_at x rest (length rows) h)
+    ∙ ap (λ (ks : List Check). ks ++ field_checks (times n rows) rest) (fields_alone rows x rest (omega arith)))
+    ∙ some_broken-append (field_checks rows x) (field_checks (times n rows) rest)
 
 pub times-count : (n : ℕ) (rows : List Row) → length (times n rows) ≡ n * length rows
 times-count zero rows = omega arith

@@ -6,7 +6,8 @@ ghost use Rattle.wire.specs.Answers.{rule};
 ghost use Rattle.frame.specs.Session.{frame, frame_checks, frame_in, frame_at};
 ghost use Rattle.frame.specs.Told.{tell_frame};
 
-use wire::{Bytes, refusal};
+use wire::Bytes;
+use wire::refusal::Refusal;
 
 // A frame as it stands in the buffer: its body begins at `start`, the next frame at `next`.
 #[derive(Clone, Copy)]
@@ -16,13 +17,6 @@ pub struct Frame {
     pub start: usize,
     pub size: Bytes,
     pub next: usize,
-}
-
-#[derive(Clone, Copy)]
-pub enum FrameAnswer {
-    End,
-    Read(Frame),
-    Refused(u8),
 }
 
 // The bytes before a frame's body.
@@ -39,45 +33,45 @@ pub const SESSION_LIMIT: u32 = wire::LONGEST_MESSAGE;
 // The bytes of the longest frame.
 pub const LONGEST: usize = HEAD + SESSION_LIMIT as usize;
 
-// The frame at a place of the stream, or its end. The caller keeps the place: a refused read does not change it.
-pub fn frame_at(stream: &[u8], place: usize) -> FrameAnswer
+// The frame at a place of the stream, or None at its end. The caller keeps the place: a refused read does not change it.
+pub fn frame_at(stream: &[u8], place: usize) -> Result<Option<Frame>, Refusal>
     ensures { tell_frame result ≡ frame_at stream.now place }
 {
     if place == stream.len() {
-        return FrameAnswer::End;
+        return Ok(None);
     }
     if stream.len() < place {
-        return FrameAnswer::Refused(refusal::FRAME_CUT_OFF);
+        return Err(Refusal::FrameCutOff);
     }
     frame_in(&stream[place..], place)
 }
 
-fn frame_in(rest: &[u8], place: usize) -> FrameAnswer
+fn frame_in(rest: &[u8], place: usize) -> Result<Option<Frame>, Refusal>
     requires { place + length rest.now < 2 ^ 63 }
     ensures { tell_frame result ≡ rule (frame_checks rest.now) (frame (frame_in rest.now place)) }
 {
     if rest.len() < HEAD {
-        return FrameAnswer::Refused(refusal::FRAME_CUT_OFF);
+        return Err(Refusal::FrameCutOff);
     }
-    let kind = wire::fetch32(rest, 0);
+    let kind = wire::fetch::<u32>(rest, 0);
     if LAST_KIND < kind {
-        return FrameAnswer::Refused(refusal::SESSION_KIND);
+        return Err(Refusal::SessionKind);
     }
-    let size = wire::fetch32(rest, 8);
+    let size = wire::fetch::<u32>(rest, 8);
     if SESSION_LIMIT < size {
-        return FrameAnswer::Refused(refusal::SESSION_BODY);
+        return Err(Refusal::SessionBody);
     }
     let long = size as usize;
     if rest.len() - HEAD < long {
-        return FrameAnswer::Refused(refusal::FRAME_CUT_OFF);
+        return Err(Refusal::FrameCutOff);
     }
-    let second = wire::fetch32(rest, 4);
+    let second = wire::fetch::<u32>(rest, 4);
     let start = place + HEAD;
-    FrameAnswer::Read(Frame {
+    Ok(Some(Frame {
         kind,
         second,
         start,
         size: Bytes(size),
         next: start + long,
-    })
+    }))
 }

@@ -1,33 +1,32 @@
 -- What the contract of each public function says of a call, as Rattle reads it from src/ (`Learnt`): its promise, and that no two results
 -- of one call meet it. Assumes nothing.
 use mathlib.Core.Path.{◌≡◌, refl}
+use Rattle.std.specs.Prelude.{Result}
+use Rattle.wire.specs.declared.refusal.Refusal.{Refusal}
 use Rattle.wire.proofs.AnswerLaws.{only_answer}
+use Rattle.wire.proofs.RefusalLaws.{tell_apart}
 use Rattle.wire.proofs.CheckLaws.{never}
 use Rattle.wire.specs.Numbers.{num}
-use Rattle.gate_value.specs.Told.{tell_gate}
+use Rattle.gate_value.specs.Told.{meaning, tell_gate}
 use Rattle.gate_value.specs.Value.{gate_of, value_of}
-use Rattle.gate_value.specs.declared.GateAnswer.{GateAnswer}
-use Rattle.gate_value.specs.declared.GateAnswer.TheVariants.{Value, BelowThreshold, RangeFolded, Refused}
+use Rattle.gate_value.specs.declared.Gate.{Gate}
+use Rattle.gate_value.specs.declared.Gate.TheVariants.{Value, BelowThreshold, RangeFolded}
 use Rattle.gate_value.proofs.value.Reads as value
 use Rattle.gate_value.proofs.gate_value.Reads as gate_value
 
-pub gate_apart : (a b : GateAnswer) → tell_gate a ≡ tell_gate b → a ≡ b
-gate_apart (Value v) (Value w) e = cc e
-gate_apart (Value v) BelowThreshold e = never (cc e)
-gate_apart (Value v) RangeFolded e = never (cc e)
-gate_apart (Value v) (Refused m) e = never (cc e)
-gate_apart BelowThreshold (Value w) e = never (cc e)
-gate_apart BelowThreshold BelowThreshold e = refl
-gate_apart BelowThreshold RangeFolded e = never (cc e)
-gate_apart BelowThreshold (Refused m) e = never (cc e)
-gate_apart RangeFolded (Value w) e = never (cc e)
-gate_apart RangeFolded BelowThreshold e = never (cc e)
-gate_apart RangeFolded RangeFolded e = refl
-gate_apart RangeFolded (Refused m) e = never (cc e)
-gate_apart (Refused n) (Value w) e = never (cc e)
-gate_apart (Refused n) BelowThreshold e = never (cc e)
-gate_apart (Refused n) RangeFolded e = never (cc e)
-gate_apart (Refused n) (Refused m) e = cc e
+meaning_apart : (a b : Gate) → meaning a ≡ meaning b → a ≡ b
+meaning_apart (Value v) (Value w) e = cc e
+meaning_apart (Value v) BelowThreshold e = never (cc e)
+meaning_apart (Value v) RangeFolded e = never (cc e)
+meaning_apart BelowThreshold (Value w) e = never (cc e)
+meaning_apart BelowThreshold BelowThreshold e = refl
+meaning_apart BelowThreshold RangeFolded e = never (cc e)
+meaning_apart RangeFolded (Value w) e = never (cc e)
+meaning_apart RangeFolded BelowThreshold e = never (cc e)
+meaning_apart RangeFolded RangeFolded e = refl
+
+pub gate_apart : (a b : Result Gate Refusal) → tell_gate a ≡ tell_gate b → a ≡ b
+gate_apart = tell_apart meaning meaning_apart
 
 pub value-says : (κs code scale offset r last : _) → value.Learnt κs (code, (scale, (offset, tt))) r last
     → tell_gate r ≡ value_of code scale offset

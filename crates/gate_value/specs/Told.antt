@@ -1,11 +1,16 @@
--- What each case of an answer means: the number of refusal, or the values.
-use Rattle.wire.specs.Answers.{Answer, refused, given}
-use Rattle.gate_value.specs.declared.GateAnswer.{GateAnswer}
-use Rattle.gate_value.specs.declared.GateAnswer.TheVariants.{Value, BelowThreshold, RangeFolded, Refused}
+-- What each case of an answer means: the number of refusal, or the meaning of the code.
+use Rattle.std.specs.Prelude.{Result}
+use Rattle.wire.specs.Answers.{Answer}
+use Rattle.wire.specs.Refusals.{tell}
+use Rattle.wire.specs.declared.refusal.Refusal.{Refusal}
+use Rattle.gate_value.specs.declared.Gate.{Gate}
+use Rattle.gate_value.specs.declared.Gate.TheVariants.{Value, BelowThreshold, RangeFolded}
 use Rattle.gate_value.specs.Value.{Worth, below_threshold, range_folded, worth}
 
-abbrev pub tell_gate : GateAnswer → Answer Worth
-tell_gate (Value v) = given (worth v)
-tell_gate BelowThreshold = given below_threshold
-tell_gate RangeFolded = given range_folded
-tell_gate (Refused n) = refused n
+abbrev pub meaning : Gate → Worth
+meaning (Value v) = worth v
+meaning BelowThreshold = below_threshold
+meaning RangeFolded = range_folded
+
+abbrev pub tell_gate : Result Gate Refusal → Answer Worth
+tell_gate = tell meaning

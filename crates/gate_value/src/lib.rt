@@ -4,19 +4,19 @@
 ghost use Rattle.std.specs.Prelude.{◌≡◌, false};
 ghost use Rattle.wire.specs.Numbers.{num};
 ghost use Rattle.wire.specs.Checks.{some_broken};
-ghost use Rattle.wire.specs.Answers.{given};
 ghost use Rattle.gate_value.specs.Value.{float, not_finite, value_checks, worth_by, value_of, gate_of};
-ghost use Rattle.gate_value.specs.Told.{tell_gate};
+ghost use Rattle.gate_value.specs.Told.{meaning, tell_gate};
 
-use radial::{CodeAnswer, Name};
-use wire::{INFINITE, SIGN, refusal};
+use radial::Name;
+use wire::refusal::Refusal;
+use wire::{INFINITE, SIGN};
 
+// The meaning of a code.
 #[derive(Clone, Copy)]
-pub enum GateAnswer {
+pub enum Gate {
     Value(f32),
     BelowThreshold,
     RangeFolded,
-    Refused(u8),
 }
 
 // The float with these 32 bits, which are those of a finite float.
@@ -31,50 +31,36 @@ fn finite_of(bits: u32) -> f32
 fn breaks_value(scale: u32, offset: u32) -> bool
     ensures { result ≡ some_broken (value_checks scale offset) }
 {
-    if scale == 0 {
-        return true;
-    }
-    if INFINITE <= scale {
-        return true;
-    }
-    INFINITE <= offset % SIGN
+    scale == 0 || INFINITE <= scale || INFINITE <= offset % SIGN
 }
 
 // The meaning of a code, with a scale and an offset that are not refused.
-fn worth(code: u16, scale: f32, offset: f32) -> GateAnswer
-    ensures { tell_gate result ≡ given (worth_by code scale offset) }
+fn worth(code: u16, scale: f32, offset: f32) -> Gate
+    ensures { meaning result ≡ worth_by code scale offset }
 {
     if 1 < code {
-        return GateAnswer::Value((code as f32 - offset) / scale);
+        return Gate::Value((code as f32 - offset) / scale);
     }
     if code == 0 {
-        return GateAnswer::BelowThreshold;
+        return Gate::BelowThreshold;
     }
-    GateAnswer::RangeFolded
+    Gate::RangeFolded
 }
 
 // The meaning of a code, by the 32 bits of a moment's scale and offset: for a renderer that reads the lent gates itself.
-pub fn value(code: u16, scale: u32, offset: u32) -> GateAnswer
+pub fn value(code: u16, scale: u32, offset: u32) -> Result<Gate, Refusal>
     ensures { tell_gate result ≡ value_of code scale offset }
 {
     if breaks_value(scale, offset) {
-        return GateAnswer::Refused(refusal::SCALE_OR_OFFSET);
+        return Err(Refusal::ScaleOrOffset);
     }
-    worth(code, finite_of(scale), finite_of(offset))
+    Ok(worth(code, finite_of(scale), finite_of(offset)))
 }
 
 // The value of a gate (counted from 0) of the moment with a name, by the scale and the offset in the moment's head.
-pub fn gate_value(body: &[u8], name: Name, gate: usize) -> GateAnswer
+pub fn gate_value(body: &[u8], name: Name, gate: usize) -> Result<Gate, Refusal>
     ensures { tell_gate result ≡ gate_of body.now (num 4 name 0) gate }
 {
-    match radial::code(body, name, gate) {
-        CodeAnswer::Refused(number) => GateAnswer::Refused(number),
-        CodeAnswer::Code(found) => {
-            let head = found.head;
-            if breaks_value(head.scale_bits, head.offset_bits) {
-                return GateAnswer::Refused(refusal::SCALE_OR_OFFSET);
-            }
-            worth(found.code, head.scale, head.offset)
-        }
-    }
+    let found = radial::code(body, name, gate)?;
+    value(found.code, found.head.scale_bits, found.head.offset_bits)
 }

@@ -7,26 +7,20 @@ use native.Mathlib.Omega.{arith}
 use lib.Dec.{ltb, eqb}
 use lib.ListN.{length}
 use borrow.Author.Tests.{lt-ltb, le-ltb, ne_eqb, ltb-false, eqb-true}
-use Rattle.wire.specs.Numbers.{num, fetched}
+use Rattle.wire.specs.Numbers.{fetched}
 use Rattle.wire.specs.Checks.{pick, both, Check, check, decide, some_broken}
 use Rattle.wire.specs.Answers.{refused, given}
 use Rattle.wire.specs.Sizes.{halfwords, halved}
-use Rattle.wire.specs.declared.Halfwords.{Halfwords}
 use Rattle.wire.proofs.CheckLaws.{never, pick_same, both_true, AllAbove0, AllNumbered, decide-same, decide_number}
 use Rattle.wire.proofs.EachLaws.{each_append}
 use Rattle.wire.proofs.NumberLaws.{fetched-whole}
-use Rattle.header_rule.proofs.RuleLaws.{by_form, marked_large}
+use Rattle.header_rule.proofs.RuleLaws.{by_form, marked_large, number_twice}
 use Rattle.header.specs.declared.Header.{Header}
-use Rattle.header.specs.declared.Stored.{Stored}
+use Rattle.header_rule.specs.declared.Stored.{Stored}
 use Rattle.header_rule.specs.Rules.{marked, length_in, reported_number, size_checks, not_permitted, segment_checks, time_checks}
 use Rattle.header.specs.Header.{header_size, channel_place, sequence_place, count_place, number_place, stored_in, is_long, size_of, count_of, as_reported}
 use Rattle.header.specs.Header.{header_in, header_of, form_checks_of, later_checks, header_checks}
-use Rattle.header.specs.Steps.{stored_or0, counted_checks, refusal_of, accepted_short, reported_short}
-
--- the segments' rules asked of the size and the N that count
-pub segments_told : (s : Stored) (size : Halfwords) (n : ℕ) (r : Bool) → size ≡ size_of s → n ≡ count_of s
-    → r ≡ some_broken (segment_checks size s.kind n (reported_number n s.number)) → r ≡ some_broken (counted_checks s)
-segments_told s size n r z c e = e ∙ (λ i. some_broken (segment_checks (z i) s.kind (c i) (reported_number (c i) s.number)))
+use Rattle.header.specs.Steps.{stored_or0, refusal_of, accepted_short, reported_short}
 
 -- the checks of a message of `long` bytes with the stored values s, one test for each number
 module _ (s : Stored) (long : ℕ) where
@@ -34,7 +28,7 @@ module _ (s : Stored) (long : ℕ) where
   forms = form_checks_of s long
 
   abbrev segs : List Check
-  segs = counted_checks s
+  segs = segment_checks (size_of s) s.kind (count_of s) (reported_number (count_of s) s.number)
 
   abbrev times : List Check
   times = time_checks s.date s.milliseconds
@@ -66,11 +60,15 @@ module _ (s : Stored) (long : ℕ) where
   unfolding refusal_of
   refusal_is = header-decides (λ (n : ℕ). n) 0
 
-  pub refusal_by : (n : ℕ)
+  -- by the header reported, whose number is the one reported already
+  pub refusal_by : (h : Header) → h ≡ as_reported s → (n : ℕ)
       → n ≡ pick (ltb long header_size) 4
-      (pick (some_broken forms) 5 (pick (not_permitted s.kind) 6 (pick (some_broken segs) 7 (pick (some_broken times) 8 0))))
+      (pick (some_broken forms) 5
+      (pick (not_permitted h.kind) 6
+      (pick (some_broken (segment_checks h.size h.kind h.segments (reported_number h.segments h.number))) 7
+      (pick (some_broken (time_checks h.date h.milliseconds)) 8 0))))
       → n ≡ refusal_of s long
-  refusal_by n e = e ∙ sym refusal_is
+  refusal_by h is n e = rw (is, number_twice) at e ∙ sym refusal_is
 
   -- whether it is accepted in the short form, by the short form's tests
   abbrev sizes : List Check
@@ -191,12 +189,12 @@ module _ (b : List ℕ) (s : Stored) (n : ℕ) (looked : s ≡ stored_or0 b) (to
       go true l = never (cc (sym (too_short l).1 ∙ e))
       go false l = whole l ∙ simp e (ap given (sym q))
 
-  pub header_refused : (n ≡ 0 → ⊥) → header_of b ≡ refused n
-  header_refused e = go (ltb (length b) header_size) refl
+  pub header_refused : 0 < n → header_of b ≡ refused n
+  header_refused above = go (ltb (length b) header_size) refl
     where
       go : (t : Bool) → ltb (length b) header_size ≡ t → header_of b ≡ refused n
       go true l = (too_short l).0
-      go false l = whole l ∙ simp (ne_eqb n 0 e)
+      go false l = whole l ∙ simp (ne_eqb n 0 (λ e. omega (arith, above, e)))
 
 -- a message that is accepted in the short form answers what is reported of it
 module _ (b : List ℕ) (s : Stored) (t : Bool) (looked : s ≡ stored_or0 b) (told : t ≡ accepted_short s (length b)) (yes : t ≡ true) where

@@ -3,12 +3,14 @@
 use mathlib.Core.List.{[]}
 use mathlib.Core.Path.{◌≡◌, sym, ◌∙◌}
 use Rattle.wire.proofs.AnswerLaws.{only_answer}
-use Rattle.wire.proofs.CheckLaws.{never}
+use Rattle.wire.proofs.RefusalLaws.{tell_apart, number_in-apart}
+use Rattle.wire.specs.Refusals.{number_in}
+use Rattle.wire.specs.declared.refusal.Refusal.{Refusal}
+use Rattle.std.specs.Prelude.{Result}
 use Rattle.header.specs.Header.{header_in, header_of}
 use Rattle.header.specs.Steps.{accepted_short, refusal_of, reported_short, stored_or0}
 use Rattle.header.specs.Told.{tell_header}
-use Rattle.header.specs.declared.HeaderAnswer.{HeaderAnswer}
-use Rattle.header.specs.declared.HeaderAnswer.TheVariants.{Read, Refused}
+use Rattle.header.specs.declared.Header.{Header}
 use Rattle.header.proofs.read_header.Reads as read_header
 use Rattle.header.proofs.stored_in.Reads as stored_in
 use Rattle.header.proofs.no_header.Reads as no_Header
@@ -17,11 +19,8 @@ use Rattle.header.proofs.accepts_short.Reads as accepts_short
 use Rattle.header.proofs.report_short.Reads as report_short
 use Rattle.header.proofs.check_header.Reads as check_header
 
-pub header_apart : (a b : HeaderAnswer) → tell_header a ≡ tell_header b → a ≡ b
-header_apart (Read g) (Read h) e = cc e
-header_apart (Read g) (Refused m) e = never (cc e)
-header_apart (Refused n) (Read h) e = never (cc e)
-header_apart (Refused n) (Refused m) e = cc e
+pub header_apart : (a b : Result Header Refusal) → tell_header a ≡ tell_header b → a ≡ b
+header_apart = tell_apart (λ h. h) (λ g h e. e)
 
 pub read_header-says : (κs message r last : _) → read_header.Learnt κs (message, tt) r last → tell_header r ≡ header_of message.now
 read_header-says κs message r last l = l
@@ -66,9 +65,9 @@ pub report_short-one : (κs message s r r₂ last last₂ : _) → report_short.
     → r ≡ r₂
 report_short-one κs message s r r₂ last last₂ l l₂ = l ∙ sym l₂
 
-pub check_header-says : (κs s long r last : _) → check_header.Learnt κs (s, (long, tt)) r last → r ≡ refusal_of s long
+pub check_header-says : (κs s long r last : _) → check_header.Learnt κs (s, (long, tt)) r last → number_in r ≡ refusal_of s long
 check_header-says κs s long r last l = l
 
 pub check_header-one : (κs s long r r₂ last last₂ : _) → check_header.Learnt κs (s, (long, tt)) r last
     → check_header.Learnt κs (s, (long, tt)) r₂ last₂ → r ≡ r₂
-check_header-one κs s long r r₂ last last₂ l l₂ = l ∙ sym l₂
+check_header-one κs s long r r₂ last last₂ l l₂ = number_in-apart r r₂ (l ∙ sym l₂)

@@ -1,11 +1,11 @@
 -- What each step of reading a header answers: the stored values, the number of refusal, the header reported.
 use Rattle.std.specs.Prelude.{ℕ, Bool, not, List, [], ◌∷◌, ◌++◌, ltb, eqb, length}
 use Rattle.wire.specs.Numbers.{fetched}
-use Rattle.wire.specs.Checks.{pick, both, Check, check, decide}
+use Rattle.wire.specs.Checks.{pick, both, check, decide}
 use Rattle.header.specs.declared.Header.{Header}
-use Rattle.header.specs.declared.Stored.{Stored}
-use Rattle.header_rule.specs.Rules.{marked, reported_number, segment_checks}
-use Rattle.header.specs.Header.{header_size, channel_place, sequence_place, number_place, stored_in, size_of, count_of, as_reported, form_checks_of, later_checks}
+use Rattle.header_rule.specs.declared.Stored.{Stored}
+use Rattle.header_rule.specs.Rules.{marked, reported_number}
+use Rattle.header.specs.Header.{header_size, channel_place, sequence_place, number_place, stored_in, as_reported, form_checks_of, later_checks}
 
 -- the stored values of a message before the checks, or all 0 where it is too short for a header
 unfoldable pub stored_or0 : List ℕ → Stored
@@ -15,10 +15,6 @@ stored_or0 b = pick (ltb (length b) header_size) (stored_in []) (stored_in b)
 unfoldable pub refusal_of : Stored → ℕ → ℕ
 refusal_of s long =
     decide (check 4 (ltb long header_size) ∷ form_checks_of s long ++ later_checks (as_reported s)) (λ (n : ℕ). n) 0
-
--- the checks of its segments, of size and N as they count
-abbrev pub counted_checks : Stored → List Check
-counted_checks s = segment_checks (size_of s) s.kind (count_of s) (reported_number (count_of s) s.number)
 
 -- such a message is accepted, and its size is not 65,535
 unfoldable pub accepted_short : Stored → ℕ → Bool

@@ -1,9 +1,9 @@
--- What each case of an answer means: the number of refusal, or the values.
-use Rattle.wire.specs.Answers.{Answer, refused, given}
+-- What the answer of a reading means: the number of refusal, or the header.
+use Rattle.std.specs.Prelude.{Result}
+use Rattle.wire.specs.Answers.{Answer}
+use Rattle.wire.specs.Refusals.{tell}
+use Rattle.wire.specs.declared.refusal.Refusal.{Refusal}
 use Rattle.header.specs.declared.Header.{Header}
-use Rattle.header.specs.declared.HeaderAnswer.{HeaderAnswer}
-use Rattle.header.specs.declared.HeaderAnswer.TheVariants.{Read, Refused}
 
-abbrev pub tell_header : HeaderAnswer → Answer Header
-tell_header (Read h) = given h
-tell_header (Refused n) = refused n
+abbrev pub tell_header : Result Header Refusal → Answer Header
+tell_header = tell (λ h. h)

@@ -3,16 +3,18 @@
 
 ghost use Rattle.std.specs.Prelude.{◌≡◌, []};
 ghost use Rattle.wire.specs.Numbers.{fetched};
-ghost use Rattle.wire.specs.Checks.{some_broken};
+ghost use Rattle.wire.specs.Refusals.{number_in};
 ghost use Rattle.header_rule.specs.Rules.{reported_number};
 ghost use Rattle.header.specs.Header.{number_place, stored_in, as_reported, header_in, header_of};
-ghost use Rattle.header.specs.Steps.{stored_or0, accepted_short, reported_short, counted_checks, refusal_of};
+ghost use Rattle.header.specs.Steps.{stored_or0, accepted_short, reported_short, refusal_of};
 ghost use Rattle.header.specs.Told.{tell_header};
 
-use wire::{Halfwords, refusal};
+use header_rule::Stored;
+use wire::Halfwords;
+use wire::refusal::Refusal;
 
 // The values reported of a checked header. `kind` is the type of Table I: `type` is a keyword.
-#[derive(Clone, Copy)]
+#[derive(Clone, Copy, Default)]
 pub struct Header {
     pub size: Halfwords,
     pub channel: u8,
@@ -22,26 +24,6 @@ pub struct Header {
     pub milliseconds: u32,
     pub segments: u16,
     pub number: u16,
-}
-
-// The values at the start of a message as stored: not yet checked. Where N is 1 the segment number has no meaning; in the long form
-// `segments` and `number` are the two halves of the length.
-#[derive(Clone, Copy)]
-pub struct Stored {
-    size: Halfwords,
-    channel: u8,
-    kind: u8,
-    sequence: u16,
-    date: u16,
-    milliseconds: u32,
-    segments: u16,
-    number: u16,
-}
-
-#[derive(Clone, Copy)]
-pub enum HeaderAnswer {
-    Read(Header),
-    Refused(u8),
 }
 
 pub const HEADER: usize = 16;
@@ -55,26 +37,23 @@ const NUMBER_PLACE: u32 = 14;
 
 // The header of a message, which is a data frame's whole body. Nearly all are accepted in the short form, so that is put in line where a
 // header is read; the long form and the refusals are a call away.
-pub fn read_header(message: &[u8]) -> HeaderAnswer
+pub fn read_header(message: &[u8]) -> Result<Header, Refusal>
     ensures { tell_header result ≡ header_of message.now }
 {
     let s = stored_in(message);
     if accepts_short(s, message.len()) {
-        return HeaderAnswer::Read(report_short(message, s));
+        return Ok(report_short(message, s));
     }
     read_either(message)
 }
 
 // The same, with neither form tried first.
-pub fn read_either(body: &[u8]) -> HeaderAnswer
+pub fn read_either(body: &[u8]) -> Result<Header, Refusal>
     ensures { tell_header result ≡ header_of body.now }
 {
     let s = stored_in(body);
-    let number = check_header(s, body.len());
-    if number != 0 {
-        return HeaderAnswer::Refused(number);
-    }
-    HeaderAnswer::Read(report(s))
+    check_header(s, body.len())?;
+    Ok(report(s))
 }
 
 // The values at the start of a message, or all 0 where the message is too short for a header.
@@ -82,16 +61,16 @@ pub fn stored_in(message: &[u8]) -> Stored
     ensures { result ≡ stored_or0 message.now }
 {
     if message.len() < HEADER {
-        return nothing_stored();
+        return Stored::default();
     }
-    let size = wire::fetch16(message, 0) as u32;
-    let channel = wire::fetch8(message, CHANNEL_PLACE);
-    let kind = wire::fetch8(message, 3);
-    let sequence = wire::fetch16(message, SEQUENCE_PLACE);
-    let date = wire::fetch16(message, 6);
-    let milliseconds = wire::fetch32(message, 8);
-    let segments = wire::fetch16(message, 12);
-    let number = wire::fetch16(message, NUMBER_PLACE);
+    let size = wire::fetch::<u16>(message, 0) as u32;
+    let channel = wire::fetch::<u8>(message, CHANNEL_PLACE);
+    let kind = wire::fetch::<u8>(message, 3);
+    let sequence = wire::fetch::<u16>(message, SEQUENCE_PLACE);
+    let date = wire::fetch::<u16>(message, 6);
+    let milliseconds = wire::fetch::<u32>(message, 8);
+    let segments = wire::fetch::<u16>(message, 12);
+    let number = wire::fetch::<u16>(message, NUMBER_PLACE);
     Stored {
         size: Halfwords(size),
         channel,
@@ -104,38 +83,11 @@ pub fn stored_in(message: &[u8]) -> Stored
     }
 }
 
-// All values 0, as stored values.
-fn nothing_stored() -> Stored
-    ensures { result ≡ stored_in [] }
-{
-    let h = no_header();
-    let size = h.size;
-    Stored {
-        size,
-        channel: h.channel,
-        kind: h.kind,
-        sequence: h.sequence,
-        date: h.date,
-        milliseconds: h.milliseconds,
-        segments: h.segments,
-        number: h.number,
-    }
-}
-
 // A header of zeros, used until a header has been read.
 pub fn no_header() -> Header
     ensures { result ≡ header_in [] }
 {
-    Header {
-        size: Halfwords(0),
-        channel: 0,
-        kind: 0,
-        sequence: 0,
-        date: 0,
-        milliseconds: 0,
-        segments: 0,
-        number: 0,
-    }
+    Header::default()
 }
 
 // Whether a message of `long` bytes with these stored values is accepted in the short form. It takes the values, not the bytes, so that
@@ -170,9 +122,9 @@ pub fn report_short(message: &[u8], s: Stored) -> Header
     let number = number_in(message, s.segments);
     Header {
         size,
-        channel: wire::fetch8(message, CHANNEL_PLACE),
+        channel: wire::fetch::<u8>(message, CHANNEL_PLACE),
         kind: s.kind,
-        sequence: wire::fetch16(message, SEQUENCE_PLACE),
+        sequence: wire::fetch::<u16>(message, SEQUENCE_PLACE),
         date: s.date,
         milliseconds: s.milliseconds,
         segments: s.segments,
@@ -186,48 +138,40 @@ fn number_in(message: &[u8], segments: u16) -> u16
     ensures { result ≡ reported_number segments (fetched 2 message.now number_place) }
 {
     if segments != 1 {
-        return wire::fetch16(message, NUMBER_PLACE);
+        return wire::fetch::<u16>(message, NUMBER_PLACE);
     }
     1
 }
 
-// The number of refusal of a message of `long` bytes with these stored values, or 0, in either form.
-pub fn check_header(s: Stored, long: usize) -> u8
-    ensures { result ≡ refusal_of s long }
+// The checks of a message of `long` bytes with these stored values, in either form.
+pub fn check_header(s: Stored, long: usize) -> Result<(), Refusal>
+    ensures { number_in result ≡ refusal_of s long }
 {
     if long < HEADER {
-        return refusal::MESSAGE_SHORT;
+        return Err(Refusal::MessageShort);
     }
-    if header_rule::breaks_form(s.size, s.kind, s.segments, s.number, long) {
-        return refusal::SIZE;
+    if s.breaks_form(long) {
+        return Err(Refusal::Size);
     }
-    if header_rule::breaks_type(s.kind) {
-        return refusal::TYPE;
+    let h = report(s);
+    if header_rule::breaks_type(h.kind) {
+        return Err(Refusal::Type);
     }
-    if breaks_counted(s) {
-        return refusal::SEGMENT;
+    if header_rule::breaks_segment(h.size, h.kind, h.segments, h.number) {
+        return Err(Refusal::Segment);
     }
-    if header_rule::breaks_time(s.date, s.milliseconds) {
-        return refusal::DATE_OR_TIME;
+    if header_rule::breaks_time(h.date, h.milliseconds) {
+        return Err(Refusal::DateOrTime);
     }
-    0
-}
-
-// Whether the size and N as they count, or the segment number, break a rule of segments.
-fn breaks_counted(s: Stored) -> bool
-    ensures { result ≡ some_broken (counted_checks s) }
-{
-    let size = header_rule::size_of(s.size, s.kind, s.segments, s.number);
-    let count = header_rule::count_of(s.size, s.kind, s.segments);
-    header_rule::breaks_segment(size, s.kind, count, s.number)
+    Ok(())
 }
 
 // The header reported of these stored values, in either form.
 fn report(s: Stored) -> Header
     ensures { result ≡ as_reported s }
 {
-    let size = header_rule::size_of(s.size, s.kind, s.segments, s.number);
-    let segments = header_rule::count_of(s.size, s.kind, s.segments);
+    let size = s.reported_size();
+    let segments = s.reported_count();
     let number = number_of(segments, s.number);
     Header {
         size,

@@ -1,20 +1,19 @@
 -- A written header is read back, in the form that its size asks for, and passes the size's checks. Assumes nothing.
-use Prim.Native.Nat.{ℕ, ◌+◌, ◌*◌, ◌/◌, ◌%◌, ◌≤◌, ◌<◌}
+use Prim.Native.Nat.{ℕ, ◌*◌, ◌/◌, ◌%◌, ◌≤◌, ◌<◌}
 use mathlib.Core.Path.{◌≡◌, refl, sym, ap, subst, ◌∙◌}
 use mathlib.Core.Bool.{Bool, true, false}
 use mathlib.Core.List.{List, ◌++◌}
 use native.Mathlib.Omega.{arith}
-use lib.Dec.{ltb, eqb}
 use lib.ListN.{length}
 use borrow.Author.Tests.{le-ltb, eq-eqb, ne_eqb, ltb-true, ltb-false}
 use Rattle.wire.specs.Numbers.{num}
 use Rattle.wire.specs.Checks.{pick, Check, AllHold}
 use Rattle.wire.specs.Tables.{render, Fit}
-use Rattle.wire.specs.Sizes.{bytes, halved, doubled, longest_message}
+use Rattle.wire.specs.Sizes.{halved, doubled, longest_message}
 use Rattle.wire.proofs.NumberLaws.{num-two, num-four}
 use Rattle.wire.proofs.TableLaws.{reads_back}
 use Rattle.header_rule.specs.Rules.{least_size, most_size, too_large, size_checks, long_mark, marked, least_length, length_in, length_checks, radial_type}
-use Rattle.header_rule.specs.Rules.{form_checks, reported_number}
+use Rattle.header_rule.specs.Rules.{reported_number}
 use Rattle.header_rule.proofs.RuleLaws.{number_kept, form_short, form_long, even_holds}
 use Rattle.header.specs.declared.Header.{Header}
 use Rattle.header.specs.Header.{short_table, long_table, header_table, header_size, count_place, number_place, stored_in, is_long, with_number}

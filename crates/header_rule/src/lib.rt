@@ -37,6 +37,68 @@ const SEGMENT_SIZE: u32 = 1208;
 
 const LAST_MILLISECOND: u32 = 86399999;
 
+// The values at the start of a message as stored: not yet checked. Where N is 1 the segment number has no meaning; in the long form
+// `segments` and `number` are the two halves of the length.
+#[derive(Clone, Copy, Default)]
+pub struct Stored {
+    pub size: Halfwords,
+    pub channel: u8,
+    pub kind: u8,
+    pub sequence: u16,
+    pub date: u16,
+    pub milliseconds: u32,
+    pub segments: u16,
+    pub number: u16,
+}
+
+impl Stored {
+    // Whether the size breaks its rule: in the short form by the size, in the long form by the length in the two segment fields.
+    pub fn breaks_form(self, long: usize) -> bool
+        ensures { result ≡ some_broken (form_checks self.size self.kind self.segments self.number long) }
+    {
+        if self.size.0 != LONG_MARK {
+            return breaks_size(self.size, long);
+        }
+        if self.kind != RADIAL {
+            return false;
+        }
+        breaks_length(self.length(), long)
+    }
+
+    // The size as it is reported: in the long form half of the length.
+    pub fn reported_size(self) -> Halfwords
+        ensures { result ≡ reported_size self.size self.kind self.segments self.number }
+    {
+        if self.is_long() {
+            return wire::to_halfwords(self.length());
+        }
+        self.size
+    }
+
+    // N as it counts: the long form is one segment.
+    pub fn reported_count(self) -> u16
+        ensures { result ≡ reported_count self.size self.kind self.segments }
+    {
+        if self.is_long() {
+            return 1;
+        }
+        self.segments
+    }
+
+    // The length that the two segment fields hold in the long form, high half first.
+    fn length(self) -> Bytes
+        ensures { result ≡ length_in self.segments self.number }
+    {
+        Bytes(self.segments as u32 * 65536 + self.number as u32)
+    }
+
+    fn is_long(self) -> bool
+        ensures { result ≡ long_form self.size self.kind }
+    {
+        self.size.0 == LONG_MARK && self.kind == RADIAL
+    }
+}
+
 // Whether the size of a message of `long` bytes is out of range or not half of `long`. A size that is half of `long` is in range where
 // `long` is. The compiler drops the first test where the caller has made it.
 pub fn breaks_size(size: Halfwords, long: usize) -> bool
@@ -55,25 +117,6 @@ pub fn breaks_size(size: Halfwords, long: usize) -> bool
     long % 2 != 0
 }
 
-// Whether the size breaks its rule: in the short form by the size, in the long form by the length in the two segment fields.
-pub fn breaks_form(size: Halfwords, kind: u8, high: u16, low: u16, long: usize) -> bool
-    ensures { result ≡ some_broken (form_checks size kind high low long) }
-{
-    if size.0 != LONG_MARK {
-        return breaks_size(size, long);
-    }
-    if kind != RADIAL {
-        return false;
-    }
-    breaks_length(length_in(high, low), long)
-}
-
-fn length_in(high: u16, low: u16) -> Bytes
-    ensures { result ≡ length_in high low }
-{
-    Bytes(high as u32 * 65536 + low as u32)
-}
-
 fn breaks_length(told: Bytes, long: usize) -> bool
     ensures { result ≡ some_broken (length_checks told long) }
 {
@@ -87,35 +130,6 @@ fn breaks_length(told: Bytes, long: usize) -> bool
         return true;
     }
     told.0 as usize != long
-}
-
-// The size as it is reported: in the long form half of the length.
-pub fn size_of(size: Halfwords, kind: u8, high: u16, low: u16) -> Halfwords
-    ensures { result ≡ reported_size size kind high low }
-{
-    if is_long(size, kind) {
-        return wire::to_halfwords(length_in(high, low));
-    }
-    size
-}
-
-// N as it counts: the long form is one segment.
-pub fn count_of(size: Halfwords, kind: u8, segments: u16) -> u16
-    ensures { result ≡ reported_count size kind segments }
-{
-    if is_long(size, kind) {
-        return 1;
-    }
-    segments
-}
-
-fn is_long(size: Halfwords, kind: u8) -> bool
-    ensures { result ≡ long_form size kind }
-{
-    if size.0 != LONG_MARK {
-        return false;
-    }
-    kind == RADIAL
 }
 
 // Whether a type is not permitted. Radials are tested first because most messages are radials.

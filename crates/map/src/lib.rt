@@ -77,19 +77,19 @@ fn check_head(body: &[u8]) -> Step
     if body.len() < FIELD_SIZE {
         return Step::Stop(refusal::LENGTH);
     }
-    if wire::fetch16(body, 0) < 1 {
+    if wire::fetch::<u16>(body, 0) < 1 {
         return Step::Stop(refusal::FIELD);
     }
     if body.len() < 2 * FIELD_SIZE {
         return Step::Stop(refusal::LENGTH);
     }
-    if MOST_MINUTES < wire::fetch16(body, 2) {
+    if MOST_MINUTES < wire::fetch::<u16>(body, 2) {
         return Step::Stop(refusal::FIELD);
     }
     if body.len() < HEAD_SIZE {
         return Step::Stop(refusal::LENGTH);
     }
-    let count = wire::fetch16(body, 4) as usize;
+    let count = wire::fetch::<u16>(body, 4) as usize;
     if count < 1 {
         return Step::Stop(refusal::FIELD);
     }
@@ -144,9 +144,9 @@ pub fn check_map(body: &[u8]) -> MapAnswer
     let step = found.step;
     match step {
         Step::Next(_) => {
-            let date = wire::fetch16(body, 0);
-            let minutes = wire::fetch16(body, 2);
-            let elevations = wire::fetch16(body, 4);
+            let date = wire::fetch::<u16>(body, 0);
+            let minutes = wire::fetch::<u16>(body, 2);
+            let elevations = wire::fetch::<u16>(body, 4);
             MapAnswer::Map(date, minutes, elevations)
         }
         Step::Stop(number) => MapAnswer::Refused(number),
@@ -158,10 +158,10 @@ fn zone_code(part: &[u8], kilometre: usize) -> u16
     requires { AllHold (azimuth_part.checks part.now) × (kilometre ≤ last_kilometre) }
     ensures { result ≡ code_from 0 (azimuth_part.read part.now) kilometre }
 {
-    let mut left = wire::fetch16(part, 0);
+    let mut left = wire::fetch::<u16>(part, 0);
     let mut at = FIELD_SIZE as u32;
     while 0 < left {
-        let zone = wire::fetch32(part, at);
+        let zone = wire::fetch::<u32>(part, at);
         if kilometre <= map_zone::end_of(zone) as usize {
             return map_zone::code_of(zone);
         }

@@ -1,54 +1,35 @@
 -- Zones: what their checks decide, by the least end that a zone after them may have. Assumes nothing.
 use Prim.Native.Nat.{ℕ, zero, suc, ◌+◌, ◌*◌, ◌-◌, ◌/◌, ◌%◌, ◌≤◌, ◌<◌}
-use native.Mathlib.Nat.{add-zero}
 use native.Mathlib.Numerals.{add-one}
 use native.Mathlib.Omega.{arith}
-use mathlib.Core.Path.{◌≡◌, refl, sym, ap, ◌∙◌}
+use mathlib.Core.Path.{◌≡◌, refl, sym, ap, ◌∙◌, subst}
 use mathlib.Core.Bool.{Bool, true, false, not}
 use mathlib.Core.List.{List, ◌++◌}
+use Rattle.std.specs.Prelude.{Option, Some, None}
+use Rattle.std.specs.Option.{option_eq}
 use lib.Dec.{ltb, eqb}
-use lib.ListN.{length, take, drop}
-use lib.Seq.{length-take-le}
+use lib.ListN.{length, take, drop, length-drop, length-append}
+use lib.Seq.{drop-drop, drop-append_seam, length-take-le}
 use borrow.Author.Tests.{lt-ltb, le-ltb, eq-eqb, ne_eqb, eqb-true, eqb-false, ltb-true, ltb-false}
 use Rattle.wire.specs.Numbers.{num, fetched, Octets}
+use Rattle.wire.specs.Answers.{Answer, refused, given}
 use Rattle.wire.specs.Checks.{pick, either, Check, decide}
 use Rattle.wire.proofs.CheckLaws.{either_true}
-use Rattle.wire.proofs.NumberLaws.{num-drop, num-take, fetched-whole, fetched_short}
+use Rattle.wire.proofs.ListLaws.{drop-take}
+use Rattle.wire.proofs.NumberLaws.{num-append, num-drop, num-take, fetched-whole, fetched_short, octets_drop}
 use Rattle.map_spec.specs.Map.{most_code, last_kilometre, kilometres, halfword_numbers, field_size, zone_size}
 use Rattle.map_spec.specs.Places.{zone_at}
-use Rattle.map_spec.proofs.ZoneWalk.{four-fetched, code_half, end_half}
+use Rattle.map_spec.proofs.ZoneWalk.{code_half, end_half}
 use Rattle.map_spec.specs.Reading.{value, after, end_broken, zone_checks, zones_checks}
-use Rattle.map_check.specs.declared.Step.{Step}
-use Rattle.map_check.specs.declared.Step.TheVariants.{Next, Stop}
-use Rattle.map_check.specs.Steps.{zone_broken, no_end, next_end, zones_step, CutOff}
-use Rattle.map_spec.proofs.PartLaws.{after-drop, cut_off, in_full, fetched-value, next-cut_off, next_in_full, next_rest}
+use Rattle.map_check.specs.Steps.{zone_broken, next_end, zones_step, CutOff}
+use Rattle.map_spec.proofs.PartLaws.{fetched-value}
 
--- bytes behind the zones are not looked at
-next-take : (n from p m : ℕ) (b : List ℕ) → p + zone_size * n ≤ m → next_end n from (take m b) p ≡ next_end n from b p
-next-take zero from p m b h = refl
-next-take (suc n) from p m b h =
-    let c : num field_size (take m b) p ≡ num field_size b p = num-take field_size m b p (omega arith) in
-    let e : num field_size (take m b) (p + field_size) ≡ num field_size b (p + field_size) = num-take field_size m b (p + field_size)
-    (omega arith) in
-    let r = next-take n (suc (num field_size b (p + field_size))) (p + zone_size) m b (omega arith) in
-    simp (c, e, r)
+-- ---- a field and the one after it
+value-after : (b : List ℕ) → value (after b) ≡ num field_size b field_size
+value-after b = num-drop field_size b field_size 0
 
--- after an end above 511 the answer stays above 512
-next_high : (n from : ℕ) (b : List ℕ) (p : ℕ) → kilometres < from → kilometres < next_end n from b p
-next_high zero from b p h = h
-next_high (suc n) from b p h =
-    go (ltb most_code (num field_size b p)) (ltb (num field_size b (p + field_size)) from) refl
-    (λ k. next_high n (suc (num field_size b (p + field_size))) b (p + zone_size) k)
-  where
-    go : (c l : Bool) → ltb (num field_size b (p + field_size)) from ≡ l
-        → (kilometres < suc (num field_size b (p + field_size)) → kilometres < next_end n (suc (num field_size b (p + field_size))) b
-        (p + zone_size))
-        → kilometres < pick c no_end (pick l no_end (next_end n (suc (num field_size b (p + field_size))) b (p + zone_size)))
-    go true l q later = omega arith
-    go false true q later = omega arith
-    go false false q later =
-        let low : from ≤ num field_size b (p + field_size) = ltb-false (num field_size b (p + field_size)) from q in
-        later (omega (arith, low))
+after_after : (b : List ℕ) → after (after b) ≡ drop zone_size b
+after_after b = drop-drop 2 2 b
 
 -- the last end
 last_end : (from end : ℕ) → end_broken 0 from end ≡ either (ltb end from) (not (eqb (suc end) (kilometres)))
@@ -66,251 +47,256 @@ last_end from end = go (eqb end last_kilometre) refl
 inner_end : (left from end : ℕ) → end_broken (suc left) from end ≡ either (ltb last_kilometre end) (either (ltb end from) false)
 inner_end left from end = simp (ne_eqb (suc left) 0 (λ e. omega (arith, e)))
 
--- ---- two tests, and those behind them: t is asked of the end that they come to
-module _ {X : Type 0} (x y : X) (t : ℕ → Bool) (none : t no_end ≡ true) where
-  last_two : (c l : Bool) (r : ℕ) → pick c x (pick (either l (t r)) x y) ≡ pick (t (pick c no_end (pick l no_end r))) x y
-  last_two true l r = simp none
-  last_two false true r = simp none
-  last_two false false r = refl
-
-  two_more : (c h l : Bool) (r : ℕ) (d : X) → (h ≡ false → d ≡ pick (t r) x y) → (h ≡ true → t r ≡ true)
-      → pick c x (pick (either h (either l false)) x d) ≡ pick (t (pick c no_end (pick l no_end r))) x y
-  two_more true h l r d e i = simp none
-  two_more false true true r d e i = simp none
-  two_more false false true r d e i = simp none
-  two_more false false false r d e i = e refl
-  two_more false true false r d e i = simp (i refl)
-
 -- ---- one zone that is all there, and those behind it
-zone_decides : (left from : ℕ) (b : List ℕ) (p : ℕ) (rest : List Check) (end : Step) → p + zone_size ≤ length b
-    → decide (zone_checks left from (drop p b) ++ rest) Stop end
-    ≡ pick (ltb most_code (num field_size b p)) (Stop 24) (pick (end_broken left from (num field_size b (p + field_size))) (Stop 24)
-    (decide rest Stop end))
-zone_decides left from b p rest end h =
-    let c : value (drop p b) ≡ num field_size b p = num-drop field_size b p 0 ∙ ap (λ (k : ℕ). num field_size b k) (add-zero p) in
-    let e : value (after (drop p b)) ≡ num field_size b (p + field_size) = ap value (after-drop b p) ∙ num-drop field_size b (p + field_size) 0
-    ∙ ap (λ (k : ℕ). num field_size b k) (add-zero (p + field_size)) in
-    simp (in_full b p (omega arith), next_in_full b p h, c, e)
+zone_decides : (left from : ℕ) (b : List ℕ) (rest : List Check) (end : Answer ℕ) → zone_size ≤ length b
+    → decide (zone_checks left from b ++ rest) refused end
+    ≡ pick (ltb most_code (value b)) (refused 24) (pick (end_broken left from (value (after b))) (refused 24) (decide rest refused end))
+zone_decides left from b rest end h =
+    let l : field_size ≤ length (after b) = rw length-drop (omega arith) in
+    simp (le-ltb (length b) field_size (omega arith), le-ltb (length (after b)) field_size l)
 
--- ---- all zones from a place on
-zones_behind : (left from : ℕ) (b : List ℕ) (p : ℕ)
-    → zones_checks (suc left) from (drop p b) ≡ zone_checks left from (drop p b) ++ zones_checks left
-    (suc (num field_size b (p + field_size))) (drop (p + zone_size) b)
+zones_behind : (left from : ℕ) (b : List ℕ)
+    → zones_checks (suc left) from b ≡ zone_checks left from b ++ zones_checks left (suc (value (after b))) (after (after b))
 unfolding zones_checks
-zones_behind left from b p =
-    let e : value (after (drop p b)) ≡ num field_size b (p + field_size) = ap value (after-drop b p) ∙ num-drop field_size b (p + field_size) 0
-    ∙ ap (λ (k : ℕ). num field_size b k) (add-zero (p + field_size)) in
-    ap (λ (k : ℕ). zone_checks left from (drop p b) ++ zones_checks left (suc k) (after (after (drop p b)))) e
-    ∙ ap (λ (l : List ℕ). zone_checks left from (drop p b) ++ zones_checks left (suc (num field_size b (p + field_size))) l) (next_rest b p)
+zones_behind left from b = refl
 
-none_left : (from : ℕ) (b : List ℕ) (end : Step) → decide (zones_checks 0 from b) Stop end ≡ end
+none_left : (from : ℕ) (b : List ℕ) (end : Answer ℕ) → decide (zones_checks 0 from b) refused end ≡ end
 unfolding zones_checks
 none_left from b end = refl
 
--- the last one is not 511; an end is above it
-abbrev not_last : ℕ → Bool
-not_last end = not (eqb end (kilometres))
+rest_long : (b : List ℕ) (n : ℕ) → zone_size + n ≤ length b → n ≤ length (after (after b))
+rest_long b n h = rw (after_after b, length-drop) (omega arith)
 
-abbrev too_high : ℕ → Bool
-too_high end = ltb (kilometres) end
+rest_short : (b : List ℕ) (n : ℕ) → length b < n + zone_size → 0 < n → length (after (after b)) < n
+rest_short b n h some = rw (after_after b, length-drop) (omega arith)
 
--- one zone of several: the zones after it decide, since none of them can be in range after an end that is too high
-zone-first : (t : ℕ → Bool) (none : t no_end ≡ true) (high : (k : ℕ) → kilometres < k → t k ≡ true) (left n from : ℕ)
-    (b : List ℕ) (p : ℕ) (end z : Step)
-    → p + zone_size ≤ length b
-    → (num field_size b (p + field_size) ≤ last_kilometre
-    → decide (zones_checks (suc left) (suc (num field_size b (p + field_size))) (drop (p + zone_size) b)) Stop end
-    ≡ pick (t (next_end n (suc (num field_size b (p + field_size))) b (p + zone_size))) (Stop 24) z)
-    → decide (zones_checks (suc (suc left)) from (drop p b)) Stop end ≡ pick (t (next_end (suc n) from b p)) (Stop 24) z
-zone-first t none high left n from b p end z h behind =
-    let c = ltb most_code (num field_size b p) in
-    let v = num field_size b (p + field_size) in
-    let rest = zones_checks (suc left) (suc v) (drop (p + zone_size) b) in
-    let r = next_end n (suc v) b (p + zone_size) in
-    ap (λ (ks : List Check). decide ks Stop end) (zones_behind (suc left) from b p)
-    ∙ zone_decides (suc left) from b p rest end h
-    ∙ ap (λ (u : Bool). pick c (Stop 24) (pick u (Stop 24) (decide rest Stop end))) (inner_end left from v)
-    ∙ two_more (Stop 24) z t none c (ltb last_kilometre v) (ltb v from) r (decide rest Stop end) (λ q. behind (ltb-false last_kilometre v q))
-    (λ q. high r (next_high n (suc v) b (p + zone_size) (omega (arith, ltb-true last_kilometre v q))))
+drop-rest : (n : ℕ) (b : List ℕ) → drop (zone_size * n) (after (after b)) ≡ drop (zone_size * suc n) b
+drop-rest n b =
+    let e : zone_size + zone_size * n ≡ zone_size * suc n = omega arith in
+    ap (λ (l : List ℕ). drop (zone_size * n) l) (after_after b) ∙ drop-drop (zone_size * n) zone_size b ∙ ap (λ (k : ℕ). drop k b) e
+
+-- ---- two tests, and those behind them: t is asked of the end that they come to. It is met where there is none, and by each that is above
+-- 512, after which no zone can be in range
+module _ (t : Option ℕ → Bool) (none : t None ≡ true) (high : (k : ℕ) → kilometres < k → t (Some k) ≡ true) where
+  next_high : (n from : ℕ) (b : List ℕ) → kilometres < from → t (next_end n from b) ≡ true
+  next_high zero from b h = high from h
+  next_high (suc n) from b h =
+      go (ltb most_code (value b)) (ltb (value (after b)) from) refl (λ k. next_high n (suc (value (after b))) (after (after b)) k)
+    where
+      go : (c l : Bool) → ltb (value (after b)) from ≡ l
+          → (kilometres < suc (value (after b)) → t (next_end n (suc (value (after b))) (after (after b))) ≡ true)
+          → t (pick c None (pick l None (next_end n (suc (value (after b))) (after (after b))))) ≡ true
+      go true l q later = none
+      go false true q later = none
+      go false false q later =
+          let low : from ≤ value (after b) = ltb-false (value (after b)) from q in
+          later (omega (arith, low))
+
+  module _ {X : Type 0} (x y : X) where
+    last_two : (c l : Bool) (r : Option ℕ) → pick c x (pick (either l (t r)) x y) ≡ pick (t (pick c None (pick l None r))) x y
+    last_two true l r = simp none
+    last_two false true r = simp none
+    last_two false false r = refl
+
+    two_more : (c h l : Bool) (r : Option ℕ) (d : X) → (h ≡ false → d ≡ pick (t r) x y) → (h ≡ true → t r ≡ true)
+        → pick c x (pick (either h (either l false)) x d) ≡ pick (t (pick c None (pick l None r))) x y
+    two_more true h l r d e i = simp none
+    two_more false true true r d e i = simp none
+    two_more false false true r d e i = simp none
+    two_more false false false r d e i = e refl
+    two_more false true false r d e i = simp (i refl)
+
+  -- one zone of several: the zones after it decide
+  zone-first : (left n from : ℕ) (b : List ℕ) (end z : Answer ℕ) → zone_size ≤ length b
+      → (value (after b) ≤ last_kilometre
+      → decide (zones_checks (suc left) (suc (value (after b))) (after (after b))) refused end
+      ≡ pick (t (next_end n (suc (value (after b))) (after (after b)))) (refused 24) z)
+      → decide (zones_checks (suc (suc left)) from b) refused end ≡ pick (t (next_end (suc n) from b)) (refused 24) z
+  zone-first left n from b end z h behind =
+      let c = ltb most_code (value b) in
+      let v = value (after b) in
+      let rest = zones_checks (suc left) (suc v) (after (after b)) in
+      let r = next_end n (suc v) (after (after b)) in
+      ap (λ (ks : List Check). decide ks refused end) (zones_behind (suc left) from b)
+      ∙ zone_decides (suc left) from b rest end h
+      ∙ ap (λ (u : Bool). pick c (refused 24) (pick u (refused 24) (decide rest refused end))) (inner_end left from v)
+      ∙ two_more (refused 24) z c (ltb last_kilometre v) (ltb v from) r (decide rest refused end)
+      (λ q. behind (ltb-false last_kilometre v q))
+      (λ q. next_high n (suc v) (after (after b)) (omega (arith, ltb-true last_kilometre v q)))
 
 -- ---- all zones from a place on, where they are all there
-rising_decides : (left from : ℕ) (b : List ℕ) (p : ℕ) (end : Step) → p + zone_size * suc left ≤ length b
-    → decide (zones_checks (suc left) from (drop p b)) Stop end ≡ pick (not_last (next_end (suc left) from b p)) (Stop 24) end
-rising_decides zero from b p end h =
-    let c = ltb most_code (num field_size b p) in
-    let v = num field_size b (p + field_size) in
-    ap (λ (ks : List Check). decide ks Stop end) (zones_behind 0 from b p)
-    ∙ zone_decides 0 from b p (zones_checks 0 (suc v) (drop (p + zone_size) b)) end (omega arith)
-    ∙ ap (λ (s : Step). pick c (Stop 24) (pick (end_broken 0 from v) (Stop 24) s)) (none_left (suc v) (drop (p + zone_size) b) end)
-    ∙ ap (λ (u : Bool). pick c (Stop 24) (pick u (Stop 24) end)) (last_end from v)
-    ∙ last_two (Stop 24) end not_last refl c (ltb v from) (suc v)
-rising_decides (suc left) from b p end h =
-    zone-first not_last refl (λ k q. ap not (ne_eqb k (kilometres) (λ e. omega (arith, e)))) left (suc left) from b p end
-    end (omega arith)
-    (λ q. rising_decides left (suc (num field_size b (p + field_size))) b (p + zone_size) end (omega arith))
+-- the last end is not 511
+abbrev pub not_last : Option ℕ → Bool
+not_last end = not (option_eq eqb end (Some kilometres))
+
+rising_decides : (left from : ℕ) (b : List ℕ) (end : Answer ℕ) → zone_size * suc left ≤ length b
+    → decide (zones_checks (suc left) from b) refused end ≡ pick (not_last (next_end (suc left) from b)) (refused 24) end
+rising_decides zero from b end h =
+    let c = ltb most_code (value b) in
+    let v = value (after b) in
+    ap (λ (ks : List Check). decide ks refused end) (zones_behind 0 from b)
+    ∙ zone_decides 0 from b (zones_checks 0 (suc v) (after (after b))) end (omega arith)
+    ∙ ap (λ (s : Answer ℕ). pick c (refused 24) (pick (end_broken 0 from v) (refused 24) s)) (none_left (suc v) (after (after b)) end)
+    ∙ ap (λ (u : Bool). pick c (refused 24) (pick u (refused 24) end)) (last_end from v)
+    ∙ last_two not_last refl (λ k q. ap not (ne_eqb k kilometres (λ e. omega (arith, e)))) (refused 24) end c (ltb v from) (Some (suc v))
+rising_decides (suc left) from b end h =
+    zone-first not_last refl (λ k q. ap not (ne_eqb k kilometres (λ e. omega (arith, e)))) left (suc left) from b end end (omega arith)
+    (λ q. rising_decides left (suc (value (after b))) (after (after b)) end (rest_long b (zone_size * suc left) (omega arith)))
 
 -- ---- and where the last of them are not
-cut-zone : (left from : ℕ) (b : List ℕ) (p : ℕ) (end : Step) → length b < p + zone_size
-    → decide (zones_checks (suc left) from (drop p b)) Stop end ≡ pick (ltb most_code (fetched field_size b p)) (Stop 24) (Stop 23)
+-- an end is above 511
+abbrev too_high : Option ℕ → Bool
+too_high None = true
+too_high (Some end) = ltb kilometres end
+
+-- by the code of the zone that is cut off, or by 0 where it is cut off too
+abbrev cut_by : ℕ → Answer ℕ
+cut_by code = pick (ltb most_code code) (refused 24) (refused 23)
+
+cut-zone : (left from : ℕ) (b : List ℕ) (end : Answer ℕ) → length b < zone_size
+    → decide (zones_checks (suc left) from b) refused end ≡ cut_by (fetched field_size b 0)
 unfolding zones_checks
-cut-zone left from b p end h = go (ltb (length b) (p + field_size)) refl
+cut-zone left from b end h = go (ltb (length b) field_size) refl
   where
-    go : (t : Bool) → ltb (length b) (p + field_size) ≡ t
-        → decide (zones_checks (suc left) from (drop p b)) Stop end ≡ pick (ltb most_code (fetched field_size b p)) (Stop 24) (Stop 23)
-    go true q =
-        let l : length b < p + field_size = ltb-true (length b) (p + field_size) q in
-        simp (cut_off b p l, fetched_short field_size b p l)
+    go : (t : Bool) → ltb (length b) field_size ≡ t → decide (zones_checks (suc left) from b) refused end ≡ cut_by (fetched field_size b 0)
+    go true q = simp (q, fetched_short field_size b 0 (omega (arith, ltb-true (length b) field_size q)))
     go false q =
-        let l : p + field_size ≤ length b = ltb-false (length b) (p + field_size) q in
-        simp (in_full b p l, next-cut_off b p h, fetched-value b p l)
+        let l : length (after b) < field_size = rw length-drop (omega arith) in
+        simp (q, lt-ltb (length (after b)) field_size l, fetched-value b 0 (omega (arith, ltb-false (length b) field_size q)))
 
-cut_decides : (n left from : ℕ) (b : List ℕ) (p : ℕ) (end : Step) → n < left → from ≤ kilometres → p + zone_size * n ≤ length b
-    → length b < p + zone_size * n + 4
-    → decide (zones_checks left from (drop p b)) Stop end
-    ≡ pick (too_high (next_end n from b p)) (Stop 24) (pick (ltb most_code (fetched field_size b (p + zone_size * n))) (Stop 24) (Stop 23))
-cut_decides n zero from b p end m f h k = absurd (omega arith)
-cut_decides zero (suc left) from b p end m f h k =
-    let e : p + zone_size * 0 ≡ p = omega arith in
-    cut-zone left from b p end (omega arith)
-    ∙ ap (λ (q : ℕ). pick (ltb most_code (fetched field_size b q)) (Stop 24) (Stop 23)) (sym e)
-    ∙ sym
-    (ap
-    (λ (u : Bool). pick u (Stop 24) (pick (ltb most_code (fetched field_size b (p + zone_size * 0))) (Stop 24) (Stop 23)))
-    (le-ltb (kilometres) from f))
-cut_decides (suc n) (suc zero) from b p end m f h k = absurd (omega arith)
-cut_decides (suc n) (suc (suc left)) from b p end m f h k =
-    let v = num field_size b (p + field_size) in
-    let e : p + zone_size + zone_size * n ≡ p + zone_size * suc n = omega arith in
-    let z = pick (ltb most_code (fetched field_size b (p + zone_size * suc n))) (Stop 24) (Stop 23) in
-    zone-first too_high refl (λ j q. lt-ltb (kilometres) j q) left n from b p end z (omega arith)
-    (λ q. cut_decides n (suc left) (suc v) b (p + zone_size) end (omega arith) (omega (arith, q)) (omega arith) (omega arith)
-    ∙ ap
-    (λ (j : ℕ). pick (too_high (next_end n (suc v) b (p + zone_size))) (Stop 24) (pick (ltb most_code (fetched field_size b j))
-    (Stop 24) (Stop 23)))
-    e)
+cut_decides : (n left from : ℕ) (b : List ℕ) (end : Answer ℕ) → n < left → from ≤ kilometres → zone_size * n ≤ length b
+    → length b < zone_size * n + zone_size
+    → decide (zones_checks left from b) refused end
+    ≡ pick (too_high (next_end n from b)) (refused 24) (cut_by (fetched field_size (drop (zone_size * n) b) 0))
+cut_decides n zero from b end m f h k = absurd (omega arith)
+cut_decides zero (suc left) from b end m f h k =
+    cut-zone left from b end (omega arith)
+    ∙ sym (ap (λ (u : Bool). pick u (refused 24) (cut_by (fetched field_size b 0))) (le-ltb kilometres from f))
+cut_decides (suc n) (suc zero) from b end m f h k = absurd (omega arith)
+cut_decides (suc n) (suc (suc left)) from b end m f h k =
+    let v = value (after b) in
+    let rest = after (after b) in
+    let e : drop (zone_size * n) rest ≡ drop (zone_size * suc n) b = drop-rest n b in
+    let z = cut_by (fetched field_size (drop (zone_size * suc n) b) 0) in
+    zone-first too_high refl (λ j q. lt-ltb kilometres j q) left n from b end z (omega arith)
+    (λ q. cut_decides n (suc left) (suc v) rest end (omega arith) (omega (arith, q)) (rest_long b (zone_size * n) (omega arith)) (rest_short b (zone_size * n + zone_size) (omega arith) (omega arith))
+    ∙ ap (λ (l : List ℕ). pick (too_high (next_end n (suc v) rest)) (refused 24) (cut_by (fetched field_size l 0))) e)
 
--- ---- from zone to zone, each in one number that was fetched before it is looked at
-pub record Rising (b : List ℕ) (zone from at : ℕ) : Type 0 where
-  pub some : zone_size ≤ at
-  pub here : zone ≡ num zone_size b (at - zone_size)
-  pub same : next_end ((length b - (at - zone_size)) / zone_size) from b (at - zone_size) ≡ next_end (length b / zone_size) 0 b 0
+-- ---- from zone to zone, each in one number: the zones that are left answer as all of them
+pub record Rising (b : List ℕ) (from : ℕ) (rest : List ℕ) : Type 0 where
+  pub octets : Octets rest
+  pub same : next_end (length rest / zone_size) from rest ≡ next_end (length b / zone_size) 0 b
 
 pub one_test : {X : Type 0} (c e : Bool) (x y : X) → pick c x (pick e x y) ≡ pick (either c e) x y
 one_test true e x y = refl
 one_test false e x y = refl
 
-module _ (b : List ℕ) (octets : Octets b) where
-  next_turn : (p from : ℕ) → p + zone_size ≤ length b
-      → next_end ((length b - p) / zone_size) from b p
-      ≡ pick (zone_broken from (num zone_size b p)) no_end
-      (next_end ((length b - (p + zone_size)) / zone_size) (suc (num zone_size b p % halfword_numbers)) b (p + zone_size))
-  unfolding zone_at
-  next_turn p from h =
-      let n : (length b - p) / zone_size ≡ suc ((length b - (p + zone_size)) / zone_size) = omega arith in
-      let c : num field_size b p ≡ num zone_size b p / halfword_numbers = sym (code_half b octets p (num zone_size b p) refl) in
-      let e : num field_size b (p + field_size) ≡ num zone_size b p % halfword_numbers = sym (end_half b octets p (num zone_size b p) refl) in
-      ap (λ (k : ℕ). next_end k from b p) n
-      ∙ one_test (ltb most_code (num field_size b p)) (ltb (num field_size b (p + field_size)) from) no_end _
-      ∙ (λ i. pick (either (ltb most_code (c i)) (ltb (e i) from)) no_end
-      (next_end ((length b - (p + zone_size)) / zone_size) (suc (e i)) b (p + zone_size)))
+pub rising_start : (b : List ℕ) → Octets b → Rising b 0 b
+rising_start b o = record { octets = o; same = refl }
 
-  pub rising_none : length b < zone_size → 0 ≡ next_end (length b / zone_size) 0 b 0
-  rising_none h =
-      let n : length b / zone_size ≡ 0 = omega arith in
-      sym (ap (λ (k : ℕ). next_end k 0 b 0) n)
+module _ (b : List ℕ) (from : ℕ) (rest : List ℕ) (r : Rising b from rest) where
+  pub rising_done : length rest < zone_size → Some from ≡ next_end (length b / zone_size) 0 b
+  rising_done h =
+      let n : length rest / zone_size ≡ 0 = omega arith in
+      sym (ap (λ (k : ℕ). next_end k from rest) n) ∙ r.same
 
-  pub rising_start : (zone : ℕ) → zone ≡ fetched zone_size b 0 → zone_size ≤ length b → Rising b zone 0 zone_size
-  rising_start zone e h =
-      let n : length b - 0 ≡ length b = omega arith in
-      record {
-        some = omega arith;
-        here = e ∙ fetched-whole zone_size b 0 (omega arith);
-        same = ap (λ (k : ℕ). next_end (k / zone_size) 0 b 0) n;
+  -- one more
+  module _ (four others : List ℕ) (split : rest ≡ four ++ others) (long : length four ≡ zone_size) (zone : ℕ)
+      (is : zone ≡ fetched zone_size four 0)
+    where
+      here : zone ≡ num zone_size rest 0
+      here = is ∙ fetched-whole zone_size four 0 (omega (arith, long)) ∙ sym (num-append zone_size four others 0 (omega (arith, long)))
+          ∙ ap (λ (l : List ℕ). num zone_size l 0) (sym split)
+
+      behind : after (after rest) ≡ others
+      behind =
+          after_after rest ∙ ap (λ (l : List ℕ). drop zone_size l) split ∙ ap (λ (k : ℕ). drop k (four ++ others)) (sym long)
+          ∙ drop-append_seam four others
+
+      turn : next_end (length b / zone_size) 0 b
+          ≡ pick (zone_broken from zone) None (next_end (length others / zone_size) (suc (zone % halfword_numbers)) others)
+      unfolding zone_at
+      turn =
+          let n : length rest / zone_size ≡ suc (length others / zone_size) =
+          omega (arith, ap length split, length-append four others, long) in
+          let c : value rest ≡ zone / halfword_numbers = sym (code_half rest r.octets 0 zone here) in
+          let e : value (after rest) ≡ zone % halfword_numbers = value-after rest ∙ sym (end_half rest r.octets 0 zone here) in
+          sym r.same
+          ∙ ap (λ (k : ℕ). next_end k from rest) n
+          ∙ one_test (ltb most_code (value rest)) (ltb (value (after rest)) from) None _
+          ∙ (λ i. pick (either (ltb most_code (c i)) (ltb (e i) from)) None (next_end (length others / zone_size) (suc (e i)) (behind i)))
+
+      pub rising-broken : zone_broken from zone ≡ true → None ≡ next_end (length b / zone_size) 0 b
+      rising-broken t = sym (turn ∙ simp t)
+
+      pub rising-on : (end : ℕ) → end ≡ zone % halfword_numbers → zone_broken from zone ≡ false → Rising b (end + 1) others
+      rising-on end ends t = record {
+        octets = subst Octets behind (octets_drop 2 (after rest) (octets_drop 2 rest r.octets));
+        same =
+            ap (λ (k : ℕ). next_end (length others / zone_size) k others) (add-one end ∙ ap suc ends) ∙ sym (turn ∙ simp t);
       }
 
-  module _ (zone from at : ℕ) (r : Rising b zone from at) (inside : at ≤ length b) where
-    turn : next_end (length b / zone_size) 0 b 0
-        ≡ pick (zone_broken from zone) no_end (next_end ((length b - at) / zone_size) (suc (zone % halfword_numbers)) b at)
-    turn =
-        let e : at - zone_size + zone_size ≡ at = omega (arith, r.some) in
-        sym r.same
-        ∙ next_turn (at - zone_size) from (omega (arith, r.some))
-        ∙ (λ i. pick (zone_broken from (sym r.here i)) no_end
-        (next_end ((length b - e i) / zone_size) (suc (sym r.here i % halfword_numbers)) b (e i)))
-
-    pub rising-broken : zone_broken from zone ≡ true → no_end ≡ next_end (length b / zone_size) 0 b 0
-    rising-broken t = sym (turn ∙ simp t)
-
-    module _ (end : ℕ) (ends : end ≡ zone % halfword_numbers) (t : zone_broken from zone ≡ false) where
-      turned : next_end ((length b - at) / zone_size) (end + 1) b at ≡ next_end (length b / zone_size) 0 b 0
-      turned =
-          ap (λ (k : ℕ). next_end ((length b - at) / zone_size) k b at) (add-one end ∙ ap suc ends) ∙ sym (turn ∙ simp t)
-
-      pub rising-on : (next : ℕ) → next ≡ fetched zone_size (take (at + zone_size - at) (drop at b)) 0 → at + zone_size ≤ length b
-          → Rising b next (end + 1) (at + zone_size)
-      rising-on next e h =
-          let f : at ≡ at + zone_size - zone_size = omega arith in
-          record {
-            some = omega arith;
-            here = four-fetched b at next h e ∙ ap (λ (k : ℕ). num zone_size b k) f;
-            same = ap (λ (k : ℕ). next_end ((length b - k) / zone_size) (end + 1) b k) (sym f) ∙ turned;
-          }
-
-      pub rising-done : length b < at + zone_size → end + 1 ≡ next_end (length b / zone_size) 0 b 0
-      rising-done h =
-          let n : (length b - at) / zone_size ≡ 0 = omega arith in
-          sym (ap (λ (k : ℕ). next_end k (end + 1) b at) n) ∙ turned
-
 -- ---- the zones of an azimuth that are all there
+-- bytes behind the zones are not looked at
+next-take : (n from m : ℕ) (b : List ℕ) → zone_size * n ≤ m → next_end n from (take m b) ≡ next_end n from b
+next-take zero from m b h = refl
+next-take (suc n) from m b h =
+    let c : value (take m b) ≡ value b = num-take field_size m b 0 (omega arith) in
+    let e : value (after (take m b)) ≡ value (after b) =
+    value-after (take m b) ∙ num-take field_size m b field_size (omega arith) ∙ sym (value-after b) in
+    let l : after (after (take m b)) ≡ take (m - zone_size) (after (after b)) =
+    after_after (take m b) ∙ drop-take zone_size m b ∙ ap (λ (k : List ℕ). take (m - zone_size) k) (sym (after_after b)) in
+    let r = next-take n (suc (value (after b))) (m - zone_size) (after (after b)) (omega arith) in
+    simp (c, e, l, r)
+
 module _ (b : List ℕ) (count : ℕ) (some : 1 ≤ count) (there : zone_size * count ≤ length b) where
-  whole-zones : zones_step count b ≡ pick (not_last (next_end count 0 b 0)) (Stop 24) (Next (zone_size * count))
+  whole-zones : zones_step count b ≡ pick (not_last (next_end count 0 b)) (refused 24) (given (zone_size * count))
   whole-zones = go count some there
     where
       go : (n : ℕ) → 1 ≤ n → zone_size * n ≤ length b
-          → decide (zones_checks n 0 b) Stop (Next (zone_size * count)) ≡ pick (not_last (next_end n 0 b 0)) (Stop 24) (Next (zone_size * count))
+          → decide (zones_checks n 0 b) refused (given (zone_size * count)) ≡ pick (not_last (next_end n 0 b)) (refused 24) (given (zone_size * count))
       go zero s t = absurd (omega arith)
-      go (suc l) s t = rising_decides l 0 b 0 (Next (zone_size * count)) (omega arith)
+      go (suc l) s t = rising_decides l 0 b (given (zone_size * count)) (omega arith)
 
   -- by those zones alone
-  module _ (m : ℕ) (size : m ≡ zone_size * count) (end : ℕ) (told : end ≡ next_end (length (take m b) / zone_size) 0 (take m b) 0) where
-    end-told : end ≡ next_end count 0 b 0
+  module _ (m : ℕ) (size : m ≡ zone_size * count) (end : Option ℕ) (told : end ≡ next_end (length (take m b) / zone_size) 0 (take m b)) where
+    end-told : end ≡ next_end count 0 b
     end-told =
         let l : length (take m b) ≡ zone_size * count = length-take-le m b (omega (arith, size)) ∙ size in
         let n : length (take m b) / zone_size ≡ count = omega (arith, l) in
-        told ∙ ap (λ (k : ℕ). next_end k 0 (take m b) 0) n ∙ next-take count 0 0 m b (omega (arith, size))
+        told ∙ ap (λ (k : ℕ). next_end k 0 (take m b)) n ∙ next-take count 0 m b (omega (arith, size))
 
-    pub whole-stop : (end ≡ kilometres → ⊥) → Stop 24 ≡ zones_step count b
-    whole-stop e =
-        let o : eqb (next_end count 0 b 0) (kilometres) ≡ false = ne_eqb (next_end count 0 b 0) (kilometres)
-        (λ q. e (end-told ∙ q)) in
-        sym (whole-zones ∙ simp o)
+    decided : zones_step count b ≡ pick (not_last end) (refused 24) (given (zone_size * count))
+    decided = whole-zones ∙ ap (λ (o : Option ℕ). pick {X = Answer ℕ} (not_last o) (refused 24) (given (zone_size * count))) (sym end-told)
 
-    pub whole-next : end ≡ kilometres → Next (zone_size * count) ≡ zones_step count b
-    whole-next e =
-        let o : eqb (next_end count 0 b 0) (kilometres) ≡ true = eq-eqb (next_end count 0 b 0) (kilometres)
-        (sym end-told ∙ e) in
-        sym (whole-zones ∙ simp o)
+    pub whole-stop : not_last end ≡ true → refused 24 ≡ zones_step count b
+    whole-stop t = sym (decided ∙ simp t)
+
+    pub whole-next : not_last end ≡ false → given (zone_size * count) ≡ zones_step count b
+    whole-next t = sym (decided ∙ simp t)
 
 -- ---- and those that are cut off
-module _ (b : List ℕ) (end : ℕ) (told : end ≡ next_end (length b / zone_size) 0 b 0) where
-  cut_zones : (count : ℕ) → length b < zone_size * count → zones_step count b
-      ≡ pick (too_high end) (Stop 24) (pick (ltb most_code (fetched field_size b (length b / zone_size * zone_size))) (Stop 24) (Stop 23))
-  cut_zones count short =
-      let e : 0 + zone_size * (length b / zone_size) ≡ length b / zone_size * zone_size = omega arith in
-      cut_decides (length b / zone_size) count 0 b 0 (Next (zone_size * count)) (omega arith) (omega arith) (omega arith) (omega arith)
-      ∙ (λ i. pick (too_high (sym told i)) (Stop 24) (pick (ltb most_code (fetched field_size b (e i))) (Stop 24) (Stop 23)))
+module _ (b : List ℕ) (end : Option ℕ) (told : end ≡ next_end (length b / zone_size) 0 b) where
+  cut : (count : ℕ) → length b < zone_size * count → zones_step count b
+      ≡ pick (too_high end) (refused 24) (cut_by (fetched field_size (drop (length b / zone_size * zone_size) b) 0))
+  cut count short =
+      let e : zone_size * (length b / zone_size) ≡ length b / zone_size * zone_size = omega arith in
+      cut_decides (length b / zone_size) count 0 b (given (zone_size * count)) (omega arith) (omega arith) (omega arith) (omega arith)
+      ∙ (λ i. pick (too_high (sym told i)) (refused 24) (cut_by (fetched field_size (drop (e i) b) 0)))
 
-  pub cut_high : kilometres < end → CutOff b 24
-  cut_high h count short = sym (cut_zones count short ∙ simp (lt-ltb kilometres end h))
+  pub cut-none : end ≡ None → CutOff b 24
+  cut-none e count short = sym (cut count short ∙ simp e)
 
-  module _ (low : end ≤ kilometres) (code : ℕ) (coded : code ≡ fetched field_size b (length b / zone_size * zone_size)) where
-    cut_by : (t : Bool) → ltb most_code code ≡ t → (count : ℕ) → length b < zone_size * count → zones_step count b ≡ pick t (Stop 24) (Stop 23)
-    cut_by t e count short =
-        let f : ltb most_code (fetched field_size b (length b / zone_size * zone_size)) ≡ t = ap (λ (k : ℕ). ltb most_code k) (sym coded) ∙ e in
-        cut_zones count short ∙ simp (le-ltb kilometres end low, f)
+  module _ (k : ℕ) (is : end ≡ Some k) where
+    pub cut-high : kilometres < k → CutOff b 24
+    cut-high h count short = sym (cut count short ∙ simp (is, lt-ltb kilometres k h))
 
-    pub cut-code : most_code < code → CutOff b 24
-    cut-code h count short = sym (cut_by true (lt-ltb most_code code h) count short)
+    module _ (low : k ≤ kilometres) (code : ℕ) (coded : code ≡ fetched field_size (drop (length b / zone_size * zone_size) b) 0) where
+      by_code : (count : ℕ) → length b < zone_size * count → zones_step count b ≡ cut_by code
+      by_code count short = cut count short ∙ simp (is, le-ltb kilometres k low, ← coded)
 
-    pub cut_short : code ≤ most_code → CutOff b 23
-    cut_short h count short = sym (cut_by false (le-ltb most_code code h) count short)
+      pub cut-code : most_code < code → CutOff b 24
+      cut-code h count short = sym (by_code count short ∙ simp (lt-ltb most_code code h))
+
+      pub cut_short : code ≤ most_code → CutOff b 23
+      cut_short h count short = sym (by_code count short ∙ simp (le-ltb most_code code h))

@@ -8,6 +8,8 @@ use mathlib.Core.List.{List, [], ◌∷◌, map}
 use lib.ListN.{length, get_or, get_or-eq_default}
 use Rattle.wire.specs.Numbers.{fetched, Octets}
 use Rattle.wire.specs.Answers.{refused, given, number_of}
+use Rattle.wire.specs.Refusals.{number}
+use Rattle.wire.specs.declared.refusal.Refusal.{Refusal}
 use Rattle.wire.proofs.NumberLaws.{fetched-whole}
 use Rattle.radial_spec.specs.Description.{RVOL, RELV, RRAD, constants, Moment, Description, count_place, first_pointer, volume_pointer}
 use Rattle.radial_spec.specs.Description.{elevation_pointer, radial_pointer, moment_pointer, moment_head}
@@ -36,10 +38,10 @@ moment_at_lem b q (suc n) (suc j) h =
     ap (λ (k : ℕ). some (moment_told (head_of (moment_at (pointer b k) (part b k))))) e ∙ moment_at_lem b (q + 4) n j (omega arith)
 
 -- a refused radial has no block to tell of
-pub block_refused : (b : List ℕ) (k number : ℕ) → number ≡ number_of (radial_of b) → (number ≡ 0 → ⊥)
-    → refused number ≡ block_shown (block_of b k)
+pub block_refused : (b : List ℕ) (k : ℕ) (r : Refusal) → number r ≡ number_of (radial_of b)
+    → refused (number r) ≡ block_shown (block_of b k)
 unfolding block_of
-block_refused b k number e z = rw (number_refused b number e z) refl
+block_refused b k r e = rw (number_refused b r e) refl
 
 -- ---- the blocks of an accepted radial
 module _ (b : List ℕ) (accepted : radial_of b ≡ given (description b)) where

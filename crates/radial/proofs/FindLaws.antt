@@ -1,62 +1,44 @@
 -- A moment by its name: what the pointers of an accepted radial give is where the description has it. Assumes nothing.
-use Prim.Native.Nat.{ℕ, zero, suc, ◌+◌, ◌-◌, ◌*◌, ◌≤◌, ◌<◌}
-use native.Mathlib.Nat.{add-zero}
+use Prim.Native.Nat.{ℕ, zero, suc, ◌+◌, ◌-◌, ◌≤◌}
 use native.Mathlib.Omega.{arith}
-use mathlib.Core.Path.{◌≡◌, refl, sym, ap, subst, ◌∙◌}
+use mathlib.Core.Path.{◌≡◌, refl, sym, ap, ◌∙◌}
 use mathlib.Core.Bool.{Bool, true, false}
 use mathlib.Core.List.{List}
 use lib.Dec.{eqb}
 use lib.ListN.{length, drop}
-use borrow.Author.Tests.{ne_eqb}
+use Rattle.std.specs.Prelude.{Some}
 use Rattle.wire.specs.Numbers.{Octets}
 use Rattle.wire.specs.Checks.{pick}
-use Rattle.wire.specs.Answers.{Answer, refused, given, number_of}
-use Rattle.radial_spec.specs.Description.{constants, Moment, Description, moment_end, moment_pointer, moment_head}
+use Rattle.wire.specs.Answers.{refused, given, number_of}
+use Rattle.wire.specs.Refusals.{number}
+use Rattle.wire.specs.declared.refusal.Refusal.{Refusal}
+use Rattle.radial_spec.specs.Description.{constants, Moment, moment_end, moment_pointer, moment_head}
 use Rattle.radial_spec.specs.Refusal.{count_in, pointer, part, name_in, moment_at, moments_at, radial_of}
 use Rattle.radial_spec.specs.Lookups.{moment_named, moment_of}
 use Rattle.radial_spec.proofs.Naming.{found_at, found_lies}
 use Rattle.radial.specs.Steps.{place_from, place_in, place_shown, place_asked}
-use Rattle.radial_spec.proofs.Held.{HeadHeld, held, refused_above_0, accepted_is}
+use Rattle.radial_spec.proofs.Held.{number_given, number_refused}
 use Rattle.wire.proofs.OnwardLaws.{shows_given}
 
--- what the n pointers from byte q on point at is in the body, after the header
-abbrev Points : List ℕ → ℕ → ℕ → Type 0
-Points b q n = (i : ℕ) → i < n → HeadHeld b (q + 4 * i)
-
-next_points : (b : List ℕ) (q n : ℕ) → Points b q (suc n) → Points b (q + 4) n
-next_points b q n p i h = let e : q + 4 * suc i ≡ q + 4 + 4 * i = omega arith in subst (HeadHeld b) e (p (suc i) (omega arith))
-
-placed_from : (b : List ℕ) (name q n : ℕ) → Points b q n
-    → pick (eqb (place_from b name q n) 0) (refused 21) (given (place_from b name q n)) ≡ place_shown (moment_named name (moments_at b q n))
-placed_from b name q zero h = refl
-placed_from b name q (suc n) h = go (eqb (name_in (part b q)) name) (placed_from b name (q + 4) n (next_points b q n h))
+placed_from : (b : List ℕ) (name q n : ℕ) → place_asked (place_from b name q n) ≡ place_shown (moment_named name (moments_at b q n))
+placed_from b name q zero = refl
+placed_from b name q (suc n) = go (eqb (name_in (part b q)) name) (placed_from b name (q + 4) n)
   where
-    held-here : HeadHeld b q
-    held-here = subst (HeadHeld b) (add-zero q) (h 0 (omega arith))
-
-    go : (t : Bool) → pick (eqb (place_from b name (q + 4) n) 0) (refused 21) (given (place_from b name (q + 4) n))
-        ≡ place_shown (moment_named name (moments_at b (q + 4) n))
-        → pick (eqb (pick t (pointer b q) (place_from b name (q + 4) n)) 0) (refused 21)
-        (given (pick t (pointer b q) (place_from b name (q + 4) n)))
+    go : (t : Bool) → place_asked (place_from b name (q + 4) n) ≡ place_shown (moment_named name (moments_at b (q + 4) n))
+        → place_asked (pick t (Some (pointer b q)) (place_from b name (q + 4) n))
         ≡ place_shown (pick t (given (moment_at (pointer b q) (part b q))) (moment_named name (moments_at b (q + 4) n)))
-    go true later = simp (ne_eqb (pointer b q) 0 (λ e. omega (arith, e, held-here.after)))
+    go true later = refl
     go false later = later
 
--- what is asked by the radial's number and its pointers is the rule's answer
-placed : (b : List ℕ) (name : ℕ) → place_asked (number_of (radial_of b)) (place_in b name) ≡ place_shown (moment_of b name)
+-- the place that is found by the pointers of an accepted radial is the rule's
+pub placed : (b : List ℕ) (name : ℕ) → 0 ≡ number_of (radial_of b) → place_asked (place_in b name) ≡ place_shown (moment_of b name)
 unfolding moment_of
-placed b name = go (radial_of b) refl
-  where
-    go : (a : Answer Description) → radial_of b ≡ a → place_asked (number_of (radial_of b)) (place_in b name) ≡ place_shown (moment_of b name)
-    go (refused n) q = rw q (simp (refused_above_0 b n q))
-    go (given d) q = rw (q, accepted_is b d q) (placed_from b name moment_pointer (count_in b - constants) (held b d q).moment)
+placed b name e = rw (number_given b e) (placed_from b name moment_pointer (count_in b - constants))
 
--- the same of the numbers that the code has
-pub asked_for : (b : List ℕ) (name number place wanted : ℕ) (r : Answer ℕ) → r ≡ place_asked number place
-    → number ≡ number_of (radial_of b) → place ≡ place_in b wanted
-    → wanted ≡ name → r ≡ place_shown (moment_of b name)
-asked_for b name number place wanted r e f g h =
-    e ∙ (λ i. place_asked (f i) (g i)) ∙ placed b wanted ∙ ap (λ (n : ℕ). place_shown (moment_of b n)) h
+pub place_refused : (b : List ℕ) (name : ℕ) (r : Refusal) → number r ≡ number_of (radial_of b)
+    → refused (number r) ≡ place_shown (moment_of b name)
+unfolding moment_of
+place_refused b name r e = rw (number_refused b r e) refl
 
 -- a moment that was found, by its place
 pub record Lies (b : List ℕ) (name p : ℕ) : Type 0 where

@@ -18,7 +18,7 @@ use Rattle.radial_heading.specs.declared.Heading.{Heading}
 use Rattle.radial.specs.declared.Span.{Span}
 use Rattle.radial_head.specs.declared.MomentHead.{MomentHead}
 use Rattle.radial.specs.Told.{span_of, head_of, no_head, heads_of, shown}
-use Rattle.radial_heading.specs.Told.{heading_shown}
+use Rattle.radial_heading.specs.Told.{heading_of, heading_shown}
 use Rattle.radial.specs.Steps.{span_at}
 use Rattle.radial_spec.proofs.Held.{BlockHeld, Held, held}
 
@@ -95,15 +95,15 @@ module _ (b : List ℕ) (accepted : radial_of b ≡ given (description b)) where
   abbrev all : Held b
   all = held b (description b) accepted
 
-  pub read : (h : Heading) (s₁ s₂ s₃ : Span) (hs : List MomentHead) → h ≡ heading_shown (radial_of b) → s₁ ≡ span_at b volume_pointer
+  pub read : (h : Heading) (s₁ s₂ s₃ : Span) (hs : List MomentHead) → given h ≡ heading_shown (radial_of b) → s₁ ≡ span_at b volume_pointer
       → s₂ ≡ span_at b elevation_pointer → s₃ ≡ span_at b radial_pointer
       → hs ≡ heads_of (moments_at b moment_pointer (count_in b - constants))
-      → record { refusal = 0; count = h.count; header = h.header; volume = s₁; elevation = s₂; radial = s₃; moments = hs }
+      → given (record { count = h.count; header = h.header; volume = s₁; elevation = s₂; radial = s₃; moments = hs })
       ≡ shown (radial_of b)
   read h s₁ s₂ s₃ hs e e₁ e₂ e₃ f =
-      let x : h ≡ heading_shown (given (description b)) = e ∙ ap heading_shown accepted in
+      let x : h ≡ heading_of (description b) = cc (e ∙ ap heading_shown accepted) in
       let v₁ = e₁ ∙ span_is b volume_pointer all.volume in
       let v₂ = e₂ ∙ span_is b elevation_pointer all.elevation in
       let v₃ = e₃ ∙ span_is b radial_pointer all.radial in
-      (λ i. record { refusal = 0; count = (x i).count; header = (x i).header; volume = v₁ i; elevation = v₂ i; radial = v₃ i; moments = f i })
+      (λ i. given (record { count = (x i).count; header = (x i).header; volume = v₁ i; elevation = v₂ i; radial = v₃ i; moments = f i }))
       ∙ ap shown (sym accepted)

@@ -6,6 +6,7 @@ use mathlib.Core.List.{List}
 use lib.Dec.{eqb}
 use lib.ListN.{length, drop}
 use borrow.Author.Tests.{eq-eqb, ne_eqb}
+use Rattle.std.specs.Prelude.{None, Some}
 use Rattle.wire.specs.Numbers.{fetched}
 use Rattle.wire.specs.Checks.{pick}
 use Rattle.wire.proofs.NumberLaws.{fetched-whole}
@@ -48,12 +49,12 @@ module _ (b : List ℕ) (name n k : ℕ) (s : Searching b name n k) where
 
     -- what is left begins with this block
     this-block : place_from b name at (n - k)
-        ≡ pick (eqb (name_in (part b at)) name) (pointer b at) (place_from b name (first_pointer + 4 * (k + 1)) (n - (k + 1)))
+        ≡ pick (eqb (name_in (part b at)) name) (Some (pointer b at)) (place_from b name (first_pointer + 4 * (k + 1)) (n - (k + 1)))
     this-block =
         let e : n - k ≡ suc (n - (k + 1)) = omega arith in
         let f : at + 4 ≡ first_pointer + 4 * (k + 1) = omega arith in
         ap (place_from b name at) e
-        ∙ ap (λ (q : ℕ). pick (eqb (name_in (part b at)) name) (pointer b at) (place_from b name q (n - (k + 1)))) f
+        ∙ ap (λ (q : ℕ). pick (eqb (name_in (part b at)) name) (Some (pointer b at)) (place_from b name q (n - (k + 1)))) f
 
     module _ (p r : ℕ) (points : pointer b at ≡ p) (e : r ≡ fetched 4 (there b p 4) 0) where
       pub name-inside : p + 4 ≤ length b
@@ -62,8 +63,8 @@ module _ (b : List ℕ) (name n k : ℕ) (s : Searching b name n k) where
       named : name_in (part b at) ≡ r
       named = ap (λ (m : ℕ). name_in (drop m b)) points ∙ sym (name_cut b p r name-inside e)
 
-      pub search-found : r ≡ name → p ≡ place_in b name
-      search-found h = sym points ∙ sym (this-block ∙ simp (eq-eqb (name_in (part b at)) name (named ∙ h))) ∙ s.same
+      pub search-found : r ≡ name → Some p ≡ place_in b name
+      search-found h = ap Some (sym points) ∙ sym (this-block ∙ simp (eq-eqb (name_in (part b at)) name (named ∙ h))) ∙ s.same
 
       pub search-on : (r ≡ name → ⊥) → Searching b name n (k + 1)
       search-on h = record {
@@ -73,5 +74,5 @@ module _ (b : List ℕ) (name n k : ℕ) (s : Searching b name n k) where
         same = sym (this-block ∙ simp (ne_eqb (name_in (part b at)) name (λ q. h (sym named ∙ q)))) ∙ s.same;
       }
 
-  pub search_ends : n ≤ k → 0 ≡ place_in b name
+  pub search_ends : n ≤ k → None ≡ place_in b name
   search_ends h = let e : n - k ≡ 0 = omega arith in sym (ap (place_from b name at) e) ∙ s.same

@@ -1,16 +1,16 @@
 -- What the private functions promise each other. No public promise cites this file.
-use Rattle.std.specs.Prelude.{ℕ, zero, suc, ◌+◌, ◌-◌, ◌*◌, ◌/◌, ◌^◌, ◌≤◌, ◌<◌, List, leb, eqb, length, drop}
+use Rattle.std.specs.Prelude.{ℕ, zero, suc, ◌+◌, ◌-◌, ◌*◌, ◌/◌, ◌^◌, ◌≤◌, ◌<◌, List, leb, eqb, length, drop, Result, Option, None, Some}
 use Rattle.std.proofs.Math.Option.{none, some}
 use Rattle.wire.specs.Numbers.{num}
 use Rattle.wire.specs.Checks.{pick}
 use Rattle.wire.specs.Answers.{Answer, refused, given, onward}
+use Rattle.wire.specs.Refusals.{tell}
+use Rattle.wire.specs.declared.refusal.Refusal.{Refusal}
 use Rattle.radial_spec.specs.Description.{constants, most_gates, word_sizes, moment_head, moment_bytes, Member, Moment, moment_pointer}
 use Rattle.radial_spec.specs.Refusal.{count_in, pointer, part, name_in, block_says, moment_at}
 use Rattle.radial.specs.declared.Span.{Span}
 use Rattle.radial_head.specs.declared.MomentHead.{MomentHead}
 use Rattle.radial.specs.declared.Coded.{Coded}
-use Rattle.radial.specs.declared.PlaceAnswer.{PlaceAnswer}
-use Rattle.radial.specs.declared.PlaceAnswer.TheVariants.{At, Refused as NoPlace}
 use Rattle.radial.specs.Told.{Told, head_of}
 
 -- where a constant block lies, by its pointer and its length field
@@ -22,25 +22,25 @@ abbrev pub head_at : List ℕ → ℕ → MomentHead
 head_at b p = head_of (moment_at p (drop p b))
 
 -- ---- where a moment begins, by its name
--- the first of the n pointers from byte q on whose block has this name; 0 if there is none
-abbrev pub place_from : List ℕ → ℕ → ℕ → ℕ → ℕ
-place_from b name q zero = 0
-place_from b name q (suc n) = pick (eqb (name_in (part b q)) name) (pointer b q) (place_from b name (q + 4) n)
+-- the first of the n pointers from byte q on whose block has this name
+abbrev pub place_from : List ℕ → ℕ → ℕ → ℕ → Option ℕ
+place_from b name q zero = None
+place_from b name q (suc n) = pick (eqb (name_in (part b q)) name) (Some (pointer b q)) (place_from b name (q + 4) n)
 
 -- the same for all pointers to moments of an accepted radial
-abbrev pub place_in : List ℕ → ℕ → ℕ
+abbrev pub place_in : List ℕ → ℕ → Option ℕ
 place_in b name = place_from b name moment_pointer (count_in b - constants)
 
-abbrev pub tell_place : PlaceAnswer → Answer ℕ
-tell_place (At place) = given place
-tell_place (NoPlace n) = refused n
+abbrev pub tell_place : Result ℕ Refusal → Answer ℕ
+tell_place = tell (λ place. place)
 
 abbrev pub place_shown : Answer Moment → Answer ℕ
 place_shown a = onward a (λ m. given m.place)
 
--- the answer from the radial's number of refusal (0: none) and the place found for the name (0: none)
-abbrev pub place_asked : ℕ → ℕ → Answer ℕ
-place_asked number place = pick (eqb number 0) (pick (eqb place 0) (refused 21) (given place)) (refused number)
+-- 21: no moment has the name asked for
+abbrev pub place_asked : Option ℕ → Answer ℕ
+place_asked None = refused 21
+place_asked (Some place) = given place
 
 -- ---- a gate's word
 -- the word of a gate is in the body

@@ -2,13 +2,13 @@
 #![tactic(auto)]
 
 ghost use Rattle.std.specs.Prelude.{◌≡◌, ◌+◌, ◌-◌, ◌≤◌, length};
-ghost use Rattle.std.proofs.Math.Option.{some};
 ghost use Rattle.wire.specs.Numbers.{num, fetched};
-ghost use Rattle.wire.specs.Answers.{refused, given};
+ghost use Rattle.wire.specs.Answers.{given};
 ghost use Rattle.radial_spec.specs.Description.{constants, most_moments, constant_head, moment_head, moment_pointer};
 ghost use Rattle.radial_spec.specs.Refusal.{count_in, pointer, moments_at, description, radial_of};
 ghost use Rattle.radial_spec.specs.Lookups.{moment_of, coded_of, block_of};
-ghost use Rattle.radial.specs.Told.{no_head, heads_of, shown, tell_moment, head_shown, tell_coded, code_shown, tell_block, block_shown};
+ghost use Rattle.radial.specs.Told.{heads_of, tell_radial, shown, tell_moment, head_shown, tell_coded, code_shown};
+ghost use Rattle.radial.specs.Told.{block_told, if_any, tell_block, block_shown};
 ghost use Rattle.radial.specs.Steps.{span_at, head_at, place_in, tell_place, place_shown, WordThere, code_in, GatesThere, coded_by};
 ghost use Rattle.radial.specs.Steps.{constant_told, moment_told};
 
@@ -18,7 +18,7 @@ use radial_check::{
 };
 use radial_head::{MOMENT_HEAD, MomentHead};
 use radial_heading::Header;
-use wire::refusal;
+use wire::refusal::Refusal;
 
 // Room for the most moments that the block count allows.
 pub const ROOM: usize = (MOST_BLOCKS - CONSTANTS) as usize;
@@ -30,10 +30,9 @@ pub struct Span {
     pub length: u16,
 }
 
-// What a body says: `refusal` is 0, or the number of the refusal and all else 0.
+// What an accepted body says. The places of `moments` after the last moment hold heads of zeros.
 #[derive(Clone, Copy)]
 pub struct Radial {
-    pub refusal: u8,
     pub count: u16,
     pub header: Header,
     pub volume: Span,
@@ -45,30 +44,11 @@ pub struct Radial {
 // A moment's name, as four bytes.
 pub type Name = [u8; 4];
 
-// Where the moment asked for begins.
-#[derive(Clone, Copy)]
-enum PlaceAnswer {
-    At(u32),
-    Refused(u8),
-}
-
-#[derive(Clone, Copy)]
-pub enum MomentAnswer {
-    Moment(MomentHead),
-    Refused(u8),
-}
-
 // A gate's code, with the head of its moment, which holds scale and offset.
 #[derive(Clone, Copy)]
 pub struct Coded {
     pub code: u16,
     pub head: MomentHead,
-}
-
-#[derive(Clone, Copy)]
-pub enum CodeAnswer {
-    Code(Coded),
-    Refused(u8),
 }
 
 // A block's name, place and length.
@@ -79,77 +59,30 @@ pub struct Lying {
     pub size: u32,
 }
 
-// A block that does not exist is not a refusal, since no number covers it.
+// A block, and of a moment its head.
 #[derive(Clone, Copy)]
-pub enum BlockAnswer {
+pub enum RadialBlock {
     Constant(Lying),
     Moment(Lying, MomentHead),
-    NoSuch,
-    Refused(u8),
 }
 
-fn no_head() -> MomentHead
-    ensures { result ≡ no_head }
-{
-    MomentHead {
-        name: 0,
-        place: 0,
-        reserved: 0,
-        gates: 0,
-        first: 0,
-        interval: 0,
-        overlay: 0,
-        noise: 0,
-        flags: 0,
-        word: 0,
-        scale: 0.0f32,
-        offset: 0.0f32,
-        scale_bits: 0,
-        offset_bits: 0,
-    }
-}
-
-// A refusal: its number, and all else 0.
-fn refuse(number: u8) -> Radial
-    ensures { result ≡ shown (refused number) }
-{
-    let header = radial_heading::no_header();
-    let nowhere = Span {
-        place: 0,
-        length: 0,
-    };
-    let none = no_head();
-    let moments = [none; ROOM];
-    Radial {
-        refusal: number,
-        count: 0,
-        header: header,
-        volume: nowhere,
-        elevation: nowhere,
-        radial: nowhere,
-        moments: moments,
-    }
-}
-
-// Where the first moment with a name begins, by the pointers of an accepted radial; 0 where none has it.
-fn moment_place(body: &[u8], name: u32) -> u32
+// Where the first moment with a name begins, by the pointers of an accepted radial.
+fn moment_place(body: &[u8], name: u32) -> Option<u32>
     requires { radial_of body.now ≡ given (description body.now) }
     ensures { result ≡ place_in body.now name }
 {
-    let count = wire::fetch16(body, COUNT_PLACE) as u32;
-    let mut k = CONSTANTS as u32;
-    while k < count {
+    let count = wire::fetch::<u16>(body, COUNT_PLACE) as u32;
+    for k in CONSTANTS as u32..count {
         let at = (FIRST_POINTER + 4 * k) as usize;
         let next = at + 4;
-        let place = wire::fetch32(&body[at..next], 0);
+        let place = wire::fetch::<u32>(&body[at..next], 0);
         let begin = place as usize;
         let after = begin + 4;
-        if wire::fetch32(&body[begin..after], 0) == name {
-            return place;
+        if wire::fetch::<u32>(&body[begin..after], 0) == name {
+            return Some(place);
         }
-        k += 1;
     }
-    0
+    None
 }
 
 // The head of the moment at a place of the body.
@@ -167,13 +100,11 @@ fn all_heads(body: &[u8], count: u32) -> [MomentHead; ROOM]
     requires { (radial_of body.now ≡ given (description body.now)) × (count ≡ count_in body.now - constants) × (count ≤ most_moments) }
     ensures { result ≡ heads_of (moments_at body.now moment_pointer count) }
 {
-    let none = no_head();
+    let none = MomentHead::default();
     let mut heads = [none; ROOM];
-    let mut i = 0;
-    while i < count {
-        let head = head_at(body, wire::fetch32(body, MOMENT_POINTER + 4 * i));
+    for i in 0..count {
+        let head = head_at(body, wire::fetch::<u32>(body, MOMENT_POINTER + 4 * i));
         heads[i as usize] = head;
-        i += 1;
     }
     heads
 }
@@ -183,62 +114,48 @@ fn span_of(body: &[u8], at: u32) -> Span
     requires { (at + 4 ≤ length body.now) × (pointer body.now at + constant_head ≤ length body.now) }
     ensures { result ≡ span_at body.now at }
 {
-    let place = wire::fetch32(body, at);
+    let place = wire::fetch::<u32>(body, at);
     let begin = place as usize;
     let end = begin + CONSTANT_HEAD;
     Span {
         place: place,
-        length: wire::fetch16(&body[begin..end], LENGTH_PLACE),
+        length: wire::fetch::<u16>(&body[begin..end], LENGTH_PLACE),
     }
 }
 
-// What a body says, or the number that refuses it. No byte of a gate is read.
-pub fn read_radial(body: &[u8]) -> Radial
-    ensures { result ≡ shown (radial_of body.now) }
+// What a body says. No byte of a gate is read.
+pub fn read_radial(body: &[u8]) -> Result<Radial, Refusal>
+    ensures { tell_radial result ≡ shown (radial_of body.now) }
 {
-    let read = radial_heading::read_heading(body);
-    if read.refusal != 0 {
-        return refuse(read.refusal);
-    }
-    let header = read.header;
+    let read = radial_heading::read_heading(body)?;
     let volume = span_of(body, VOLUME_POINTER);
     let elevation = span_of(body, ELEVATION_POINTER);
     let radial = span_of(body, RADIAL_POINTER);
     let heads = all_heads(body, (read.count - CONSTANTS) as u32);
-    Radial {
-        refusal: 0,
+    Ok(Radial {
         count: read.count,
-        header: header,
+        header: read.header,
         volume: volume,
         elevation: elevation,
         radial: radial,
         moments: heads,
-    }
+    })
 }
 
 // Where the moment with a name begins; "21 moment asked for doesn't exist".
-fn place(body: &[u8], name: Name) -> PlaceAnswer
+fn place(body: &[u8], name: Name) -> Result<u32, Refusal>
     ensures { tell_place result ≡ place_shown (moment_of body.now (num 4 name 0)) }
 {
-    let number = radial_check::check_radial(body);
-    if number != 0 {
-        return PlaceAnswer::Refused(number);
-    }
-    let begin = moment_place(body, wire::fetch32(&name, 0));
-    if begin == 0 {
-        return PlaceAnswer::Refused(refusal::ASKED_FOR);
-    }
-    PlaceAnswer::At(begin)
+    radial_check::check_radial(body)?;
+    moment_place(body, wire::fetch::<u32>(&name, 0)).ok_or(Refusal::AskedFor)
 }
 
 // The head of the moment with a name.
-pub fn moment(body: &[u8], name: Name) -> MomentAnswer
+pub fn moment(body: &[u8], name: Name) -> Result<MomentHead, Refusal>
     ensures { tell_moment result ≡ head_shown (moment_of body.now (num 4 name 0)) }
 {
-    match place(body, name) {
-        PlaceAnswer::Refused(number) => MomentAnswer::Refused(number),
-        PlaceAnswer::At(begin) => MomentAnswer::Moment(head_at(body, begin)),
-    }
+    let begin = place(body, name)?;
+    Ok(head_at(body, begin))
 }
 
 // The code of a gate: word `gate` after the head of the moment at `place`.
@@ -249,93 +166,84 @@ fn code_in(body: &[u8], place: usize, word: u8, gate: usize) -> u16
     if word == WIDE_WORD {
         let at = place + (MOMENT_HEAD + gate * 2);
         let end = at + 2;
-        return wire::fetch16(&body[at..end], 0);
+        return wire::fetch::<u16>(&body[at..end], 0);
     }
     let at = place + (MOMENT_HEAD + gate);
     let end = at + 1;
-    wire::fetch8(&body[at..end], 0) as u16
+    wire::fetch::<u8>(&body[at..end], 0) as u16
 }
 
 // A gate of the moment with this head.
-fn coded_by(body: &[u8], head: MomentHead, gate: usize) -> CodeAnswer
+fn coded_by(body: &[u8], head: MomentHead, gate: usize) -> Result<Coded, Refusal>
     requires { GatesThere body.now head }
     ensures { tell_coded result ≡ coded_by body.now head gate }
 {
     if head.gates as usize <= gate {
-        return CodeAnswer::Refused(refusal::ASKED_FOR);
+        return Err(Refusal::AskedFor);
     }
-    CodeAnswer::Code(Coded {
+    Ok(Coded {
         code: code_in(body, head.place as usize, head.word, gate),
         head: head,
     })
 }
 
 // The code of a gate (counted from 0) of the moment with a name, and the moment's head.
-pub fn code(body: &[u8], name: Name, gate: usize) -> CodeAnswer
+pub fn code(body: &[u8], name: Name, gate: usize) -> Result<Coded, Refusal>
     ensures { tell_coded result ≡ code_shown (coded_of body.now (num 4 name 0) gate) }
 {
-    match place(body, name) {
-        PlaceAnswer::Refused(number) => CodeAnswer::Refused(number),
-        PlaceAnswer::At(begin) => coded_by(body, head_at(body, begin), gate),
-    }
+    let begin = place(body, name)?;
+    coded_by(body, head_at(body, begin), gate)
 }
 
 // One of the three constant blocks of an accepted radial, by its pointer.
-fn constant(body: &[u8], name: &[u8], at: u32) -> BlockAnswer
+fn constant(body: &[u8], name: &[u8], at: u32) -> RadialBlock
     requires { (at + 4 ≤ length body.now) × (pointer body.now at + constant_head ≤ length body.now) }
-    ensures { tell_block result ≡ given (some (constant_told (fetched 4 name.now 0) (span_at body.now at))) }
+    ensures { block_told result ≡ constant_told (fetched 4 name.now 0) (span_at body.now at) }
 {
     let span = span_of(body, at);
-    BlockAnswer::Constant(Lying {
-        name: wire::fetch32(name, 0),
+    RadialBlock::Constant(Lying {
+        name: wire::fetch::<u32>(name, 0),
         place: span.place,
         size: span.length as u32,
     })
 }
 
-// Block k in pointer order, from 1.
-pub fn block(body: &[u8], k: u32) -> BlockAnswer
+// Block k in pointer order, from 1. A block that does not exist is not a refusal, since no number covers it.
+pub fn block(body: &[u8], k: u32) -> Result<Option<RadialBlock>, Refusal>
     ensures { tell_block result ≡ block_shown (block_of body.now k) }
 {
-    let number = radial_check::check_radial(body);
-    if number != 0 {
-        return BlockAnswer::Refused(number);
-    }
-    block_in(body, k)
+    radial_check::check_radial(body)?;
+    Ok(block_in(body, k))
 }
 
 // The same for a radial that was accepted.
-fn block_in(body: &[u8], k: u32) -> BlockAnswer
+fn block_in(body: &[u8], k: u32) -> Option<RadialBlock>
     requires { radial_of body.now ≡ given (description body.now) }
-    ensures { tell_block result ≡ block_shown (block_of body.now k) }
+    ensures { given (if_any result) ≡ block_shown (block_of body.now k) }
 {
-    let count = wire::fetch16(body, COUNT_PLACE) as u32;
+    let count = wire::fetch::<u16>(body, COUNT_PLACE) as u32;
     if count < k {
-        return BlockAnswer::NoSuch;
+        return None;
     }
-    if k == 0 {
-        return BlockAnswer::NoSuch;
+    match k {
+        0 => None,
+        1 => Some(constant(body, b"RVOL", VOLUME_POINTER)),
+        2 => Some(constant(body, b"RELV", ELEVATION_POINTER)),
+        3 => Some(constant(body, b"RRAD", RADIAL_POINTER)),
+        _ => {
+            let place = wire::fetch::<u32>(body, FIRST_POINTER + 4 * (k - 1));
+            Some(moment_block(head_at(body, place)))
+        }
     }
-    if k == 1 {
-        return constant(body, b"RVOL", VOLUME_POINTER);
-    }
-    if k == 2 {
-        return constant(body, b"RELV", ELEVATION_POINTER);
-    }
-    if k == 3 {
-        return constant(body, b"RRAD", RADIAL_POINTER);
-    }
-    let place = wire::fetch32(body, FIRST_POINTER + 4 * (k - 1));
-    moment_block(head_at(body, place))
 }
 
-fn moment_block(head: MomentHead) -> BlockAnswer
-    ensures { tell_block result ≡ given (some (moment_told head)) }
+fn moment_block(head: MomentHead) -> RadialBlock
+    ensures { block_told result ≡ moment_told head }
 {
     let lying = Lying {
         name: head.name,
         place: head.place,
         size: radial_head::moment_size(head.gates, head.word),
     };
-    BlockAnswer::Moment(lying, head)
+    RadialBlock::Moment(lying, head)
 }

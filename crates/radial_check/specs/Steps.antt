@@ -1,33 +1,28 @@
 -- What the private functions promise each other, in the rule's own checks. No public promise cites this file.
-use Rattle.std.specs.Prelude.{ℕ, suc, ◌+◌, ◌^◌, Bool, not, List, [], ◌∷◌, ltb, eqb}
+use Rattle.std.specs.Prelude.{ℕ, suc, ◌+◌, ◌^◌, Bool, not, List, [], ◌∷◌, ltb, eqb, Result}
 use Rattle.std.specs.Int.Bits.{bit_and}
 use Rattle.wire.specs.Numbers.{fetched}
 use Rattle.wire.specs.Checks.{Check, check, among, pick, decide}
-use Rattle.wire.specs.Answers.{Answer, refused, given, rule}
+use Rattle.wire.specs.Answers.{Answer, rule}
+use Rattle.wire.specs.Refusals.{tell}
+use Rattle.wire.specs.declared.refusal.Refusal.{Refusal}
 use Rattle.radial_spec.specs.Description.{permitted, most_gates, word_sizes, moment_head, moment_pointer, radial_pointer, moment_bytes, length_place}
 use Rattle.radial_spec.specs.Refusal.{size_in, count_in, pointer, part, block_says, header_checks, block_checks, moments_checks, end_at}
 use Rattle.radial_spec.specs.Refusal.{constants_checks, head_in}
 use Rattle.radial_head.specs.declared.Key.{Key}
 use Rattle.radial_head.specs.Told.{key_of}
 use Rattle.radial_check.specs.declared.Start.{Start}
-use Rattle.radial_check.specs.declared.Start.TheVariants.{Checked, Refused as NotStarted}
-use Rattle.radial_check.specs.declared.Found.{Found}
-use Rattle.radial_check.specs.declared.Found.TheVariants.{Ends, Refused as NotFound}
 use Rattle.radial_check.specs.declared.Got.{Got}
-use Rattle.radial_check.specs.declared.Got.TheVariants.{Moment, Refused as NotGot}
 
 -- ---- each answer, told as the rule's
-abbrev pub tell_start : Start → Answer (ℕ × ℕ)
-tell_start (Checked size count) = given (size, count)
-tell_start (NotStarted n) = refused n
+abbrev pub tell_start : Result Start Refusal → Answer (ℕ × ℕ)
+tell_start = tell (λ s. (s.size, s.count))
 
-abbrev pub tell_found : Found → Answer ℕ
-tell_found (Ends end) = given end
-tell_found (NotFound n) = refused n
+abbrev pub tell_found : Result ℕ Refusal → Answer ℕ
+tell_found = tell (λ end. end)
 
-abbrev pub tell_got : Got → Answer (ℕ × ℕ)
-tell_got (Moment bit end) = given (bit, end)
-tell_got (NotGot n) = refused n
+abbrev pub tell_got : Result Got Refusal → Answer (ℕ × ℕ)
+tell_got = tell (λ m. (m.bit, m.end))
 
 -- ---- names by their bits
 -- 2 to the power of a name's index in a list, where the first index is k; 0 for a name that is not in it

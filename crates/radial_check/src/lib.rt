@@ -5,6 +5,7 @@ ghost use Rattle.std.specs.Prelude.{◌≡◌, ◌+◌, ◌≤◌, eqb, length};
 ghost use Rattle.wire.specs.Numbers.{fetched};
 ghost use Rattle.wire.specs.Checks.{among};
 ghost use Rattle.wire.specs.Answers.{number_of};
+ghost use Rattle.wire.specs.Refusals.{number_in};
 ghost use Rattle.radial_spec.specs.Description.{header_size, most_moments, word_sizes};
 ghost use Rattle.radial_spec.specs.Refusal.{size_in, radial_of};
 ghost use Rattle.radial_head.specs.Told.{fetched_head, key_of};
@@ -12,7 +13,7 @@ ghost use Rattle.radial_check.specs.Steps.{tell_start, tell_found, tell_got, bit
 ghost use Rattle.radial_check.specs.Steps.{constants_of, moment_in, moment_next, moments_of};
 
 use radial_head::MOMENT_HEAD;
-use wire::refusal;
+use wire::refusal::Refusal;
 
 // "The header takes bytes 0 to 67"
 pub const HEADER_SIZE: usize = 68;
@@ -69,114 +70,106 @@ const NAMES: usize = 6;
 
 const PERMITTED: [[u8; 4]; NAMES] = [*b"DREF", *b"DVEL", *b"DSW ", *b"DZDR", *b"DPHI", *b"DRHO"];
 
-// The radial length and the block count.
+// What the header says: the radial length and the block count.
 #[derive(Clone, Copy)]
-enum Start {
-    Checked(usize, u16),
-    Refused(u8),
-}
-
-// Where a constant block ends.
-#[derive(Clone, Copy)]
-enum Found {
-    Ends(usize),
-    Refused(u8),
+struct Start {
+    size: usize,
+    count: u16,
 }
 
 // The bit of a moment's name, and where the moment ends.
 #[derive(Clone, Copy)]
-enum Got {
-    Moment(u32, usize),
-    Refused(u8),
+struct Got {
+    bit: u32,
+    end: usize,
 }
 
 // Checks 14 to 17.
-fn begin(body: &[u8]) -> Start
+fn begin(body: &[u8]) -> Result<Start, Refusal>
     ensures { tell_start result ≡ start_of body.now }
 {
     if body.len() < HEADER_SIZE {
-        return Start::Refused(refusal::RADIAL_SHORT);
+        return Err(Refusal::RadialShort);
     }
-    if wire::fetch8(body, COMPRESSION_PLACE) != 0 {
-        return Start::Refused(refusal::COMPRESSION);
+    if wire::fetch::<u8>(body, COMPRESSION_PLACE) != 0 {
+        return Err(Refusal::Compression);
     }
-    let length = wire::fetch16(body, SIZE_PLACE);
+    let length = wire::fetch::<u16>(body, SIZE_PLACE);
     if (length as usize) < HEADER_SIZE {
-        return Start::Refused(refusal::RADIAL_LENGTH);
+        return Err(Refusal::RadialLength);
     }
     if body.len() < length as usize {
-        return Start::Refused(refusal::RADIAL_LENGTH);
+        return Err(Refusal::RadialLength);
     }
-    let count = wire::fetch16(body, COUNT_PLACE);
+    let count = wire::fetch::<u16>(body, COUNT_PLACE);
     if count < FEWEST_BLOCKS {
-        return Start::Refused(refusal::BLOCK_COUNT);
+        return Err(Refusal::BlockCount);
     }
     if MOST_BLOCKS < count {
-        return Start::Refused(refusal::BLOCK_COUNT);
+        return Err(Refusal::BlockCount);
     }
-    Start::Checked(length as usize, count)
+    Ok(Start {
+        size: length as usize,
+        count: count,
+    })
 }
 
 // Checks a constant block at `place` in a radial of `size` bytes, by the block's first six bytes.
-fn constant(head: &[u8], size: usize, place: u32, name: &[u8], least: u16) -> Found
+fn constant(head: &[u8], size: usize, place: u32, name: &[u8], least: u16) -> Result<usize, Refusal>
     ensures { tell_found result ≡ constant_by size place head.now (fetched 4 name.now 0) least }
 {
-    if wire::fetch32(head, 0) != wire::fetch32(name, 0) {
-        return Found::Refused(refusal::NAME);
+    if wire::fetch::<u32>(head, 0) != wire::fetch::<u32>(name, 0) {
+        return Err(Refusal::Name);
     }
-    let length = wire::fetch16(head, LENGTH_PLACE);
+    let length = wire::fetch::<u16>(head, LENGTH_PLACE);
     if length < least {
-        return Found::Refused(refusal::BLOCK);
+        return Err(Refusal::Block);
     }
     let end = place as usize + length as usize;
     if size < end {
-        return Found::Refused(refusal::BLOCK);
+        return Err(Refusal::Block);
     }
-    Found::Ends(end)
+    Ok(end)
 }
 
 // 18 for a pointer that is too early or too near the end of the radial. For any other pointer the block's first bytes are in the radial.
-fn constant_at(body: &[u8], size: usize, from: usize, at: u32, name: &[u8], least: u16) -> Found
+fn constant_at(
+    body: &[u8],
+    size: usize,
+    from: usize,
+    at: u32,
+    name: &[u8],
+    least: u16,
+) -> Result<usize, Refusal>
     requires { (size ≤ length body.now) × (at + 4 ≤ length body.now) }
     ensures { tell_found result ≡ constant_at body.now size from at (fetched 4 name.now 0) least }
 {
-    let pointer = wire::fetch32(body, at);
+    let pointer = wire::fetch::<u32>(body, at);
     let place = pointer as usize;
     if place < from {
-        return Found::Refused(refusal::POINTER);
+        return Err(Refusal::Pointer);
     }
     let end = place + CONSTANT_HEAD;
     if size < end {
-        return Found::Refused(refusal::POINTER);
+        return Err(Refusal::Pointer);
     }
     constant(&body[place..end], size, pointer, name, least)
 }
 
-fn all_constants(body: &[u8], size: usize, first: usize) -> Found
+fn all_constants(body: &[u8], size: usize, first: usize) -> Result<usize, Refusal>
     requires { (header_size ≤ length body.now) × (size ≤ length body.now) × (size ≡ size_in body.now) }
     ensures { tell_found result ≡ constants_of body.now first }
 {
-    match constant_at(body, size, first, VOLUME_POINTER, b"RVOL", VOLUME_LEAST) {
-        Found::Refused(number) => Found::Refused(number),
-        Found::Ends(from) => match constant_at(
-            body,
-            size,
-            from,
-            ELEVATION_POINTER,
-            b"RELV",
-            ELEVATION_LEAST,
-        ) {
-            Found::Refused(number) => Found::Refused(number),
-            Found::Ends(next) => constant_at(
-                body,
-                size,
-                next,
-                RADIAL_POINTER,
-                b"RRAD",
-                RADIAL_LEAST,
-            ),
-        },
-    }
+    let volume = constant_at(body, size, first, VOLUME_POINTER, b"RVOL", VOLUME_LEAST)?;
+    let elevation = constant_at(
+        body,
+        size,
+        volume,
+        ELEVATION_POINTER,
+        b"RELV",
+        ELEVATION_LEAST,
+    )?;
+    constant_at(body, size, elevation, RADIAL_POINTER, b"RRAD", RADIAL_LEAST)
 }
 
 // The bit of a name: 2 to the power of its index in PERMITTED, or 0 for a name that is not permitted.
@@ -184,13 +177,11 @@ fn bit_of(name: u32) -> u32
     ensures { result ≡ bit_of name }
 {
     let mut bit: u32 = 1;
-    let mut i = 0;
-    while i < NAMES {
-        if wire::fetch32(&PERMITTED[i], 0) == name {
+    for known in &PERMITTED {
+        if wire::fetch::<u32>(known, 0) == name {
             return bit;
         }
         bit = bit * 2;
-        i += 1;
     }
     0
 }
@@ -198,88 +189,73 @@ fn bit_of(name: u32) -> u32
 fn sized(word: u8) -> bool
     ensures { result ≡ among word word_sizes }
 {
-    if word == NARROW_WORD {
-        return true;
-    }
-    word == WIDE_WORD
+    word == NARROW_WORD || word == WIDE_WORD
 }
 
 // Checks a moment at `place` in a radial of `size` bytes, by its first 28 bytes. `seen` holds the bits of the names before it.
-fn moment_in(part: &[u8], size: usize, place: u32, seen: u32) -> Got
+fn moment_in(part: &[u8], size: usize, place: u32, seen: u32) -> Result<Got, Refusal>
     ensures { tell_got result ≡ moment_in size place (key_of (fetched_head part.now)) seen }
 {
     let key = radial_head::key_of(part);
     let bit = bit_of(key.name);
     if bit == 0 {
-        return Got::Refused(refusal::NAME);
+        return Err(Refusal::Name);
     }
     if seen & bit != 0 {
-        return Got::Refused(refusal::NAME);
+        return Err(Refusal::Name);
     }
     if MOST_GATES < key.gates {
-        return Got::Refused(refusal::BLOCK);
+        return Err(Refusal::Block);
     }
     if !sized(key.word) {
-        return Got::Refused(refusal::BLOCK);
+        return Err(Refusal::Block);
     }
     let end = place as usize + radial_head::moment_size(key.gates, key.word) as usize;
     if size < end {
-        return Got::Refused(refusal::BLOCK);
+        return Err(Refusal::Block);
     }
-    Got::Moment(bit, end)
+    Ok(Got { bit: bit, end: end })
 }
 
 // The fetch is from a slice of four bytes, so the compiler drops its test although it knows no bound of `at`.
-fn moment_at(body: &[u8], size: usize, from: usize, at: u32, seen: u32) -> Got
+fn moment_at(body: &[u8], size: usize, from: usize, at: u32, seen: u32) -> Result<Got, Refusal>
     requires { (size ≤ length body.now) × (at + 4 ≤ length body.now) }
     ensures { tell_got result ≡ moment_next body.now size from at seen }
 {
     let begin = at as usize;
     let after = begin + 4;
-    let pointer = wire::fetch32(&body[begin..after], 0);
+    let pointer = wire::fetch::<u32>(&body[begin..after], 0);
     let place = pointer as usize;
     if place < from {
-        return Got::Refused(refusal::POINTER);
+        return Err(Refusal::Pointer);
     }
     let end = place + MOMENT_HEAD;
     if size < end {
-        return Got::Refused(refusal::POINTER);
+        return Err(Refusal::Pointer);
     }
     moment_in(&body[place..end], size, pointer, seen)
 }
 
-// Checks the moments in pointer order, each at or after the end of the block before: the number of the first refusal, or 0.
-fn all_moments(body: &[u8], size: usize, first: usize, count: u32) -> u8
+// Checks the moments in pointer order, each at or after the end of the block before.
+fn all_moments(body: &[u8], size: usize, first: usize, count: u32) -> Result<(), Refusal>
     requires { (header_size ≤ length body.now) × (size ≤ length body.now) × (count ≤ most_moments) }
-    ensures { result ≡ moments_of body.now size first count }
+    ensures { number_in result ≡ moments_of body.now size first count }
 {
     let mut seen: u32 = 0;
     let mut from = first;
-    let mut i = 0;
-    while i < count {
-        match moment_at(body, size, from, MOMENT_POINTER + 4 * i, seen) {
-            Got::Refused(number) => {
-                return number;
-            }
-            Got::Moment(bit, end) => {
-                seen = seen | bit;
-                from = end;
-            }
-        }
-        i += 1;
+    for i in 0..count {
+        let found = moment_at(body, size, from, MOMENT_POINTER + 4 * i, seen)?;
+        seen = seen | found.bit;
+        from = found.end;
     }
-    0
+    Ok(())
 }
 
-// The radial's checks: 0, or the number that refuses the body. No byte of a gate is read.
-pub fn check_radial(body: &[u8]) -> u8
-    ensures { result ≡ number_of (radial_of body.now) }
+// The radial's checks. No byte of a gate is read.
+pub fn check_radial(body: &[u8]) -> Result<(), Refusal>
+    ensures { number_in result ≡ number_of (radial_of body.now) }
 {
-    match begin(body) {
-        Start::Refused(number) => number,
-        Start::Checked(size, count) => match all_constants(body, size, FIRST_PLACE) {
-            Found::Refused(number) => number,
-            Found::Ends(end) => all_moments(body, size, end, (count - CONSTANTS) as u32),
-        },
-    }
+    let start = begin(body)?;
+    let end = all_constants(body, start.size, FIRST_PLACE)?;
+    all_moments(body, start.size, end, (start.count - CONSTANTS) as u32)
 }

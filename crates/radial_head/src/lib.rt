@@ -9,7 +9,7 @@ ghost use Rattle.radial_head.specs.Told.{fetched_head, head_told, key_of};
 pub const MOMENT_HEAD: usize = 28;
 
 // A moment's first 28 bytes and its place. Scale and offset are given both as floats and as their 32 bits.
-#[derive(Clone, Copy)]
+#[derive(Clone, Copy, Default)]
 pub struct MomentHead {
     pub name: u32,
     pub place: u32,
@@ -47,9 +47,9 @@ pub fn key_of(part: &[u8]) -> Key
     ensures { result ≡ key_of (fetched_head part.now) }
 {
     Key {
-        name: wire::fetch32(part, 0),
-        gates: wire::fetch16(part, 8),
-        word: wire::fetch8(part, 19),
+        name: wire::fetch::<u32>(part, 0),
+        gates: wire::fetch::<u16>(part, 8),
+        word: wire::fetch::<u8>(part, 19),
     }
 }
 
@@ -58,18 +58,18 @@ pub fn head_of(part: &[u8], place: u32) -> MomentHead
     ensures { result ≡ head_told place (fetched_head part.now) }
 {
     let key = key_of(part);
-    let scale = wire::fetch32(part, 20);
-    let offset = wire::fetch32(part, 24);
+    let scale = wire::fetch::<u32>(part, 20);
+    let offset = wire::fetch::<u32>(part, 24);
     MomentHead {
         name: key.name,
         place: place,
-        reserved: wire::fetch32(part, 4),
+        reserved: wire::fetch::<u32>(part, 4),
         gates: key.gates,
-        first: wire::fetch16(part, 10),
-        interval: wire::fetch16(part, 12),
-        overlay: wire::fetch16(part, 14),
-        noise: wire::fetch16(part, 16),
-        flags: wire::fetch8(part, 18),
+        first: wire::fetch::<u16>(part, 10),
+        interval: wire::fetch::<u16>(part, 12),
+        overlay: wire::fetch::<u16>(part, 14),
+        noise: wire::fetch::<u16>(part, 16),
+        flags: wire::fetch::<u8>(part, 18),
         word: key.word,
         scale: wire::float_of(scale),
         offset: wire::float_of(offset),

@@ -1,18 +1,19 @@
 -- The header is cut from the body, and what is read there is what the description says. Assumes nothing.
 use Prim.Native.Nat.{ℕ, ◌+◌, ◌-◌}
 use native.Mathlib.Omega.{arith}
-use mathlib.Core.Path.{◌≡◌, refl, sym, ap, ◌∙◌}
+use mathlib.Core.Path.{◌≡◌, sym, ap, ◌∙◌}
 use mathlib.Core.List.{List}
 use lib.ListN.{length, take}
-use Rattle.wire.specs.Answers.{Answer, refused, given, number_of}
+use Rattle.wire.specs.Answers.{given}
 use Rattle.wire.proofs.NumberLaws.{num-take}
-use Rattle.radial_spec.specs.Description.{constants, Description, header_size, moment_pointer}
+use Rattle.wire.proofs.OnwardLaws.{shows_given}
+use Rattle.radial_spec.specs.Description.{constants, header_size, moment_pointer}
 use Rattle.radial_spec.specs.Refusal.{count_in, moments_at, description, radial_of}
 use Rattle.radial_spec.proofs.Accepted.{moments_length}
-use Rattle.radial_spec.proofs.Held.{held}
+use Rattle.radial_spec.proofs.Held.{held, accepted_is}
 use Rattle.radial_heading.specs.declared.Header.{Header}
 use Rattle.radial_heading.specs.declared.Heading.{Heading}
-use Rattle.radial_heading.specs.Told.{header_of, heading_shown}
+use Rattle.radial_heading.specs.Told.{header_of, heading_of, heading_shown}
 
 -- the header, by the body's first 68 bytes
 pub header_there : (b : List ℕ) → header_of (description (take header_size b)) ≡ header_of (description b)
@@ -34,20 +35,23 @@ header_there b =
       indexing = num-take 1 header_size b 29 (omega arith) i;
     }
 
--- the heading's number is the answer's
-pub heading_number : (a : Answer Description) → (heading_shown a).refusal ≡ number_of a
-heading_number (refused n) = refl
-heading_number (given d) = refl
-
 module _ (b : List ℕ) (accepted : radial_of b ≡ given (description b)) where
   -- the block count is that of what is described
   pub counted : count_in b ≡ constants + length (moments_at b moment_pointer (count_in b - constants))
   counted = omega (arith, (held b (description b) accepted).start.some, moments_length b moment_pointer (count_in b - constants))
 
   pub heading_is : (n : ℕ) (h : Header) → n ≡ count_in b → h ≡ header_of (description b)
-      → record { refusal = 0; count = n; header = h } ≡ heading_shown (radial_of b)
-  heading_is n h e f = (λ i. record { refusal = 0; count = (e ∙ counted) i; header = f i }) ∙ ap heading_shown (sym accepted)
+      → given (record { count = n; header = h }) ≡ heading_shown (radial_of b)
+  heading_is n h e f = (λ i. given (record { count = (e ∙ counted) i; header = f i })) ∙ ap heading_shown (sym accepted)
 
-  -- the count that the heading has
-  pub count_is : (h : Heading) → h ≡ heading_shown (radial_of b) → h.count ≡ count_in b
-  count_is h e = ap (λ (x : Heading). x.count) (e ∙ ap heading_shown accepted) ∙ sym counted
+-- a heading is told of an accepted body alone, and has its count
+pub heading_given : (b : List ℕ) (h : Heading) → given h ≡ heading_shown (radial_of b) → radial_of b ≡ given (description b)
+heading_given b h e =
+    let s = shows_given (radial_of b) heading_of h e in
+    s.was ∙ ap given (accepted_is b s.value s.was)
+
+pub count_is : (b : List ℕ) (h : Heading) → given h ≡ heading_shown (radial_of b) → h.count ≡ count_in b
+count_is b h e =
+    let accepted = heading_given b h e in
+    let is : h ≡ heading_of (description b) = cc (e ∙ ap heading_shown accepted) in
+    ap (λ (x : Heading). x.count) is ∙ sym (counted b accepted)

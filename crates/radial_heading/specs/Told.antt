@@ -1,5 +1,8 @@
--- What the heading hands back by value: of a description its header's values and its block count; of a refusal its number, and all else 0.
-use Rattle.wire.specs.Answers.{Answer, refused, given}
+-- What the heading hands back by value: of a description its header's values and its block count, or the number of the refusal.
+use Rattle.std.specs.Prelude.{Result}
+use Rattle.wire.specs.Answers.{Answer, given, onward}
+use Rattle.wire.specs.Refusals.{tell}
+use Rattle.wire.specs.declared.refusal.Refusal.{Refusal}
 use Rattle.radial_spec.specs.Description.{Description, block_count}
 use Rattle.radial_heading.specs.declared.Header.{Header}
 use Rattle.radial_heading.specs.declared.Heading.{Heading}
@@ -21,23 +24,11 @@ header_of d = record {
   indexing = d.indexing;
 }
 
-abbrev pub no_header : Header
-no_header = record {
-  station = 0;
-  time = 0;
-  date = 0;
-  azimuth_number = 0;
-  azimuth = 0;
-  size = 0;
-  spacing = 0;
-  status = 0;
-  elevation_number = 0;
-  sector = 0;
-  elevation = 0;
-  spot = 0;
-  indexing = 0;
-}
+abbrev pub heading_of : Description → Heading
+heading_of d = record { count = block_count d; header = header_of d }
 
-abbrev pub heading_shown : Answer Description → Heading
-heading_shown (refused n) = record { refusal = n; count = 0; header = no_header }
-heading_shown (given d) = record { refusal = 0; count = block_count d; header = header_of d }
+abbrev pub tell_heading : Result Heading Refusal → Answer Heading
+tell_heading = tell (λ h. h)
+
+abbrev pub heading_shown : Answer Description → Answer Heading
+heading_shown a = onward a (λ d. given (heading_of d))

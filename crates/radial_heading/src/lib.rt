@@ -4,9 +4,10 @@
 ghost use Rattle.std.specs.Prelude.{◌≡◌, ◌≤◌, length};
 ghost use Rattle.radial_spec.specs.Description.{header_size};
 ghost use Rattle.radial_spec.specs.Refusal.{count_in, description, radial_of};
-ghost use Rattle.radial_heading.specs.Told.{header_of, no_header, heading_shown};
+ghost use Rattle.radial_heading.specs.Told.{header_of, tell_heading, heading_shown};
 
 use radial_check::{COUNT_PLACE, HEADER_SIZE, SIZE_PLACE};
+use wire::refusal::Refusal;
 
 // The header's values, as stored. Angles are given as their 32 bits.
 #[derive(Clone, Copy)]
@@ -26,32 +27,11 @@ pub struct Header {
     pub indexing: u8,
 }
 
-// The header of an accepted radial and its block count. `refusal` is 0, or the number of the refusal and all else is 0.
+// The header of an accepted radial, and its count of blocks.
 #[derive(Clone, Copy)]
 pub struct Heading {
-    pub refusal: u8,
     pub count: u16,
     pub header: Header,
-}
-
-pub fn no_header() -> Header
-    ensures { result ≡ no_header }
-{
-    Header {
-        station: 0,
-        time: 0,
-        date: 0,
-        azimuth_number: 0,
-        azimuth: 0,
-        size: 0,
-        spacing: 0,
-        status: 0,
-        elevation_number: 0,
-        sector: 0,
-        elevation: 0,
-        spot: 0,
-        indexing: 0,
-    }
 }
 
 fn header_of(body: &[u8]) -> Header
@@ -67,19 +47,19 @@ fn header_in(head: &[u8]) -> Header
     ensures { result ≡ header_of (description head.now) }
 {
     Header {
-        station: wire::fetch32(head, 0),
-        time: wire::fetch32(head, 4),
-        date: wire::fetch16(head, 8),
-        azimuth_number: wire::fetch16(head, 10),
-        azimuth: wire::fetch32(head, 12),
-        size: wire::fetch16(head, SIZE_PLACE),
-        spacing: wire::fetch8(head, 20),
-        status: wire::fetch8(head, 21),
-        elevation_number: wire::fetch8(head, 22),
-        sector: wire::fetch8(head, 23),
-        elevation: wire::fetch32(head, 24),
-        spot: wire::fetch8(head, 28),
-        indexing: wire::fetch8(head, 29),
+        station: wire::fetch::<u32>(head, 0),
+        time: wire::fetch::<u32>(head, 4),
+        date: wire::fetch::<u16>(head, 8),
+        azimuth_number: wire::fetch::<u16>(head, 10),
+        azimuth: wire::fetch::<u32>(head, 12),
+        size: wire::fetch::<u16>(head, SIZE_PLACE),
+        spacing: wire::fetch::<u8>(head, 20),
+        status: wire::fetch::<u8>(head, 21),
+        elevation_number: wire::fetch::<u8>(head, 22),
+        sector: wire::fetch::<u8>(head, 23),
+        elevation: wire::fetch::<u32>(head, 24),
+        spot: wire::fetch::<u8>(head, 28),
+        indexing: wire::fetch::<u8>(head, 29),
     }
 }
 
@@ -89,26 +69,16 @@ fn count_of(body: &[u8]) -> u16
 {
     let begin = COUNT_PLACE as usize;
     let end = begin + 2;
-    wire::fetch16(&body[begin..end], 0)
+    wire::fetch::<u16>(&body[begin..end], 0)
 }
 
-// The header of an accepted radial, and its count of blocks.
-pub fn read_heading(body: &[u8]) -> Heading
-    ensures { result ≡ heading_shown (radial_of body.now) }
+pub fn read_heading(body: &[u8]) -> Result<Heading, Refusal>
+    ensures { tell_heading result ≡ heading_shown (radial_of body.now) }
 {
-    let number = radial_check::check_radial(body);
-    if number != 0 {
-        let none = no_header();
-        return Heading {
-            refusal: number,
-            count: 0,
-            header: none,
-        };
-    }
-    let values = header_of(body);
-    Heading {
-        refusal: 0,
+    radial_check::check_radial(body)?;
+    let header = header_of(body);
+    Ok(Heading {
         count: count_of(body),
-        header: values,
-    }
+        header: header,
+    })
 }

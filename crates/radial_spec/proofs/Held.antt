@@ -11,8 +11,11 @@ use lib.ListN.{length}
 use borrow.Author.Tests.{ltb-false, eqb-false}
 use Rattle.wire.specs.Checks.{Check, first, pick, AllHold}
 use Rattle.wire.specs.Answers.{Answer, refused, given, number_of}
+use Rattle.wire.specs.Refusals.{number}
+use Rattle.wire.specs.declared.refusal.Refusal.{Refusal}
 use Rattle.wire.proofs.CheckLaws.{all_hold, never}
 use Rattle.wire.proofs.AnswerLaws.{rule_given, rule_refused}
+use Rattle.wire.proofs.RefusalLaws.{number-above}
 use Rattle.radial_spec.specs.Description.{constants, Description, header_size, fewest_blocks, most_blocks, volume_pointer}
 use Rattle.radial_spec.specs.Description.{elevation_pointer, radial_pointer, moment_pointer, first_place, RVOL, RELV, RRAD}
 use Rattle.radial_spec.specs.Description.{volume_least, elevation_least, radial_least, constant_head, moment_head}
@@ -135,16 +138,16 @@ pub accepted_is : (b : List ℕ) (d : Description) → radial_of b ≡ given d �
 unfolding radial_of
 accepted_is b d e = sym (rule_given (radial_checks b) (description b) d e).1
 
-pub number_given : (b : List ℕ) (r : ℕ) → r ≡ number_of (radial_of b) → r ≡ 0 → radial_of b ≡ given (description b)
-number_given b r e z = go (radial_of b) refl
+pub number_given : (b : List ℕ) → 0 ≡ number_of (radial_of b) → radial_of b ≡ given (description b)
+number_given b e = go (radial_of b) refl
   where
     go : (a : Answer Description) → radial_of b ≡ a → radial_of b ≡ given (description b)
-    go (refused n) q = absurd (eqb-false n 0 (refused_above_0 b n q) (sym (e ∙ ap number_of q) ∙ z))
+    go (refused n) q = absurd (eqb-false n 0 (refused_above_0 b n q) (sym (e ∙ ap number_of q)))
     go (given d) q = q ∙ ap given (accepted_is b d q)
 
-pub number_refused : (b : List ℕ) (r : ℕ) → r ≡ number_of (radial_of b) → (r ≡ 0 → ⊥) → radial_of b ≡ refused r
-number_refused b r e z = go (radial_of b) refl
+pub number_refused : (b : List ℕ) (r : Refusal) → number r ≡ number_of (radial_of b) → radial_of b ≡ refused (number r)
+number_refused b r e = go (radial_of b) refl
   where
-    go : (a : Answer Description) → radial_of b ≡ a → radial_of b ≡ refused r
+    go : (a : Answer Description) → radial_of b ≡ a → radial_of b ≡ refused (number r)
     go (refused n) q = q ∙ ap refused (sym (e ∙ ap number_of q))
-    go (given d) q = absurd (z (e ∙ ap number_of q))
+    go (given d) q = absurd (omega (arith, number-above r, e ∙ ap number_of q))

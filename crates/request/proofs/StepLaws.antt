@@ -20,14 +20,14 @@ module _ (body : List ℕ) where
   unfolding request_of
   body_long h = simp (ne_eqb (length body) 2 h) (pick_same (ltb (length body) 2) (refused 23))
 
-  module _ (h : length body ≡ 2) where
-    pub body-code : outside permitted (num 2 body 0) ≡ true → request_of body ≡ refused 24
+  module _ (code : ℕ) (h : length body ≡ 2) (e : num 2 body 0 ≡ code) where
+    pub body-code : outside permitted code ≡ true → request_of body ≡ refused 24
     unfolding request_of
-    body-code p = simp (le-ltb (length body) 2 (omega arith), eq-eqb (length body) 2 h, p)
+    body-code p = simp (le-ltb (length body) 2 (omega arith), eq-eqb (length body) 2 h, e, p)
 
-    pub body-fine : outside permitted (num 2 body 0) ≡ false → request_of body ≡ given (num 2 body 0)
+    pub body-fine : outside permitted code ≡ false → request_of body ≡ given code
     unfolding request_of
-    body-fine p = simp (le-ltb (length body) 2 (omega arith), eq-eqb (length body) 2 h, p)
+    body-fine p = simp (le-ltb (length body) 2 (omega arith), eq-eqb (length body) 2 h, e, p)
 
 -- ---- the writer
 module _ (list out : List ℕ) where

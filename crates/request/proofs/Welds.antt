@@ -2,22 +2,19 @@
 -- of one call meet it. Assumes nothing.
 use mathlib.Core.Path.{◌≡◌}
 use Rattle.wire.proofs.AnswerLaws.{only, only_answer}
-use Rattle.wire.proofs.CheckLaws.{never}
+use Rattle.wire.proofs.RefusalLaws.{tell_apart}
 use Rattle.wire.proofs.WriteLaws.{write_apart}
+use Rattle.std.specs.Prelude.{ℕ, Result}
+use Rattle.wire.specs.declared.refusal.Refusal.{Refusal}
 use Rattle.wire.specs.Answers.{Promise}
 use Rattle.wire.specs.Writing.{tell_write}
 use Rattle.request.specs.Request.{request_of, request_written}
 use Rattle.request.specs.Told.{tell_request}
-use Rattle.request.specs.declared.RequestAnswer.{RequestAnswer}
-use Rattle.request.specs.declared.RequestAnswer.TheVariants.{Code, Refused}
 use Rattle.request.proofs.read_request.Reads as read_request
 use Rattle.request.proofs.write_request.Reads as write_request
 
-pub request_apart : (a b : RequestAnswer) → tell_request a ≡ tell_request b → a ≡ b
-request_apart (Code x) (Code y) e = cc e
-request_apart (Code x) (Refused n) e = never (cc e)
-request_apart (Refused n) (Code x) e = never (cc e)
-request_apart (Refused n) (Refused m) e = cc e
+pub request_apart : (a b : Result ℕ Refusal) → tell_request a ≡ tell_request b → a ≡ b
+request_apart = tell_apart (λ code. code) (λ x y e. e)
 
 pub read_request-says : (κs body r last : _) → read_request.Learnt κs (body, tt) r last → tell_request r ≡ request_of body.now
 read_request-says κs body r last l = l

@@ -1,9 +1,8 @@
 -- What the reader's answer means: the number of refusal, or the values.
-use Rattle.std.specs.Prelude.{ℕ}
-use Rattle.wire.specs.Answers.{Answer, refused, given}
-use Rattle.request.specs.declared.RequestAnswer.{RequestAnswer}
-use Rattle.request.specs.declared.RequestAnswer.TheVariants.{Code, Refused}
+use Rattle.std.specs.Prelude.{ℕ, Result}
+use Rattle.wire.specs.Answers.{Answer}
+use Rattle.wire.specs.Refusals.{tell}
+use Rattle.wire.specs.declared.refusal.Refusal.{Refusal}
 
-abbrev pub tell_request : RequestAnswer → Answer ℕ
-tell_request (Code code) = given code
-tell_request (Refused n) = refused n
+abbrev pub tell_request : Result ℕ Refusal → Answer ℕ
+tell_request = tell (λ code. code)

@@ -56,7 +56,7 @@ fn first_mark(part: &[u8]) -> usize
 {
     let mut i: usize = 0;
     while i < BLOCK {
-        if wire::fetch32(&part[i..i + 4], 0) == DATA {
+        if wire::fetch::<u32>(&part[i..i + 4], 0) == DATA {
             return i;
         }
         i += 1;

@@ -6,7 +6,10 @@ use mathlib.Core.List.{List, [], ◌∷◌, ◌++◌}
 use native.Mathlib.Omega.{arith}
 use lib.ListN.{length, get_or, drop, replicate, length-drop, length-replicate, get_or-replicate}
 use Rattle.wire.specs.Numbers.{num}
+use Rattle.std.specs.Prelude.{Result, Ok, Err}
 use Rattle.wire.specs.Answers.{refused}
+use Rattle.wire.specs.Refusals.{number}
+use Rattle.wire.specs.declared.refusal.Refusal.{Refusal}
 use Rattle.frame.specs.Walk.{answers}
 use Rattle.frame.proofs.WalkLaws.{walked_end, walk_stops, walk_goes}
 use Rattle.frame.proofs.FrontLaws.{frames_take}
@@ -15,26 +18,22 @@ use Rattle.header_rule.specs.Rules.{most_segments}
 use Rattle.header.specs.Header.{stored_in, header_in}
 use Rattle.set_spec.specs.Segment.{Segment, segment_in, numbered}
 use Rattle.set_spec.specs.Walk.{each_frame, walk}
-use Rattle.set.specs.declared.Heads.{Heads}
-use Rattle.set.specs.declared.Turn.{Turn}
-use Rattle.set.specs.declared.Turn.TheVariants.{Next, Refused as Stopped}
+use Rattle.set.specs.declared.Gathered.{Gathered}
 use Rattle.set.specs.Steps.{Tells, GoesOn, Turned, TurnTaken, Blank, Met}
 
-pub record Going (s : List ℕ) (at : ℕ) (heads : Heads) (flags : List Bool) (starts ends : List ℕ) : Type 0 where
+pub record Going (s : List ℕ) (at : ℕ) (m : Gathered) : Type 0 where
   pub gs : List Segment
-  pub tells : Tells s at heads flags starts ends gs
+  pub tells : Tells s at m gs
   pub same : walk gs (drop at s) ≡ walk [] s
 
 blank : (l : List ℕ) → l ≡ replicate most_segments 0 → (k : ℕ) → k < most_segments → ◌≡◌ {A = ℕ} (get_or l k 0) 0
-blank l e k m = ap (λ (x : List ℕ). get_or x k 0) e ∙ get_or-replicate most_segments k 0 0 m
+blank l e k low = ap (λ (x : List ℕ). get_or x k 0) e ∙ get_or-replicate most_segments k 0 0 low
 
-nothing_met : (s : List ℕ) (flags : List Bool) (starts ends : List ℕ) (heads : Heads) → Blank flags starts ends
-    → heads.first ≡ (segment_in []).header
-    → heads.one ≡ (segment_in []).header → Tells s 0 heads flags starts ends []
+nothing_met : (s : List ℕ) (m : Gathered) → Blank m → Tells s 0 m []
 unfolding numbered header_in stored_in num
-nothing_met s flags starts ends heads b f o =
-    let x = blank starts b.starts_blank in
-    let y = blank ends b.ends_blank in
+nothing_met s m b =
+    let x = blank m.starts b.starts_blank in
+    let y = blank m.ends b.ends_blank in
     record {
       flags_long = ap length b.flags_blank ∙ length-replicate {A = Bool} most_segments false;
       starts_long = ap length b.starts_blank ∙ length-replicate {A = ℕ} most_segments 0;
@@ -45,35 +44,32 @@ nothing_met s flags starts ends heads b f o =
       within = λ k l. omega (arith, y k l);
       small = λ k l. omega (arith, y k l);
       first = λ h. refl;
-      one = o;
-      count = sym (ap (λ (h : Header). h.segments) f);
-      most = let z : heads.first.segments ≡ 0 = ap (λ (h : Header). h.segments) f in omega arith;
+      one = b.one_blank;
+      count = sym (ap (λ (h : Header). h.segments) b.first_blank);
+      most = let z : m.first.segments ≡ 0 = ap (λ (h : Header). h.segments) b.first_blank in omega arith;
       place = omega arith;
     }
 
-pub going_start : (s : List ℕ) {flags : List Bool} {starts ends : List ℕ} {heads : Heads} → Blank flags starts ends
-    → heads.first ≡ (segment_in []).header → heads.one ≡ (segment_in []).header
-    → Going s 0 heads flags starts ends
-going_start s {flags} {starts} {ends} {heads} b f o = record { gs = []; tells = nothing_met s flags starts ends heads b f o; same = refl }
+pub going_start : (s : List ℕ) {m : Gathered} → Blank m → Going s 0 m
+going_start s {m} b = record { gs = []; tells = nothing_met s m b; same = refl }
 
-module _ {s : List ℕ} {at : ℕ} {heads : Heads} {flags : List Bool} {starts ends : List ℕ} (g : Going s at heads flags starts ends) where
+module _ {s : List ℕ} {at : ℕ} {m : Gathered} (g : Going s at m) where
   -- a turn, by its answer
-  module _ {flags' : List Bool} {starts' ends' : List ℕ} {r : Turn}
-      (t : TurnTaken s at heads flags starts ends flags' starts' ends' r) (l : at < length s) where
+  module _ {m' : Gathered} {r : Result ℕ Refusal} (t : TurnTaken s at m m' r) (l : at < length s) where
     some : 0 < length (drop at s)
     some = rw length-drop (omega arith)
 
-    turned : (r' : Turn) → r ≡ r' → Turned s at flags' starts' ends' g.gs r'
-    turned r' e = subst (λ (x : Turn). Turned s at flags' starts' ends' g.gs x) e (t.turned g.gs g.tells)
+    turned : (r' : Result ℕ Refusal) → r ≡ r' → Turned s at m' g.gs r'
+    turned r' e = subst (λ (x : Result ℕ Refusal). Turned s at m' g.gs x) e (t.turned g.gs g.tells)
 
-    pub going-stops : {n : ℕ} → r ≡ Stopped n → walk [] s ≡ refused n
-    going-stops {n} e = sym g.same ∙ walk_stops each_frame frames_take g.gs (drop at s) n some (turned (Stopped n) e)
+    pub going-stops : {q : Refusal} → r ≡ Err q → walk [] s ≡ refused (number q)
+    going-stops {q} e = sym g.same ∙ walk_stops each_frame frames_take g.gs (drop at s) (number q) some (turned (Err q) e)
 
-    module _ {heads' : Heads} {next : ℕ} (e : r ≡ Next heads' next) where
-      on : GoesOn s at heads' next flags' starts' ends' g.gs
-      on = turned (Next heads' next) e
+    module _ {next : ℕ} (e : r ≡ Ok next) where
+      on : GoesOn s at next m' g.gs
+      on = turned (Ok next) e
 
-      pub going_on : Going s next heads' flags' starts' ends'
+      pub going_on : Going s next m'
       going_on = record {
         gs = g.gs ++ (segment_in (drop at s) ∷ []);
         tells = on.tells;
@@ -86,7 +82,7 @@ module _ {s : List ℕ} {at : ℕ} {heads : Heads} {flags : List Bool} {starts e
       pub going-forward : (at < next) × (next ≤ length s)
       going-forward = (on.forward, on.tells.place)
 
-  pub going_ends : length s ≤ at → Met s heads flags starts ends
+  pub going_ends : length s ≤ at → Met s m
   going_ends l =
       let none : length (drop at s) ≡ 0 = rw length-drop (omega arith) in
       record {

@@ -6,18 +6,15 @@ use mathlib.Core.List.{List}
 use native.Mathlib.Omega.{arith}
 use lib.ListN.{length, take, drop, length-take, length-drop}
 use lib.Seq.{drop-drop}
-use lib.Dec.{eqb}
-use borrow.Author.Tests.{eq-eqb}
-use mathlib.Core.Bool.{not}
 use Rattle.wire.proofs.ListLaws.{drop-take}
-use Rattle.wire.specs.Checks.{first, some_broken}
+use Rattle.wire.specs.Checks.{first}
 use Rattle.wire.specs.Answers.{refused, given}
-use Rattle.wire.proofs.CheckLaws.{all_hold, either_false}
+use Rattle.wire.proofs.CheckLaws.{all_hold}
 use Rattle.wire.proofs.AnswerLaws.{rule_given, rule_refused}
 use Rattle.frame.specs.Session.{head_size, size_in, body_in}
 use Rattle.header.specs.declared.Header.{Header}
 use Rattle.header.specs.Header.{header_size}
-use Rattle.set_spec.specs.Segment.{Placed, placed_in, own_checks, segment_at, agree_checks}
+use Rattle.set_spec.specs.Segment.{Placed, placed_in, own_checks, segment_at}
 use Rattle.set_spec.proofs.FrameFacts.{framed, header-fits}
 use Rattle.set_spec.proofs.PrefixLaws.{own_parts}
 use Rattle.set.specs.Steps.{SegmentLies}
@@ -64,17 +61,3 @@ unfolding segment_at
 segment_lies s at h start next e =
     let p = rule_given (own_checks (drop at s)) (placed_in (drop at s) at) (record { header = h; start = start; next = next }) (sym e) in
     subst (λ (x : Placed). SegmentLies s at x.header x.start x.next) p.1 (lies_there s at p.0)
-
--- where all but N agree, N decides
-pub last_compared : (lead h : Header) → h.channel ≡ lead.channel → h.kind ≡ lead.kind → h.date ≡ lead.date
-    → h.milliseconds ≡ lead.milliseconds
-    → not (eqb h.segments lead.segments) ≡ some_broken (agree_checks lead h)
-last_compared lead h a b c d =
-    simp (
-      eq-eqb h.channel lead.channel a,
-      eq-eqb h.kind lead.kind b,
-      eq-eqb h.date lead.date c,
-      eq-eqb
-          h.milliseconds lead.milliseconds d,
-    )
-    (sym (either_false _))

@@ -8,7 +8,11 @@ use native.Mathlib.Omega.{arith}
 use lib.Dec.{eqb}
 use lib.ListN.{length, get_or, set, take, drop, length-set}
 use lib.Seq.{get_or-set_same, get_or-set_other}
-use borrow.Author.Tests.{eqb-true, eqb-false, ne_eqb}
+use borrow.Author.Tests.{eqb-true, eqb-false, eq-eqb, ne_eqb}
+use Rattle.std.specs.Prelude.{Ok, Err}
+use Rattle.wire.specs.Refusals.{number}
+use Rattle.wire.specs.declared.refusal.Refusal.{Refusal}
+use Rattle.wire.specs.declared.refusal.Refusal.TheVariants.{Disagrees, AlreadySeen}
 use Rattle.wire.specs.Checks.{pick, check, first, some_broken}
 use Rattle.wire.proofs.CheckLaws.{all_hold, first-append-none, first-append-some, first-same-some, first-none, by_eq}
 use Rattle.frame.specs.Session.{session_limit, body_in}
@@ -19,8 +23,8 @@ use Rattle.set_spec.specs.Walk.{first_or, seen, met_checks, turn_checks}
 use Rattle.set_spec.proofs.FrameFacts.{HeaderFits, header-fits}
 use Rattle.set_spec.proofs.PrefixLaws.{own_parts}
 use Rattle.set_spec.proofs.NumberedLaws.{not_found, numbered-same, numbered_other, first_more}
-use Rattle.set.specs.declared.Heads.{Heads}
-use Rattle.set.specs.Steps.{SegmentLies, Tells, GoesOn}
+use Rattle.set.specs.declared.Gathered.{Gathered}
+use Rattle.set.specs.Steps.{SegmentLies, Tells, GoesOn, TurnTaken}
 
 abbrev header : Option Segment → Header
 header o = (or_nothing o).header
@@ -69,27 +73,27 @@ module _ {s : List ℕ} {at : ℕ} {h : Header} {start next : ℕ} (read : Segme
       first-append-none (own_checks (drop at s)) (met_checks gs (segment_in (drop at s)).header) read.passes
       ∙ ap (λ (x : Header). first (met_checks gs x)) read.header
 
-  module _ {heads : Heads} {flags : List Bool} {starts ends : List ℕ} {gs : List Segment} (t : Tells s at heads flags starts ends gs)
-      {lead : Header} (is : lead ≡ pick (eqb at 0) h heads.first) where
+  module _ {m : Gathered} {gs : List Segment} (t : Tells s at m gs)
+      {lead : Header} (is : lead ≡ pick (eqb at 0) h m.first) where
     leads : first_or gs h ≡ lead
     leads = t.first h ∙ sym is
 
-    flagged : get_or flags (h.number - 1) false ≡ seen gs h.number
+    flagged : get_or m.flags (h.number - 1) false ≡ seen gs h.number
     flagged = t.flag (h.number - 1) number_high ∙ ap (λ (n : ℕ). seen gs n) back
 
     pub turn-disagrees : some_broken (agree_checks lead h) ≡ true → first (turn_checks gs (drop at s)) ≡ some 10
     turn-disagrees b = own gs ∙ disagree gs h lead leads b
 
-    pub turn-seen : some_broken (agree_checks lead h) ≡ false → get_or flags (h.number - 1) false ≡ true
+    pub turn-seen : some_broken (agree_checks lead h) ≡ false → get_or m.flags (h.number - 1) false ≡ true
         → first (turn_checks gs (drop at s)) ≡ some 11
     turn-seen b e = let q : seen gs h.number ≡ true = sym flagged ∙ e in own gs ∙ agreed gs h lead leads b ∙ simp q
 
-    turn-passes : some_broken (agree_checks lead h) ≡ false → get_or flags (h.number - 1) false ≡ false
+    turn-passes : some_broken (agree_checks lead h) ≡ false → get_or m.flags (h.number - 1) false ≡ false
         → first (turn_checks gs (drop at s)) ≡ none
     turn-passes b e = let q : seen gs h.number ≡ false = sym flagged ∙ e in own gs ∙ agreed gs h lead leads b ∙ simp q
 
     -- the arrays with this segment in them
-    module _ (new : get_or flags (h.number - 1) false ≡ false) {one : Header} (has : one ≡ pick (eqb h.number 1) h heads.one) where
+    module _ (new : get_or m.flags (h.number - 1) false ≡ false) {one : Header} (has : one ≡ pick (eqb h.number 1) h m.one) where
       abbrev pub k : ℕ
       k = h.number - 1
 
@@ -107,27 +111,27 @@ module _ {s : List ℕ} {at : ℕ} {h : Header} {start next : ℕ} (read : Segme
 
       -- what the three arrays hold at a place: at k the new, elsewhere what they held
       at_place : (P : ℕ → Bool → ℕ → ℕ → Type 0) → P k true start next
-          → ((j : ℕ) → j < most_segments → (j ≡ k → ⊥) → P j (get_or flags j false) (get_or starts j 0) (get_or ends j 0))
-          → (j : ℕ) → j < most_segments → P j (get_or (set flags k true) j false) (get_or (set starts k start) j 0) (get_or (set ends k next) j 0)
+          → ((j : ℕ) → j < most_segments → (j ≡ k → ⊥) → P j (get_or m.flags j false) (get_or m.starts j 0) (get_or m.ends j 0))
+          → (j : ℕ) → j < most_segments → P j (get_or (set m.flags k true) j false) (get_or (set m.starts k start) j 0) (get_or (set m.ends k next) j 0)
       at_place P here there j low =
-          let f : k < length flags = omega (arith, number_high, t.flags_long) in
-          let x : k < length starts = omega (arith, number_high, t.starts_long) in
-          let y : k < length ends = omega (arith, number_high, t.ends_long) in
+          let f : k < length m.flags = omega (arith, number_high, t.flags_long) in
+          let x : k < length m.starts = omega (arith, number_high, t.starts_long) in
+          let y : k < length m.ends = omega (arith, number_high, t.ends_long) in
           by_eq j k
-          (λ e. subst (λ (i : ℕ). P i (get_or (set flags k true) i false) (get_or (set starts k start) i 0)
-          (get_or (set ends k next) i 0)) (sym e)
-          (rw (get_or-set_same flags k true false f, get_or-set_same starts k start 0 x, get_or-set_same ends k next 0 y) here))
+          (λ e. subst (λ (i : ℕ). P i (get_or (set m.flags k true) i false) (get_or (set m.starts k start) i 0)
+          (get_or (set m.ends k next) i 0)) (sym e)
+          (rw (get_or-set_same m.flags k true false f, get_or-set_same m.starts k start 0 x, get_or-set_same m.ends k next 0 y) here))
           (λ ne. rw (
-            get_or-set_other flags k j true false ne,
-            get_or-set_other starts k j start 0 ne,
-            get_or-set_other ends k j next 0
+            get_or-set_other m.flags k j true false ne,
+            get_or-set_other m.starts k j start 0 ne,
+            get_or-set_other m.ends k j next 0
                 ne,
           ) (there j low ne))
 
       is-first : (x : Header) → first_or (gs ++ (g ∷ [])) x ≡ lead
       is-first x = first_more gs g x ∙ ap (λ (y : Header). first_or gs y) read.header ∙ leads
 
-      is_one : (b : Bool) → eqb h.number 1 ≡ b → pick b h heads.one ≡ header_numbered (gs ++ (g ∷ [])) 1
+      is_one : (b : Bool) → eqb h.number 1 ≡ b → pick b h m.one ≡ header_numbered (gs ++ (g ∷ [])) 1
       is_one true e =
           let z : suc k ≡ 1 = omega (arith, back, eqb-true h.number 1 e) in
           sym read.header ∙ sym (ap header is-here) ∙ ap (λ (n : ℕ). header_numbered (gs ++ (g ∷ [])) n) z
@@ -136,12 +140,15 @@ module _ {s : List ℕ} {at : ℕ} {h : Header} {start next : ℕ} (read : Segme
           back' : g.header.number ≡ 1 → h.number ≡ 1
           back' q = sym (ap (λ (x : Header). x.number) read.header) ∙ q
 
-      pub tells-put : Tells s next (record { first = lead; one = one }) (set flags k true) (set starts k start) (set ends k next)
-          (gs ++ (g ∷ []))
+      -- what is noted then
+      abbrev pub noted : Gathered
+      noted = record { first = lead; one = one; flags = set m.flags k true; starts = set m.starts k start; ends = set m.ends k next }
+
+      pub tells-put : Tells s next noted (gs ++ (g ∷ []))
       tells-put = record {
-        flags_long = length-set flags k true ∙ t.flags_long;
-        starts_long = length-set starts k start ∙ t.starts_long;
-        ends_long = length-set ends k next ∙ t.ends_long;
+        flags_long = length-set m.flags k true ∙ t.flags_long;
+        starts_long = length-set m.starts k start ∙ t.starts_long;
+        ends_long = length-set m.ends k next ∙ t.ends_long;
         flag =
             at_place (λ j b x y. b ≡ found (numbered (gs ++ (g ∷ [])) (suc j))) (sym (ap found is-here))
             (λ j low ne. t.flag j low ∙ sym (ap found (is-there j ne)));
@@ -159,15 +166,52 @@ module _ {s : List ℕ} {at : ℕ} {h : Header} {start next : ℕ} (read : Segme
         place = read.within;
       }
         where
-          picked : (b : Bool) → (pick b h heads.first).segments ≤ most_segments
+          picked : (b : Bool) → (pick b h m.first).segments ≤ most_segments
           picked true = most
           picked false = t.most
 
       pub turn_on : some_broken (agree_checks lead h) ≡ false
-          → GoesOn s at (record { first = lead; one = one }) next (set flags k true) (set starts k start) (set ends k next) gs
+          → GoesOn s at next noted gs
       turn_on b = record {
         passes = turn-passes b new;
         tells = tells-put;
         rest = read.rest;
         forward = omega (arith, read.forward, read.order);
       }
+
+-- ---- the turn as the code takes it: first the header of the first frame is noted
+abbrev pub led : ℕ → Header → Gathered → Gathered
+led at h m = record { first = pick (eqb at 0) h m.first; one = m.one; flags = m.flags; starts = m.starts; ends = m.ends }
+
+pub led_start : (at : ℕ) (h : Header) (m m₁ : Gathered) → at ≡ 0
+    → m₁ ≡ record { first = h; one = m.one; flags = m.flags; starts = m.starts; ends = m.ends } → m₁ ≡ led at h m
+led_start at h m m₁ z e = e ∙ simp (eq-eqb at 0 z)
+
+pub led_on : (at : ℕ) (h : Header) (m m₁ : Gathered) → (at ≡ 0 → ⊥) → m₁ ≡ m → m₁ ≡ led at h m
+led_on at h m m₁ z e = e ∙ simp (ne_eqb at 0 z)
+
+-- a segment that does not lie there is refused whatever was met
+pub taken_refused : (s : List ℕ) (at : ℕ) (m m₁ : Gathered) (q : Refusal) → first (own_checks (drop at s)) ≡ some (number q)
+    → TurnTaken s at m m₁ (Err q)
+taken_refused s at m m₁ q e = record { turned = λ gs t. turn_refused s at gs (number q) e }
+
+module _ {s : List ℕ} {at : ℕ} {h : Header} {start next : ℕ} (read : SegmentLies s at h start next) {m m₁ : Gathered} (e : m₁ ≡ led at h m) where
+  pub taken-disagrees : some_broken (agree_checks m₁.first h) ≡ true → TurnTaken s at m m₁ (Err Disagrees)
+  taken-disagrees b = record { turned = λ gs t. turn-disagrees read t (ap (λ (x : Gathered). x.first) e) b }
+
+  module _ (b : some_broken (agree_checks m₁.first h) ≡ false) where
+    pub taken-seen : get_or m₁.flags (h.number - 1) false ≡ true → TurnTaken s at m m₁ (Err AlreadySeen)
+    taken-seen f = record { turned = λ gs t. turn-seen read t (ap (λ (x : Gathered). x.first) e) b (sym (ap (λ (x : Gathered). get_or x.flags (h.number - 1) false) e) ∙ f) }
+
+    pub taken-on : get_or m₁.flags (h.number - 1) false ≡ false → (one : Header) → one ≡ pick (eqb h.number 1) h m₁.one
+        → TurnTaken s at m (record {
+          first = m₁.first;
+          one = one;
+          flags = set m₁.flags (h.number - 1) true;
+          starts = set m₁.starts (h.number - 1) start;
+          ends = set m₁.ends (h.number - 1) next;
+        }) (Ok next)
+    taken-on f one has =
+        let same : one ≡ pick (eqb h.number 1) h m.one = has ∙ ap (λ (x : Gathered). pick (eqb h.number 1) h x.one) e in
+        let new : get_or m.flags (h.number - 1) false ≡ false = sym (ap (λ (x : Gathered). get_or x.flags (h.number - 1) false) e) ∙ f in
+        rw e (record { turned = λ gs t. turn_on read t refl new same (rw e at b) })

@@ -2,8 +2,8 @@
 // data lies, the second copies. Nothing is written until 12 and 13 are checked.
 #![tactic(auto)]
 
-ghost use Rattle.std.specs.Prelude.{◌≡◌, ◌*◌, ◌≤◌, eqb, length};
-ghost use Rattle.wire.specs.Checks.{pick, some_broken};
+ghost use Rattle.std.specs.Prelude.{◌≡◌, ◌*◌, ◌≤◌};
+ghost use Rattle.wire.specs.Checks.{some_broken};
 ghost use Rattle.wire.specs.Answers.{Promise};
 ghost use Rattle.wire.specs.Writing.{filled};
 ghost use Rattle.frame.specs.Session.{session_limit};
@@ -14,211 +14,147 @@ ghost use Rattle.set.specs.Told.{tell_set};
 ghost use Rattle.set.specs.Steps.{TurnTaken, Blank, Gathers, Parts, Joinable, all_set, parts_long, parts};
 
 use header::Header;
-use set_segment::SegmentAnswer;
-use wire::{Bytes, refusal};
+use wire::Bytes;
+use wire::refusal::Refusal;
 
 // Segment 1's header, and the length of the joined data.
 #[derive(Clone, Copy)]
-pub enum SetAnswer {
-    Set(Header, Bytes),
-    Refused(u8),
+pub struct Set {
+    pub header: Header,
+    pub length: Bytes,
 }
 
 const MOST_SEGMENTS: usize = header_rule::MOST_SEGMENTS as usize;
 
-// The header of the set's first frame, and that of segment 1.
-#[derive(Clone, Copy)]
-struct Heads {
+// What the first pass notes: the header of the first frame and that of segment 1, which numbers were seen, and where the data of each
+// segment begins and ends. Segment k + 1 is at index k.
+#[derive(Drop)]
+struct Gathered {
     first: Header,
     one: Header,
-}
-
-#[derive(Clone, Copy)]
-enum Turn {
-    Next(Heads, usize),
-    Refused(u8),
-}
-
-#[derive(Clone, Copy)]
-enum Gathered {
-    Ended(Heads),
-    Refused(u8),
+    flags: [bool; MOST_SEGMENTS],
+    starts: [usize; MOST_SEGMENTS],
+    ends: [usize; MOST_SEGMENTS],
 }
 
 // Whether a header disagrees with the first one.
 fn disagrees(first: Header, h: Header) -> bool
     ensures { result ≡ some_broken (agree_checks first h) }
 {
-    if h.channel != first.channel {
-        return true;
-    }
-    if h.kind != first.kind {
-        return true;
-    }
-    if h.date != first.date {
-        return true;
-    }
-    if h.milliseconds != first.milliseconds {
-        return true;
-    }
-    h.segments != first.segments
+    h.channel != first.channel
+        || h.kind != first.kind
+        || h.date != first.date
+        || h.milliseconds != first.milliseconds
+        || h.segments != first.segments
 }
 
-// The first frame's header: `h` if this frame stands at the buffer's start.
-fn first_of(at: usize, first: Header, h: Header) -> Header
-    ensures { result ≡ pick (eqb at 0) h first }
-{
-    if at == 0 {
-        return h;
-    }
-    first
-}
-
-// Segment 1's header: `h` if its number is 1.
-fn one_of(one: Header, h: Header) -> Header
-    ensures { result ≡ pick (eqb h.number 1) h one }
-{
-    if h.number == 1 {
-        return h;
-    }
-    one
-}
-
-// Handles one frame: it is refused, or its number is marked as seen and the place of its data is noted.
-fn take_turn(
-    frames: &[u8],
-    at: usize,
-    heads: Heads,
-    flags: &mut [bool; MOST_SEGMENTS],
-    starts: &mut [usize; MOST_SEGMENTS],
-    ends: &mut [usize; MOST_SEGMENTS],
-) -> Turn
-    ensures { TurnTaken frames.now at heads flags.old starts.old ends.old flags.new starts.new ends.new result }
-{
-    match set_segment::segment_at(frames, at) {
-        SegmentAnswer::Refused(n) => Turn::Refused(n),
-        SegmentAnswer::Read(h, start, next) => {
-            let lead = heads.first;
-            let first = first_of(at, lead, h);
-            if disagrees(first, h) {
-                return Turn::Refused(refusal::DISAGREES);
-            }
-            let k = h.number as usize - 1;
-            if flags[k] {
-                return Turn::Refused(refusal::ALREADY_SEEN);
-            }
-            flags[k] = true;
-            starts[k] = start;
-            ends[k] = next;
-            let met = heads.one;
-            let one = one_of(met, h);
-            Turn::Next(Heads { first, one }, next)
+impl Gathered {
+    // No segment was met.
+    fn nothing() -> Gathered
+        ensures { Blank result }
+    {
+        Gathered {
+            first: header::no_header(),
+            one: header::no_header(),
+            flags: [false; MOST_SEGMENTS],
+            starts: [0; MOST_SEGMENTS],
+            ends: [0; MOST_SEGMENTS],
         }
     }
-}
 
-// The first pass: each frame in turn, to the end of the buffer.
-fn gather(
-    frames: &[u8],
-    flags: &mut [bool; MOST_SEGMENTS],
-    starts: &mut [usize; MOST_SEGMENTS],
-    ends: &mut [usize; MOST_SEGMENTS],
-) -> Gathered
-    requires { Blank flags.old starts.old ends.old }
-    ensures { Gathers frames.now flags.new starts.new ends.new result }
-{
-    let mut at = 0;
-    let mut heads = Heads {
-        first: header::no_header(),
-        one: header::no_header(),
-    };
-    while at < frames.len() {
-        match take_turn(frames, at, heads, flags, starts, ends) {
-            Turn::Refused(n) => return Gathered::Refused(n),
-            Turn::Next(h, next) => {
-                heads = h;
-                at = next;
-            }
+    // Handles one frame: it is refused, or its number is marked as seen and the place of its data is noted. Returns where the next one
+    // begins.
+    fn take_turn(&mut self, frames: &[u8], at: usize) -> Result<usize, Refusal>
+        ensures { TurnTaken frames.now at self.old self.new result }
+    {
+        let segment = set_segment::segment_at(frames, at)?;
+        let h = segment.header;
+        if at == 0 {
+            self.first = h;
         }
-    }
-    Gathered::Ended(heads)
-}
-
-// Whether each of the numbers 1 to n was seen.
-fn all_seen(flags: &[bool; MOST_SEGMENTS], n: usize) -> bool
-    requires { n ≤ most_segments }
-    ensures { result ≡ all_set flags.now n }
-{
-    let mut number = 1;
-    while number <= n {
-        if !flags[number - 1] {
-            return false;
+        if disagrees(self.first, h) {
+            return Err(Refusal::Disagrees);
         }
-        number += 1;
+        let k = h.number as usize - 1;
+        if self.flags[k] {
+            return Err(Refusal::AlreadySeen);
+        }
+        self.flags[k] = true;
+        self.starts[k] = segment.start;
+        self.ends[k] = segment.next;
+        if h.number == 1 {
+            self.one = h;
+        }
+        Ok(segment.next)
     }
-    true
-}
 
-// The total length of the data of segments 1 to n.
-fn joined_length(starts: &[usize; MOST_SEGMENTS], ends: &[usize; MOST_SEGMENTS], n: usize) -> usize
-    requires { (n ≤ most_segments) × Parts starts.now ends.now }
-    ensures { (result ≡ parts_long starts.now ends.now n) × (result ≤ n * session_limit.0) }
-{
-    let mut sum = 0;
-    let mut j = 0;
-    while j < n {
-        sum += ends[j] - starts[j];
-        j += 1;
+    // The first pass: each frame in turn, to the end of the buffer.
+    fn gather(&mut self, frames: &[u8]) -> Result<(), Refusal>
+        requires { Blank self.old }
+        ensures { Gathers frames.now self.new result }
+    {
+        let mut at = 0;
+        while at < frames.len() {
+            at = self.take_turn(frames, at)?;
+        }
+        Ok(())
     }
-    sum
-}
 
-// The second pass: the data of segments 1 to n, one after the other from the output's start.
-fn join(
-    frames: &[u8],
-    starts: &[usize; MOST_SEGMENTS],
-    ends: &[usize; MOST_SEGMENTS],
-    n: usize,
-    out: &mut [u8],
-)
-    requires { Joinable frames.now starts.now ends.now n out.old }
-    ensures { out.new ≡ filled (parts frames.now starts.now ends.now n) out.old }
-{
-    let mut place = 0;
-    let mut k = 0;
-    while k < n {
-        let start = starts[k];
-        let end = ends[k];
-        let next = place + (end - start);
-        copy::copy(&frames[start..end], &mut out[place..next]);
-        place = next;
-        k += 1;
+    // Whether each of the numbers 1 to n was seen.
+    fn all_seen(&self, n: usize) -> bool
+        requires { n ≤ most_segments }
+        ensures { result ≡ all_set self.now.flags n }
+    {
+        self.flags[..n].iter().all(|seen| *seen)
+    }
+
+    // The total length of the data of segments 1 to n.
+    fn joined_length(&self, n: usize) -> usize
+        requires { (n ≤ most_segments) × Parts self.now }
+        ensures { (result ≡ parts_long self.now n) × (result ≤ n * session_limit.0) }
+    {
+        let mut sum = 0;
+        for k in 0..n {
+            sum += self.ends[k] - self.starts[k];
+        }
+        sum
+    }
+
+    // The second pass: the data of segments 1 to n, one after the other from the output's start.
+    fn join(&self, frames: &[u8], n: usize, out: &mut [u8])
+        requires { Joinable frames.now self.now n out.old }
+        ensures { out.new ≡ filled (parts frames.now self.now n) out.old }
+    {
+        let mut place = 0;
+        for k in 0..n {
+            let part = &frames[self.starts[k]..self.ends[k]];
+            let next = place + part.len();
+            copy::copy(part, &mut out[place..next]);
+            place = next;
+        }
     }
 }
 
 // A buffer of frames, read as a set into `out`.
-pub fn read_set(frames: &[u8], out: &mut [u8]) -> SetAnswer
+pub fn read_set(frames: &[u8], out: &mut [u8]) -> Result<Set, Refusal>
     ensures { Promise tell_set (set_of frames.now out.old) result out.new }
 {
-    let mut flags = [false; MOST_SEGMENTS];
-    let mut starts = [0usize; MOST_SEGMENTS];
-    let mut ends = [0usize; MOST_SEGMENTS];
-    let heads = match gather(frames, &mut flags, &mut starts, &mut ends) {
-        Gathered::Refused(n) => return SetAnswer::Refused(n),
-        Gathered::Ended(heads) => heads,
-    };
-    if !flags[0] {
-        return SetAnswer::Refused(refusal::ABSENT);
+    let mut met = Gathered::nothing();
+    met.gather(frames)?;
+    if !met.flags[0] {
+        return Err(Refusal::Absent);
     }
-    let n = heads.first.segments as usize;
-    if !all_seen(&flags, n) {
-        return SetAnswer::Refused(refusal::ABSENT);
+    let n = met.first.segments as usize;
+    if !met.all_seen(n) {
+        return Err(Refusal::Absent);
     }
-    let long = joined_length(&starts, &ends, n);
+    let long = met.joined_length(n);
     if out.len() < long {
-        return SetAnswer::Refused(refusal::OUTPUT_SMALL);
+        return Err(Refusal::OutputSmall);
     }
-    join(frames, &starts, &ends, n, out);
-    let one = heads.one;
-    SetAnswer::Set(one, Bytes(long as u32))
+    met.join(frames, n, out);
+    Ok(Set {
+        header: met.one,
+        length: Bytes(long as u32),
+    })
 }

@@ -3,6 +3,7 @@ use Prim.Native.Nat.{ℕ, ◌+◌, ◌-◌, ◌≤◌}
 use mathlib.Core.Path.{◌≡◌, refl, sym, ap, subst, ◌∙◌}
 use mathlib.Core.Bool.{Bool, true, false}
 use mathlib.Core.Option.{none, some}
+use Rattle.std.specs.Prelude.{Option, None, Some, Result, Ok, Err}
 use mathlib.Core.List.{List, ◌∷◌}
 use native.Mathlib.Omega.{arith}
 use lib.Dec.{eqb}
@@ -11,12 +12,12 @@ use lib.Seq.{drop-drop}
 use borrow.Author.Tests.{ltb-false, eqb-true, eq-eqb, ne_eqb}
 use Rattle.wire.specs.Checks.{pick, check, first, AllHold}
 use Rattle.wire.specs.Answers.{refused, given, rule}
+use Rattle.wire.specs.Refusals.{number}
+use Rattle.wire.specs.declared.refusal.Refusal.{Refusal}
 use Rattle.wire.proofs.CheckLaws.{never, all_hold, first-append-none, first-append-some}
 use Rattle.wire.proofs.AnswerLaws.{rule_given, rule_refused}
 use Rattle.frame.specs.declared.Frame.{Frame}
 use Rattle.frame.specs.Session.{head_size, session_limit, data_kind, kind_in, size_in, body_in, after, frame_checks, end, frame, frame_in, frame_at}
-use Rattle.frame.specs.declared.FrameAnswer.{FrameAnswer}
-use Rattle.frame.specs.declared.FrameAnswer.TheVariants.{End, Read, Refused}
 use Rattle.frame.specs.Told.{tell_frame}
 use Rattle.frame.proofs.Welds.{frame_apart}
 use Rattle.header.specs.declared.Header.{Header}
@@ -69,27 +70,27 @@ frame_lies s at passes =
     }
 
 -- by the answer: where the stream ends nothing is left, so that a frame there is cut off
-abbrev pub FrameSays : List ℕ → ℕ → FrameAnswer → Type 0
-FrameSays s at End = first (frame_checks (drop at s)) ≡ some 1
-FrameSays s at (Read f) = FrameLies s at f
-FrameSays s at (Refused n) = first (frame_checks (drop at s)) ≡ some n
+abbrev pub FrameSays : List ℕ → ℕ → Result (Option Frame) Refusal → Type 0
+FrameSays s at (Ok None) = first (frame_checks (drop at s)) ≡ some 1
+FrameSays s at (Ok (Some f)) = FrameLies s at f
+FrameSays s at (Err r) = first (frame_checks (drop at s)) ≡ some (number r)
 
-pub frame-says : (s : List ℕ) (at : ℕ) {r r' : FrameAnswer} → tell_frame r ≡ frame_at s at → r ≡ r' → FrameSays s at r'
+pub frame-says : (s : List ℕ) (at : ℕ) {r r' : Result (Option Frame) Refusal} → tell_frame r ≡ frame_at s at → r ≡ r' → FrameSays s at r'
 unfolding frame_at
 frame-says s at {r} {r'} e is = go (eqb at (length s)) refl (sym e ∙ ap tell_frame is)
   where
-    by-checks : (r : FrameAnswer) → rule (frame_checks (drop at s)) (frame (frame_in (drop at s) at)) ≡ tell_frame r → FrameSays s at r
-    by-checks End q = never (cc (rule_given (frame_checks (drop at s)) (frame (frame_in (drop at s) at)) end q).1)
-    by-checks (Read f) q =
+    by-checks : (r : Result (Option Frame) Refusal) → rule (frame_checks (drop at s)) (frame (frame_in (drop at s) at)) ≡ tell_frame r → FrameSays s at r
+    by-checks (Ok None) q = never (cc (rule_given (frame_checks (drop at s)) (frame (frame_in (drop at s) at)) end q).1)
+    by-checks (Ok (Some f)) q =
         let p = rule_given (frame_checks (drop at s)) (frame (frame_in (drop at s) at)) (frame f) q in
         subst (λ (x : Frame). FrameLies s at x) (cc p.1) (frame_lies s at p.0)
-    by-checks (Refused n) q = rule_refused (frame_checks (drop at s)) (frame (frame_in (drop at s) at)) n q
+    by-checks (Err r) q = rule_refused (frame_checks (drop at s)) (frame (frame_in (drop at s) at)) (number r) q
 
     go : (t : Bool) → eqb at (length s) ≡ t
         → pick t (given end) (rule (frame_checks (drop at s)) (frame (frame_in (drop at s) at))) ≡ tell_frame r' → FrameSays s at r'
     go true p q =
         let l : length s ≤ at = omega (arith, eqb-true at (length s) p) in
-        subst (λ (x : FrameAnswer). FrameSays s at x) (frame_apart End r' q) (rw (drop_of_length-le s {i = at} l))
+        subst (λ (x : Result (Option Frame) Refusal). FrameSays s at x) (frame_apart (Ok None) r' q) (rw (drop_of_length-le s {i = at} l))
     go false p q = by-checks r' q
 
 -- ---- a header

@@ -1,5 +1,5 @@
 -- An accepted set, described by its frames in any order, apart from the walk.
-use Rattle.std.specs.Prelude.{ℕ, zero, suc, ◌+◌, ◌≡◌, length}
+use Rattle.std.specs.Prelude.{ℕ, zero, suc, ◌≡◌, length}
 use mathlib.Core.List.{List, [], ◌∷◌, ◌++◌, map, flatten, Memᴰ}
 use Rattle.wire.specs.Checks.{AllHold}
 use Rattle.frame.specs.Session.{whole_long}

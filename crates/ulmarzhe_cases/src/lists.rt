@@ -17,7 +17,7 @@ pub fn read_halfwords(bytes: &[u8], list: &mut [u16; MOST]) -> usize {
         if MOST <= n {
             return n;
         }
-        list[n] = wire::fetch16(bytes, n as u32 * 2);
+        list[n] = wire::fetch::<u16>(bytes, n as u32 * 2);
         n += 1;
     }
     n
@@ -68,7 +68,7 @@ pub fn spread(list: &[u16], sheet: &mut [u8; SHEET]) {
         if ROOM / 2 <= i {
             return;
         }
-        wire::store16(sheet, (PAGE + i * 2) as u32, list[i]);
+        wire::store::<u16>(sheet, (PAGE + i * 2) as u32, list[i]);
         i += 1;
     }
 }

@@ -130,9 +130,9 @@ pub fn code_at(gates: &[u8], word: u8, i: u32) -> u16 {
         return 0;
     }
     if word == WIDE_WORD {
-        return wire::fetch16(gates, i * 2);
+        return wire::fetch::<u16>(gates, i * 2);
     }
-    wide(wire::fetch8(gates, i))
+    wide(wire::fetch::<u8>(gates, i))
 }
 
 fn wide(x: u8) -> u16 {

@@ -1,14 +1,16 @@
 -- Laws of ordered checks: what a refusal and an acceptance say about each check. Assumes nothing.
 use Prim.Native.Nat.{ℕ}
 use mathlib.Core.Path.{◌≡◌, refl, ap, sym, ◌∙◌}
-use mathlib.Core.Bool.{Bool, true, false}
+use mathlib.Core.Bool.{Bool, true, false, ◌||◌}
 use mathlib.Core.Option.{Option, none, some}
 use mathlib.Core.List.{List, [], ◌∷◌, ◌++◌}
 use native.Mathlib.Omega.{arith}
 use lib.Dec.{eqb}
 use borrow.Author.Tests.{eqb-true, eqb-false}
+use Rattle.std.proofs.lemmas.Bool.Decides.{nat_tests}
+use Rattle.std.specs.List.{list_any}
 use Rattle.wire.specs.Properties.{Each}
-use Rattle.wire.specs.Checks.{pick, either, both, CheckOf, Check, first, decide, some_broken, AllHold, Blamed}
+use Rattle.wire.specs.Checks.{pick, either, both, among, CheckOf, Check, first, decide, some_broken, AllHold, Blamed}
 use Rattle.wire.proofs.EachLaws.{each_append, each_split}
 
 -- zero is not one, so anything follows: for two constructors that cannot meet, by `never (cc e)`
@@ -61,6 +63,18 @@ miss a b r h e = simp h e
 
 pub last : (a r : Bool) → r ≡ a → r ≡ either a false
 last a r e = e ∙ sym (either_false a)
+
+-- the words of the toolchain's library for the same
+pub either_or : (a b : Bool) → either a b ≡ a || b
+either_or true b = refl
+either_or false b = refl
+
+same_test : (x y : ℕ) → eqb x y ≡ eqb y x
+same_test x y = grind (arith, nat_tests)
+
+pub among_any : (x : ℕ) (l : List ℕ) → among x l ≡ list_any (λ y. eqb y x) l
+among_any x [] = refl
+among_any x (y ∷ l) = rw (same_test x y, among_any x l) (either_or (eqb y x) (list_any (λ y. eqb y x) l))
 
 -- ---- checks in turn
 

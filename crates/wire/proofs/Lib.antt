@@ -8,6 +8,8 @@ pub mod CheckLaws
 pub mod TestLaws
 pub mod AnswerLaws
 pub mod OnwardLaws
+pub mod RefusalLaws
+pub mod ExitLaws
 pub mod WriteLaws
 pub mod SheetLaws
 pub mod FloatLaws

@@ -9,10 +9,12 @@ use Rattle.wire.specs.Checks.{Check, AllHold}
 use Rattle.wire.specs.Answers.{given, refusal}
 use Rattle.wire.specs.Sizes.{bytes}
 use Rattle.wire.specs.declared.Bytes.{Bytes}
-use Rattle.wire.specs.declared.WriteAnswer.{WriteAnswer}
-use Rattle.wire.specs.declared.WriteAnswer.TheVariants.{Written, Refused}
+use Rattle.std.specs.Prelude.{Result}
+use Rattle.wire.specs.declared.refusal.Refusal.{Refusal}
+use Rattle.wire.specs.declared.Bytes.{Bytes}
+use Rattle.wire.proofs.RefusalLaws.{tell_apart}
 use Rattle.wire.specs.Writing.{filled, wrote, room_check, written, tell_write}
-use Rattle.wire.proofs.CheckLaws.{never, decide-none, none_broken, all_hold, all_hold_append, all_hold_join}
+use Rattle.wire.proofs.CheckLaws.{decide-none, none_broken, all_hold, all_hold_append, all_hold_join}
 use Rattle.wire.proofs.AnswerLaws.{outcome_given}
 
 -- a call that wrote: its checks hold, and what stands in the length that it reports is the body
@@ -33,8 +35,5 @@ wrote_all ks body out h room =
     decide-none k (refusal out) (wrote body out)
     (none_broken k (all_hold_join ks (room_check (length out) body ∷ []) h (le-ltb (length out) (length body) room, tt)))
 
-pub write_apart : (a b : WriteAnswer) → tell_write a ≡ tell_write b → a ≡ b
-write_apart (Written s) (Written t) e = cc e
-write_apart (Written s) (Refused m) e = never (cc e)
-write_apart (Refused n) (Written t) e = never (cc e)
-write_apart (Refused n) (Refused m) e = cc e
+pub write_apart : (a b : Result Bytes Refusal) → tell_write a ≡ tell_write b → a ≡ b
+write_apart = tell_apart (λ size. size) (λ s t e. e)

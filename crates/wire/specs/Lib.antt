@@ -5,5 +5,6 @@ pub mod Tables
 pub mod Checks
 pub mod Answers
 pub mod Sizes
+pub mod Refusals
 pub mod Writing
 pub mod Sheets

@@ -1,11 +1,11 @@
 -- "An accepted call that writes fills its output from the start, reports the length and leaves the rest."
-use Rattle.std.specs.Prelude.{ℕ, List, [], ◌∷◌, ◌++◌, ltb, length, drop}
+use Rattle.std.specs.Prelude.{ℕ, List, [], ◌∷◌, ◌++◌, ltb, length, drop, Result}
 use Rattle.wire.specs.Checks.{Check, check}
-use Rattle.wire.specs.Answers.{Answer, refused, given, Outcome, outcome}
+use Rattle.wire.specs.Answers.{Answer, given, Outcome, outcome}
 use Rattle.wire.specs.Sizes.{bytes}
 use Rattle.wire.specs.declared.Bytes.{Bytes}
-use Rattle.wire.specs.declared.WriteAnswer.{WriteAnswer}
-use Rattle.wire.specs.declared.WriteAnswer.TheVariants.{Written, Refused}
+use Rattle.wire.specs.declared.refusal.Refusal.{Refusal}
+use Rattle.wire.specs.Refusals.{tell}
 
 -- the contents of an output that held `out`, after `body` was stored at its start
 abbrev pub filled : List ℕ → List ℕ → List ℕ
@@ -32,6 +32,5 @@ abbrev pub written : List Check → List ℕ → List ℕ → Outcome (List ℕ)
 written ks body out = wrote_all ks (bytes (length body)) body out
 
 -- the length that a writer reports, or the number of its refusal
-abbrev pub tell_write : WriteAnswer → Answer Bytes
-tell_write (Written size) = given size
-tell_write (Refused n) = refused n
+abbrev pub tell_write : Result Bytes Refusal → Answer Bytes
+tell_write = tell (λ size. size)

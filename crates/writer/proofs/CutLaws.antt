@@ -93,9 +93,6 @@ pub count_cut : (kind : ℕ) (body : List ℕ) → (kind ≡ radial_type → ⊥
     → (length body - 1) / segment_data.0 + 1 ≡ length (segments_of kind body)
 count_cut kind body e = simp (ne_eqb kind radial_type e) (sym (cut-count (length body) body (omega arith)))
 
-pub count-empty : (kind : ℕ) (body : List ℕ) → (kind ≡ radial_type → ⊥) → length body ≡ 0 → 1 ≡ length (segments_of kind body)
-count-empty kind body e z = omega (arith, count_cut kind body e)
-
 -- a body within the limit can be counted, and makes no more segments than there may be
 pub count_most : (kind : ℕ) (body : List ℕ) → length body ≤ (longest kind).0
     → (length body < 2 ^ 31) × (length (segments_of kind body) ≤ most_segments)

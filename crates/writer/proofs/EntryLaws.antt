@@ -12,8 +12,10 @@ use Rattle.wire.specs.Answers.{Outcome, Promise, refusal}
 use Rattle.wire.specs.Writing.{filled, wrote, tell_write}
 use Rattle.wire.specs.Sizes.{bytes, odd}
 use Rattle.wire.specs.declared.Bytes.{Bytes}
-use Rattle.wire.specs.declared.WriteAnswer.{WriteAnswer}
-use Rattle.wire.specs.declared.WriteAnswer.TheVariants.{Written, Refused}
+use Rattle.std.specs.Prelude.{Result, Ok, Err}
+use Rattle.wire.specs.Refusals.{number}
+use Rattle.wire.specs.declared.refusal.Refusal.{Refusal}
+use Rattle.wire.specs.declared.refusal.Refusal.TheVariants.{«Type», DateOrTime, OddBody, LongBody, OutputSmall}
 use Rattle.wire.proofs.AnswerLaws.{kept}
 use Rattle.wire.proofs.CheckLaws.{decide-same}
 use Rattle.header_rule.specs.Rules.{not_permitted, most_segments, time_checks}
@@ -64,23 +66,23 @@ write_decides g body out =
 
 -- the writer's answer by the tests in their order, with what was computed for them
 module _ (g : Given) (body out : List ℕ) where
-  abbrev Writes : WriteAnswer → List ℕ → Type 0
+  abbrev Writes : Result Bytes Refusal → List ℕ → Type 0
   Writes r after = Promise tell_write (write_of g body out) r after
 
-  refuses : (n : ℕ) → write_of g body out ≡ refusal out n → Writes (Refused n) out
-  refuses n e = kept tell_write (write_of g body out) (Refused n) out out e refl
+  refuses : (r : Refusal) → write_of g body out ≡ refusal out (number r) → Writes (Err r) out
+  refuses r e = kept tell_write (write_of g body out) (Err r) out out e refl
 
   module _ (type : Bool) (t : type ≡ not_permitted g.kind) where
-    pub type-refused : type ≡ true → Writes (Refused 6) out
-    type-refused b = refuses 6 (write_decides g body out ∙ simp (← t, b))
+    pub type-refused : type ≡ true → Writes (Err «Type») out
+    type-refused b = refuses «Type» (write_decides g body out ∙ simp (← t, b))
 
     module _ (permitted : type ≡ false) (time : Bool) (s : time ≡ some_broken (time_checks g.date g.milliseconds)) where
-      pub time-refused : time ≡ true → Writes (Refused 8) out
-      time-refused b = refuses 8 (write_decides g body out ∙ simp (← t, permitted, ← s, b))
+      pub time-refused : time ≡ true → Writes (Err DateOrTime) out
+      time-refused b = refuses DateOrTime (write_decides g body out ∙ simp (← t, permitted, ← s, b))
 
       module _ (timely : time ≡ false) where
-        pub odd_refused : (length body % 2 ≡ 0 → ⊥) → Writes (Refused 25) out
-        odd_refused b = refuses 25 (write_decides g body out ∙ simp (← t, permitted, ← s, timely, ne_eqb (length body % 2) 0 b))
+        pub odd_refused : (length body % 2 ≡ 0 → ⊥) → Writes (Err OddBody) out
+        odd_refused b = refuses OddBody (write_decides g body out ∙ simp (← t, permitted, ← s, timely, ne_eqb (length body % 2) 0 b))
 
         module _ (even : length body % 2 ≡ 0) (limit : ℕ) (l : limit ≡ (longest g.kind).0) where
           by-limit : write_of g body out
@@ -88,19 +90,19 @@ module _ (g : Given) (body out : List ℕ) where
               (pick (ltb (length out) (length (frames_of g body))) (refusal out 13) (wrote (frames_of g body) out))
           by-limit = write_decides g body out ∙ simp (← t, permitted, ← s, timely, eq-eqb (length body % 2) 0 even, ← l)
 
-          pub long-refused : limit < length body → Writes (Refused 26) out
-          long-refused b = refuses 26 (by-limit ∙ simp (lt-ltb limit (length body) b))
+          pub long-refused : limit < length body → Writes (Err LongBody) out
+          long-refused b = refuses LongBody (by-limit ∙ simp (lt-ltb limit (length body) b))
 
           module _ (short : length body ≤ limit) (n : ℕ) (e : n ≡ length (segments_of g.kind body)) where
             by_room : write_of g body out
                 ≡ pick (ltb (length out) (length body + heads_size * n)) (refusal out 13) (wrote (frames_of g body) out)
             by_room = by-limit ∙ simp (le-ltb limit (length body) short, whole_is g body n e)
 
-            pub room-refused : length out < length body + heads_size * n → Writes (Refused 13) out
-            room-refused b = refuses 13 (by_room ∙ simp (lt-ltb (length out) (length body + heads_size * n) b))
+            pub room-refused : length out < length body + heads_size * n → Writes (Err OutputSmall) out
+            room-refused b = refuses OutputSmall (by_room ∙ simp (lt-ltb (length out) (length body + heads_size * n) b))
 
             pub wrote-frames : length body + heads_size * n ≤ length out → (after : List ℕ) → after ≡ filled (frames_of g body) out
-                → Writes (Written (bytes (length body + heads_size * n))) after
+                → Writes (Ok (bytes (length body + heads_size * n))) after
             wrote-frames b after a =
-                kept tell_write (write_of g body out) (Written (bytes (length body + heads_size * n))) after (filled (frames_of g body) out)
+                kept tell_write (write_of g body out) (Ok (bytes (length body + heads_size * n))) after (filled (frames_of g body) out)
                 (by_room ∙ simp (le-ltb (length out) (length body + heads_size * n) b) (rw (whole_is g body n e) refl)) a

@@ -113,12 +113,6 @@ module _ (given : Given) (n : ℕ) (body out₀ out : List ℕ) (k start place :
     held-long : length held ≡ segment_data.0
     held-long = rw held-is (length-take-le segment_data.0 (drop start body) (rw length-drop (omega (arith, long))))
 
-    pub turn-place : place ≤ length out
-    turn-place = omega (arith, fits held later are)
-
-    pub turn-fits : place + heads_size + segment_data.0 ≤ length out₀
-    turn-fits = omega (arith, fits held later are, held-long, kept)
-
     pub turn_small : length held < 2 ^ 31
     turn_small = omega (arith, held-long)
 
@@ -127,7 +121,7 @@ module _ (given : Given) (n : ℕ) (body out₀ out : List ℕ) (k start place :
 
     pub again : (last : List ℕ) → last ≡ filled (frame_of given n k held) (take (length out - place) (drop place out))
         → Writing given n body out₀ (take place out ++ (last ++ drop (length out - place) (drop place out))) (k + 1)
-        (start + segment_data.0) (place + heads_size + segment_data.0)
+        (start + segment_data.0) (place + (heads_size + segment_data.0))
     again last f = record {
       done = w.done ++ frame_of given n k held;
       cuts = more.cuts;
@@ -155,16 +149,14 @@ module _ (given : Given) (n : ℕ) (body out₀ out : List ℕ) (k start place :
     pub last-room : heads_size + length rest ≤ length (take (length out - place) (drop place out))
     last-room = suits rest [] last-part
 
-    pub last-place : place ≤ length out
-    last-place = omega (arith, fits rest [] last-part)
+    -- its number is n
+    ended : n ≡ k
+    ended = omega (arith, w.left, cut-some w.cuts (drop start body))
 
-    pub ends : (last : List ℕ) → last ≡ filled (frame_of given n k rest) (take (length out - place) (drop place out))
+    pub ends : (last : List ℕ) → last ≡ filled (frame_of given n n rest) (take (length out - place) (drop place out))
         → take place out ++ (last ++ drop (length out - place) (drop place out)) ≡ filled (frames_of given body) out₀
     unfolding frames_from
     ends last f =
         let all_done : w.done ++ frame_of given n k rest ≡ frames_of given body = sym (append-nil _) ∙ done_more rest [] last-part in
-        wrote rest [] last-part last f ∙ ap (λ (x : List ℕ). filled x out₀) all_done
-
-    pub ends-kept : (last : List ℕ) → last ≡ filled (frame_of given n k rest) (take (length out - place) (drop place out))
-        → length (take place out ++ (last ++ drop (length out - place) (drop place out))) ≡ length out₀
-    ends-kept last f = ap length (ends last f) ∙ simp (length-append, length-drop) (omega (arith, w.room))
+        let of_k = ap (λ (j : ℕ). filled (frame_of given n j rest) (take (length out - place) (drop place out))) ended in
+        wrote rest [] last-part last (f ∙ of_k) ∙ ap (λ (x : List ℕ). filled x out₀) all_done

@@ -8,7 +8,8 @@ ghost use Rattle.writer_head.specs.Head.{heads_size};
 ghost use Rattle.writer.specs.Writing.{segments_of, frame_of, frames_of, longest, write_of};
 
 use header_rule::RADIAL;
-use wire::{Bytes, WriteAnswer, refusal};
+use wire::Bytes;
+use wire::refusal::Refusal;
 use writer_head::{Given, HEADS};
 
 const HEADER: u32 = header::HEADER as u32;
@@ -21,28 +22,28 @@ const LONGEST_BODY: usize = 307200;
 const LONGEST_RADIAL: usize = frame::SESSION_LIMIT as usize - header::HEADER;
 
 // Writes the body as frames from the start of the output and reports their length. A refusal writes nothing.
-pub fn write_message(given: Given, body: &[u8], out: &mut [u8]) -> WriteAnswer
+pub fn write_message(given: Given, body: &[u8], out: &mut [u8]) -> Result<Bytes, Refusal>
     ensures { Promise tell_write (write_of given body.now out.old) result out.new }
 {
     if header_rule::breaks_type(given.kind) {
-        return WriteAnswer::Refused(refusal::TYPE);
+        return Err(Refusal::Type);
     }
     if header_rule::breaks_time(given.date, given.milliseconds) {
-        return WriteAnswer::Refused(refusal::DATE_OR_TIME);
+        return Err(Refusal::DateOrTime);
     }
     if body.len() % 2 != 0 {
-        return WriteAnswer::Refused(refusal::ODD_BODY);
+        return Err(Refusal::OddBody);
     }
     if longest_of(given.kind) < body.len() {
-        return WriteAnswer::Refused(refusal::LONG_BODY);
+        return Err(Refusal::LongBody);
     }
     let n = segments_of(given.kind, body);
     let whole = body.len() + HEADS * n;
     if out.len() < whole {
-        return WriteAnswer::Refused(refusal::OUTPUT_SMALL);
+        return Err(Refusal::OutputSmall);
     }
     write_frames(given, n as u16, body, out);
-    WriteAnswer::Written(Bytes(whole as u32))
+    Ok(Bytes(whole as u32))
 }
 
 fn longest_of(kind: u8) -> usize
@@ -61,10 +62,7 @@ fn segments_of(kind: u8, body: &[u8]) -> usize
     if kind == RADIAL {
         return 1;
     }
-    if body.len() == 0 {
-        return 1;
-    }
-    (body.len() - 1) / SEGMENT_DATA + 1
+    body.len().div_ceil(SEGMENT_DATA).max(1)
 }
 
 // All frames from the start of the output, which has room for them.
@@ -72,17 +70,15 @@ fn write_frames(given: Given, n: u16, body: &[u8], out: &mut [u8])
     requires { (n ≡ length (segments_of given.kind body.now)) × (length body.now < 2 ^ 31) × (length (frames_of given body.now) ≤ length out.old) }
     ensures { out.new ≡ filled (frames_of given body.now) out.old }
 {
-    let mut k: u16 = 1;
     let mut start = 0;
     let mut place = 0;
-    while k < n {
+    for k in 1..n {
         let end = start + SEGMENT_DATA;
         write_frame(given, n, k, &body[start..end], &mut out[place..]);
-        place = place + HEADS + SEGMENT_DATA;
+        place += HEADS + SEGMENT_DATA;
         start = end;
-        k += 1;
     }
-    write_frame(given, n, k, &body[start..], &mut out[place..]);
+    write_frame(given, n, n, &body[start..], &mut out[place..]);
 }
 
 // Writes one frame at the start of a part of the output.

@@ -19,50 +19,25 @@ pub struct Given {
     pub milliseconds: u32,
 }
 
-const DATA_KIND: u8 = frame::DATA as u8;
-
 pub const HEADS: usize = frame::HEAD + header::HEADER;
 
 // The bytes before the data of segment k of n. The message with its header has `size` bytes.
 pub fn heads_of(given: Given, n: u16, k: u16, size: Bytes) -> [u8; HEADS]
     ensures { result ≡ heads given n k size }
 {
-    let long = size.0;
     let half = wire::to_halfwords(size);
-    let marked = size_field(half);
-    let high = high_field(n, half);
-    let low = low_field(k, half);
-    let time = given.milliseconds;
-    [
-        0,
-        0,
-        0,
-        DATA_KIND,
-        0,
-        0,
-        0,
-        0,
-        (long / 256 / 256 / 256 % 256) as u8,
-        (long / 256 / 256 % 256) as u8,
-        (long / 256 % 256) as u8,
-        (long % 256) as u8,
-        (marked / 256 % 256) as u8,
-        (marked % 256) as u8,
-        given.channel,
-        given.kind,
-        (given.sequence / 256 % 256) as u8,
-        (given.sequence % 256) as u8,
-        (given.date / 256 % 256) as u8,
-        (given.date % 256) as u8,
-        (time / 256 / 256 / 256 % 256) as u8,
-        (time / 256 / 256 % 256) as u8,
-        (time / 256 % 256) as u8,
-        (time % 256) as u8,
-        (high / 256 % 256) as u8,
-        (high % 256) as u8,
-        (low / 256 % 256) as u8,
-        (low % 256) as u8,
-    ]
+    let mut head = [0u8; HEADS];
+    wire::store::<u32>(&mut head, 0, frame::DATA);
+    wire::store::<u32>(&mut head, 8, size.0);
+    wire::store::<u16>(&mut head, 12, size_field(half));
+    head[14] = given.channel;
+    head[15] = given.kind;
+    wire::store::<u16>(&mut head, 16, given.sequence);
+    wire::store::<u16>(&mut head, 18, given.date);
+    wire::store::<u32>(&mut head, 20, given.milliseconds);
+    wire::store::<u16>(&mut head, 24, high_field(n, half));
+    wire::store::<u16>(&mut head, 26, low_field(k, half));
+    head
 }
 
 // Whether the short form cannot hold a size.

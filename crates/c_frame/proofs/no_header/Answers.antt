@@ -4,4 +4,4 @@ use Rattle.c_frame.proofs.no_header.Goals as goal
 
 pub returns : goal.returns
 unfolding header_in stored_in num
-returns c = simp (c.show_header.ensures, c.no_header.ensures)
+returns c = simp (c.show_header.ensures, c.no_header.ensures, c.number.ensures)

@@ -1,52 +1,43 @@
-use mathlib.Core.Bool.{Bool, false}
-use mathlib.Core.Path.{◌≡◌, sym, ◌∙◌}
-use mathlib.Core.List.{List}
-use Prim.Native.Nat.{ℕ}
-use Rattle.wire.proofs.CheckLaws.{hit, miss, last}
-use Rattle.form_spec.proofs.FormLaws.{fields_then, fields_by_place}
-use Rattle.censor.specs.Censor.{region}
-use Rattle.censor.specs.Steps.{region_broken}
+use Prim.Native.Nat.{ℕ, ◌≤◌}
+use native.Mathlib.Omega.{arith}
+use mathlib.Core.Bool.{Bool, not, ◌&&◌}
+use mathlib.Core.Path.{◌≡◌, refl, sym, ap, ◌∙◌}
+use mathlib.Core.List.{List, [], ◌∷◌, map}
+use borrow.Author.Rules.{rules}
+use borrow.Author.Tests.{tests}
+use lib.Dec.{ltb, leb}
+use lib.ListN.{length}
+use Rattle.std.specs.List.{zip, list_any}
+use Rattle.std.proofs.lemmas.Bool.Decides.{nat_tests}
+use Rattle.std.proofs.lemmas.Iterator.{YieldsList-from_slice, YieldsList-from_zip}
+use Rattle.std.proofs.lemmas.Iterator.Search.{any_from_yields_List}
+use Rattle.wire.specs.Checks.{either, some_broken}
+use Rattle.wire.proofs.CheckLaws.{either_or}
+use Rattle.form_spec.specs.Forms.{within, outside, row, field_checks}
 use Rattle.censor.proofs.region_broken.Goals as goal
 
--- the fields of a region by their places
-by_place : (part : List ℕ) (r : Bool) → r ≡ fields_then region 0 part false → r ≡ region_broken part
-by_place part r e = e ∙ sym (fields_by_place region 0 part)
+abbrev limits : List (ℕ × ℕ)
+limits = (0, 511) ∷ (0, 511) ∷ (0, 360) ∷ (0, 360) ∷ (1, 5) ∷ (0, 2) ∷ []
 
-pub returns-then-beyond : goal.returns-then-beyond
-returns-then-beyond c = by_place c.args.part.now _
-    (hit _ _ (sym c.beyond.ensures ∙ c.if-beyond.true))
+abbrev beyond : ℕ × (ℕ × ℕ) → Bool
+beyond p = outside (within p.1.0 p.1.1) p.0
 
-pub returns-then-beyond-2 : goal.returns-then-beyond-2
-returns-then-beyond-2 c = by_place c.args.part.now _
-    (miss _ _ _ (sym c.beyond.ensures ∙ c.if-beyond.false)
-    (hit _ _ (sym c.beyond-2.ensures ∙ c.if-beyond-2.true)))
+not_inside : (x least most : ℕ) → not (leb least x && leb x most) ≡ outside (within least most) x
+unfolding outside
+not_inside x least most = sym (either_or (ltb x least) (ltb most x) ∙ grind (arith, nat_tests))
 
-pub returns-then-beyond-3 : goal.returns-then-beyond-3
-returns-then-beyond-3 c = by_place c.args.part.now _
-    (miss _ _ _ (sym c.beyond.ensures ∙ c.if-beyond.false)
-    (miss _ _ _ (sym c.beyond-2.ensures ∙ c.if-beyond-2.false)
-    (hit _ _ (sym c.beyond-3.ensures ∙ c.if-beyond-3.true))))
-
-pub returns-then-beyond-4 : goal.returns-then-beyond-4
-returns-then-beyond-4 c = by_place c.args.part.now _
-    (miss _ _ _ (sym c.beyond.ensures ∙ c.if-beyond.false)
-    (miss _ _ _ (sym c.beyond-2.ensures ∙ c.if-beyond-2.false)
-    (miss _ _ _ (sym c.beyond-3.ensures ∙ c.if-beyond-3.false)
-    (hit _ _ (sym c.beyond-4.ensures ∙ c.if-beyond-4.true)))))
-
-pub returns-then-beyond-5 : goal.returns-then-beyond-5
-returns-then-beyond-5 c = by_place c.args.part.now _
-    (miss _ _ _ (sym c.beyond.ensures ∙ c.if-beyond.false)
-    (miss _ _ _ (sym c.beyond-2.ensures ∙ c.if-beyond-2.false)
-    (miss _ _ _ (sym c.beyond-3.ensures ∙ c.if-beyond-3.false)
-    (miss _ _ _ (sym c.beyond-4.ensures ∙ c.if-beyond-4.false)
-    (hit _ _ (sym c.beyond-5.ensures ∙ c.if-beyond-5.true))))))
+-- numbers by the table of their limits, as by the rows of the rule
+by_table : (ps : List (ℕ × ℕ)) (l : List ℕ) → length ps ≤ length l
+    → list_any beyond (zip l ps) ≡ some_broken (field_checks (map (λ p. row 2 (within p.0 p.1)) ps) l)
+by_table [] [] h = refl
+by_table [] (x ∷ l) h = refl
+by_table (p ∷ ps) [] h = absurd (omega arith)
+by_table (p ∷ ps) (x ∷ l) h =
+    sym (either_or (beyond (x, p)) (list_any beyond (zip l ps))) ∙ ap (either (beyond (x, p))) (by_table ps l (omega arith))
 
 pub returns : goal.returns
-returns c = by_place c.args.part.now _
-    (miss _ _ _ (sym c.beyond.ensures ∙ c.if-beyond.false)
-    (miss _ _ _ (sym c.beyond-2.ensures ∙ c.if-beyond-2.false)
-    (miss _ _ _ (sym c.beyond-3.ensures ∙ c.if-beyond-3.false)
-    (miss _ _ _ (sym c.beyond-4.ensures ∙ c.if-beyond-4.false)
-    (miss _ _ _ (sym c.beyond-5.ensures ∙ c.if-beyond-5.false)
-    (last _ _ c.beyond-6.ensures))))))
+returns c =
+    any_from_yields_List beyond c.any.new.self _ c.any.result c.any.ensures.ran
+    (YieldsList-from_zip (YieldsList-from_slice c.args.region.now cc) (YieldsList-from_slice limits cc))
+    (λ x b q k. (search rules, search (rules, tests) ∙ not_inside x.0.now x.1.now.0 x.1.now.1))
+    ∙ by_table limits c.args.region.now c.requires

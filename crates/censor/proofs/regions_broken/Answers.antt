@@ -1,42 +1,39 @@
-use Prim.Native.Nat.{ℕ, ◌+◌, ◌*◌, ◌-◌, ◌<◌}
+use Prim.Native.Nat.{ℕ, suc, ◌/◌}
 use native.Mathlib.Omega.{arith}
-use mathlib.Core.Bool.{Bool}
-use mathlib.Core.List.{List}
-use mathlib.Core.Path.{refl, ◌≡◌, sym, ◌∙◌, ap}
-use borrow.Author.Rules.{rules}
-use lib.ListN.{length, take, drop}
+use mathlib.Core.List.{List, ◌++◌}
+use mathlib.Core.Path.{◌≡◌, refl, sym, ap, ◌∙◌}
+use lib.ListN.{length, length-append}
 use Rattle.wire.specs.Checks.{either}
-use Rattle.wire.proofs.ListLaws.{part_is}
 use Rattle.wire.proofs.CheckLaws.{hit, miss}
 use Rattle.form_spec.proofs.FormLaws.{times-next}
 use Rattle.censor.specs.Censor.{region_fields, region}
 use Rattle.censor.specs.Steps.{region_broken, regions_broken}
 use Rattle.censor.proofs.regions_broken.Goals as goal
 
--- region number i and those after it answer as all do
-whole : (n i : ℕ) (l : List ℕ) {t : Bool} → i < n → t ≡ region_broken (take (length l - region_fields * i) (drop (region_fields * i) l))
-    → regions_broken (n - i) (drop (region_fields * i) l) ≡ regions_broken n l
-    → either t (regions_broken (n - (i + 1)) (drop (region_fields * (i + 1)) l)) ≡ regions_broken n l
-whole n i l low says rest =
-    ap (λ (b : Bool). either b (regions_broken (n - (i + 1)) (drop (region_fields * (i + 1)) l)))
-    (says ∙ ap region_broken (part_is l (region_fields * i)))
-    ∙ sym (times-next region n i l low)
-    ∙ rest
+-- the first region, and those after it
+next : (x rest all : List ℕ) → all ≡ x ++ rest → length x ≡ region_fields
+    → either (region_broken x) (regions_broken (length rest / region_fields) rest) ≡ regions_broken (length all / region_fields) all
+next x rest all e h =
+    let n : suc (length rest / region_fields) ≡ length all / region_fields = omega (arith, h, ap length e, length-append x rest) in
+    sym (times-next region (length rest / region_fields) x rest h) ∙ (λ i. regions_broken (n i) (sym e i))
 
-pub loop-i-init : goal.loop-i-init
-loop-i-init c =
-    let m : c.args.n - 0 ≡ c.args.n = omega arith in
-    (omega arith, ap (λ (k : ℕ). regions_broken k c.args.fields.now) m)
+pub loop-region-init : goal.loop-region-init
+loop-region-init c = (cc, cc)
 
 pub returns-then-region_broken : goal.returns-then-region_broken
 returns-then-region_broken c =
-    hit _ _ c.if-region_broken.true ∙ whole _ _ _ c.loop-i-test.true c.region_broken.ensures c.loop-i.invariant.1
+    let step = c.in-Some.ensures.steps in
+    let all = next _ _ _ step.1.0 (step.1.1 ∙ c.loop-region.invariant.0) in
+    hit _ _ (sym c.region_broken.ensures ∙ c.if-region_broken.true) ∙ all ∙ c.loop-region.invariant.1
 
-pub loop-i-preserved : goal.loop-i-preserved
-loop-i-preserved c =
-    (search rules, miss _ _ _ c.if-region_broken.false refl ∙ whole _ _ _ c.loop-i-test.true c.region_broken.ensures c.loop-i.invariant.1)
+pub loop-region-preserved : goal.loop-region-preserved
+loop-region-preserved c =
+    let step = c.in-Some.ensures.steps in
+    let all = next _ _ _ step.1.0 (step.1.1 ∙ c.loop-region.invariant.0) in
+    (step.0 ∙ c.loop-region.invariant.0, miss _ _ _ (sym c.region_broken.ensures ∙ c.if-region_broken.false) refl ∙ all ∙ c.loop-region.invariant.1)
 
 pub returns : goal.returns
 returns c =
-    let m : c.args.n - c.loop-i.i ≡ 0 = omega (arith, c.loop-i-test.false) in
-    ap (λ (k : ℕ). regions_broken k (drop (region_fields * c.loop-i.i) c.args.fields.now)) (sym m) ∙ c.loop-i.invariant.1
+    let step = c.in-None.ensures.steps in
+    let few : length c.loop-region.region-iterator.rest.now / region_fields ≡ 0 = omega (arith, step.1.0, c.loop-region.invariant.0) in
+    ap (λ (n : ℕ). regions_broken n c.loop-region.region-iterator.rest.now) (sym few) ∙ c.loop-region.invariant.1

@@ -1,14 +1,10 @@
-use Prim.Native.Nat.{◌≤◌, ◌*◌, ◌-◌}
+use Prim.Native.Nat.{◌-◌}
 use mathlib.Core.List.{◌++◌}
 use mathlib.Core.Path.{◌≡◌}
 use lib.ListN.{replicate}
 use Rattle.wire.specs.Numbers.{nums}
-use Rattle.censor.specs.Censor.{region_fields}
 use Rattle.censor.specs.Told.{places}
 use Rattle.censor.proofs.regions_of.Given as goal
 
 abbrev pub invariant-loop-i : goal.invariant-loop-i
-invariant-loop-i l = (l.i ≤ region_fields * l.n) × (l.regions ≡ nums 2 l.body 2 l.i ++ replicate (places - l.i) 0)
-
-abbrev pub decreases-loop-i : goal.decreases-loop-i
-decreases-loop-i l = region_fields * l.n - l.i
+invariant-loop-i l = l.regions ≡ nums 2 l.body 2 l.i ++ replicate (places - l.i) 0

@@ -1,6 +1,7 @@
 use mathlib.Core.Bool.{false}
-use mathlib.Core.Path.{◌≡◌, sym, ◌∙◌}
+use mathlib.Core.Path.{◌≡◌, sym, ap, ◌∙◌}
 use Rattle.wire.specs.Checks.{some_broken}
+use Rattle.wire.specs.Answers.{given}
 use Rattle.gate_value.specs.Value.{value_checks}
 use Rattle.gate_value.proofs.FloatLaws.{both_finite}
 use Rattle.gate_value.proofs.ValueLaws.{value-refused, value-given}
@@ -30,5 +31,5 @@ returns c =
     sym c.breaks_value.ensures ∙ c.if-breaks_value.false in
     let finite-of = c.finite_of in
     let a = c.args in
-    c.worth.ensures ∙ value-given a.code a.scale a.offset _ _ (passed) finite-of.ensures
+    ap given c.worth.ensures ∙ value-given a.code a.scale a.offset _ _ (passed) finite-of.ensures
     c.finite_of-2.ensures

@@ -1,4 +1,3 @@
-use borrow.Author.Rules.{rules}
 use Rattle.header.proofs.report.Goals as goal
 
 pub returns : goal.returns

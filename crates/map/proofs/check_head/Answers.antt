@@ -22,53 +22,53 @@ module _ (b : List ℕ) {date : ℕ} (first : field_size ≤ length b) (date_is 
 pub returns-then-body-lt-FIELD_SIZE : goal.returns-then-body-lt-FIELD_SIZE
 returns-then-body-lt-FIELD_SIZE c = sym (head-fetched c.args.body.now ∙ simp (lt-ltb _ _ c.if-body-lt-FIELD_SIZE.true))
 
-pub returns-then-fetch16-lt1 : goal.returns-then-fetch16-lt1
-returns-then-fetch16-lt1 c =
+pub returns-then-fetch-lt1 : goal.returns-then-fetch-lt1
+returns-then-fetch-lt1 c =
     sym (head-fetched c.args.body.now
-    ∙ simp (le-ltb _ _ c.if-body-lt-FIELD_SIZE.false, ← c.fetch16.ensures, lt-ltb _ _ c.if-fetch16-lt1.true))
+    ∙ simp (le-ltb _ _ c.if-body-lt-FIELD_SIZE.false, ← c.fetch16.ensures, lt-ltb _ _ c.if-fetch-lt1.true))
 
 pub returns-then-body : goal.returns-then-body
 returns-then-body c =
-    let past = past_date _ c.if-body-lt-FIELD_SIZE.false c.fetch16.ensures c.if-fetch16-lt1.false in
+    let past = past_date _ c.if-body-lt-FIELD_SIZE.false c.fetch16.ensures c.if-fetch-lt1.false in
     sym (past ∙ simp (lt-ltb _ _ c.if-body.true))
 
-pub returns-then-fetch16-gt-MOST_MINUTES : goal.returns-then-fetch16-gt-MOST_MINUTES
-returns-then-fetch16-gt-MOST_MINUTES c =
-    let past = past_date _ c.if-body-lt-FIELD_SIZE.false c.fetch16.ensures c.if-fetch16-lt1.false in
-    sym (past ∙ simp (le-ltb _ _ c.if-body.false, ← c.fetch16-2.ensures, lt-ltb _ _ c.if-fetch16-gt-MOST_MINUTES.true))
+pub returns-then-fetch-gt-MOST_MINUTES : goal.returns-then-fetch-gt-MOST_MINUTES
+returns-then-fetch-gt-MOST_MINUTES c =
+    let past = past_date _ c.if-body-lt-FIELD_SIZE.false c.fetch16.ensures c.if-fetch-lt1.false in
+    sym (past ∙ simp (le-ltb _ _ c.if-body.false, ← c.fetch16-2.ensures, lt-ltb _ _ c.if-fetch-gt-MOST_MINUTES.true))
 
 pub returns-then-body-lt-HEAD_SIZE : goal.returns-then-body-lt-HEAD_SIZE
 returns-then-body-lt-HEAD_SIZE c =
-    let past = past_minutes _ c.if-body-lt-FIELD_SIZE.false c.fetch16.ensures c.if-fetch16-lt1.false
-    c.if-body.false c.fetch16-2.ensures c.if-fetch16-gt-MOST_MINUTES.false in
+    let past = past_minutes _ c.if-body-lt-FIELD_SIZE.false c.fetch16.ensures c.if-fetch-lt1.false
+    c.if-body.false c.fetch16-2.ensures c.if-fetch-gt-MOST_MINUTES.false in
     sym (past ∙ simp (lt-ltb _ _ c.if-body-lt-HEAD_SIZE.true))
 
 pub returns-then-count-lt1 : goal.returns-then-count-lt1
 returns-then-count-lt1 c =
-    let past = past_minutes _ c.if-body-lt-FIELD_SIZE.false c.fetch16.ensures c.if-fetch16-lt1.false
-    c.if-body.false c.fetch16-2.ensures c.if-fetch16-gt-MOST_MINUTES.false in
-    sym (past ∙ simp (le-ltb _ _ c.if-body-lt-HEAD_SIZE.false, ← c.fetch16-count.ensures, lt-ltb _ _ c.if-count-lt1.true))
+    let past = past_minutes _ c.if-body-lt-FIELD_SIZE.false c.fetch16.ensures c.if-fetch-lt1.false
+    c.if-body.false c.fetch16-2.ensures c.if-fetch-gt-MOST_MINUTES.false in
+    sym (past ∙ simp (le-ltb _ _ c.if-body-lt-HEAD_SIZE.false, ← c.fetch-count.ensures, lt-ltb _ _ c.if-count-lt1.true))
 
 pub returns-then-count-gt-MOST_ELEVATIONS : goal.returns-then-count-gt-MOST_ELEVATIONS
 returns-then-count-gt-MOST_ELEVATIONS c =
-    let past = past_minutes _ c.if-body-lt-FIELD_SIZE.false c.fetch16.ensures c.if-fetch16-lt1.false
-    c.if-body.false c.fetch16-2.ensures c.if-fetch16-gt-MOST_MINUTES.false in
+    let past = past_minutes _ c.if-body-lt-FIELD_SIZE.false c.fetch16.ensures c.if-fetch-lt1.false
+    c.if-body.false c.fetch16-2.ensures c.if-fetch-gt-MOST_MINUTES.false in
     sym (past
     ∙ simp (
       le-ltb _ _ c.if-body-lt-HEAD_SIZE.false,
-      ← c.fetch16-count.ensures,
+      ← c.fetch-count.ensures,
       le-ltb _ _ c.if-count-lt1.false,
       lt-ltb _ _ c.if-count-gt-MOST_ELEVATIONS.true,
     ))
 
 pub returns : goal.returns
 returns c =
-    let past = past_minutes _ c.if-body-lt-FIELD_SIZE.false c.fetch16.ensures c.if-fetch16-lt1.false
-    c.if-body.false c.fetch16-2.ensures c.if-fetch16-gt-MOST_MINUTES.false in
+    let past = past_minutes _ c.if-body-lt-FIELD_SIZE.false c.fetch16.ensures c.if-fetch-lt1.false
+    c.if-body.false c.fetch16-2.ensures c.if-fetch-gt-MOST_MINUTES.false in
     sym (past
     ∙ simp (
       le-ltb _ _ c.if-body-lt-HEAD_SIZE.false,
-      ← c.fetch16-count.ensures,
+      ← c.fetch-count.ensures,
       le-ltb _ _ c.if-count-lt1.false,
       le-ltb _ _ c.if-count-gt-MOST_ELEVATIONS.false,
     ))

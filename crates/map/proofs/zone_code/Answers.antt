@@ -5,8 +5,8 @@ use Rattle.map.proofs.zone_code.Goals as goal
 pub loop-left-init : goal.loop-left-init
 loop-left-init c = (
   omega arith,
-  looking_start c.args.part.now c.requires.0 c.args.kilometre c.requires.1 c.fetch16-left.result
-      c.fetch16-left.ensures,
+  looking_start c.args.part.now c.requires.0 c.args.kilometre c.requires.1 c.fetch-left.result
+      c.fetch-left.ensures,
 )
 
 pub returns-then-kilometre-end_of : goal.returns-then-kilometre-end_of
@@ -14,7 +14,7 @@ returns-then-kilometre-end_of c =
     let end_of_lem = c.end_of in
     let l = c.loop-left in
     looking-here c.args.part.now c.requires.0 c.args.kilometre c.requires.1 l.left l.at l.invariant.1
-    (λ i. (c.shared_slice_known-1.given i).fits) c.fetch32-zone.result c.fetch32-zone.ensures
+    (λ i. (c.shared_slice_known-1.given i).fits) c.fetch-zone.result c.fetch-zone.ensures
     end_of_lem.result end_of_lem.ensures c.code_of.result c.code_of.ensures
     c.if-kilometre-end_of.true
 
@@ -23,7 +23,7 @@ loop-left-preserved c =
     let end_of_lem = c.end_of in
     let l = c.loop-left in
     let next = looking-on c.args.part.now c.requires.0 c.args.kilometre c.requires.1 l.left l.at l.invariant.1
-    (λ i. (c.shared_slice_known-1.given i).fits) c.fetch32-zone.result c.fetch32-zone.ensures
+    (λ i. (c.shared_slice_known-1.given i).fits) c.fetch-zone.result c.fetch-zone.ensures
     end_of_lem.result end_of_lem.ensures c.if-kilometre-end_of.false in
     (looking-place c.args.part.now c.requires.0 c.args.kilometre c.requires.1 _ _ next, next)
 

@@ -1,49 +1,33 @@
 use Prim.Native.Nat.{ℕ}
 use mathlib.Core.Path.{sym, ◌∙◌}
-use mathlib.Core.List.{List}
-use lib.ListN.{get_or}
-use mir.Syntax.{w8}
-use mir.Val.{Fits}
-use Rattle.wire.specs.Numbers.{Octets}
-use Rattle.map_check.proofs.RisingLaws.{rising_none, rising_start, rising-broken, rising-on, rising-done}
-use borrow.Author.Rules.{rules}
+use native.Mathlib.Omega.{arith}
+use Rattle.map_check.proofs.RisingLaws.{rising_start, rising_done, rising-broken, rising-on}
 use Rattle.map_check.proofs.next_end.Goals as goal
 
--- items that fit a byte are octets
-octets : (b : List ℕ) → ((i : ℕ) → Fits w8 (get_or b i 0)) → Octets b
-octets b fit i = (fit i).fits
-
-pub returns-then-zones-lt-ZONE_SIZE : goal.returns-then-zones-lt-ZONE_SIZE
-returns-then-zones-lt-ZONE_SIZE c = rising_none _ (octets _ c.type_inv.zones) c.if-zones-lt-ZONE_SIZE.true
-
-pub loop-at-init : goal.loop-at-init
-loop-at-init c = (
-  search rules,
-  search rules,
-  rising_start _ (octets _ c.type_inv.zones) _ c.fetch32-zone.ensures c.if-zones-lt-ZONE_SIZE.false,
-)
+pub loop-bytes-init : goal.loop-bytes-init
+loop-bytes-init c =
+    let chunks = c.chunks_exact-bytes-items.ensures in
+    let o = λ (i : ℕ). (c.type_inv.zones i).fits in
+    rw (c.into_iter-bytes-iterator.ensures.into_iter_gives, chunks.rest) (chunks.size, rising_start _ o)
 
 pub returns-then-zone_broken : goal.returns-then-zone_broken
 returns-then-zone_broken c =
-    let l = c.loop-at in
-    rising-broken _ (octets _ c.type_inv.zones) _ _ _ l.invariant.2 l.invariant.0 (sym c.zone_broken.ensures ∙ c.if-zone_broken.true)
+    let l = c.loop-bytes.invariant in
+    let s = c.in-Some.ensures.steps.1 in
+    rising-broken _ _ _ l.1 _ _ s.0 (s.1 ∙ l.0) _ c.fetch-zone.ensures (sym c.zone_broken.ensures ∙ c.if-zone_broken.true)
 
-pub loop-at-preserved : goal.loop-at-preserved
-loop-at-preserved c =
-    let l = c.loop-at in (
-      search rules,
-      search rules,
-      rising-on _ (octets _ c.type_inv.zones) _ _ _ l.invariant.2 l.invariant.0 _ c.end_of.ensures
-          (sym c.zone_broken.ensures ∙ c.if-zone_broken.false) _ c.fetch32-zone-in-loop-at.ensures c.loop-at-test.true,
+pub loop-bytes-preserved : goal.loop-bytes-preserved
+loop-bytes-preserved c =
+    let l = c.loop-bytes.invariant in
+    let steps = c.in-Some.ensures.steps in
+    let s = steps.1 in (
+      steps.0 ∙ l.0,
+      rising-on _ _ _ l.1 _ _ s.0 (s.1 ∙ l.0) _ c.fetch-zone.ensures _ c.end_of.ensures
+          (sym c.zone_broken.ensures ∙ c.if-zone_broken.false),
     )
-
-pub returns-then-zone_broken-2 : goal.returns-then-zone_broken-2
-returns-then-zone_broken-2 c =
-    let l = c.loop-at in
-    rising-broken _ (octets _ c.type_inv.zones) _ _ _ l.invariant.2 l.invariant.0 (sym c.zone_broken-2.ensures ∙ c.if-zone_broken-2.true)
 
 pub returns : goal.returns
 returns c =
-    let l = c.loop-at in
-    rising-done _ (octets _ c.type_inv.zones) _ _ _ l.invariant.2 l.invariant.0 _ c.end_of-2.ensures
-    (sym c.zone_broken-2.ensures ∙ c.if-zone_broken-2.false) c.loop-at-test.false
+    let l = c.loop-bytes.invariant in
+    let s = c.in-None.ensures.steps in
+    rising_done _ _ _ l.1 (omega (arith, s.1.0, l.0))

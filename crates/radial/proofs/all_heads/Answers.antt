@@ -8,6 +8,7 @@ use Rattle.wire.proofs.NumberLaws.{number_is}
 use Rattle.radial_spec.specs.Description.{most_moments, moment_pointer}
 use Rattle.radial_spec.specs.Refusal.{pointer, description, radial_of}
 use Rattle.radial_spec.proofs.Held.{held}
+use Rattle.radial.specs.Told.{no_head}
 use Rattle.radial.specs.Steps.{head_at}
 use Rattle.radial.proofs.HeadLaws.{fill_begins, fill-turns, fill_ends}
 use Rattle.radial.proofs.all_heads.Goals as goal
@@ -20,17 +21,36 @@ pointed b n i p accepted more few e =
 
 pub loop-i-init : goal.loop-i-init
 loop-i-init c =
-    rw c.no_head-none.ensures (fill_begins c.args.body.now c.args.count c.requires.2)
+    let z = c.default-none.ensures in
+    let zeros : c.default-none.result ≡ no_head =
+    λ i.
+    record {
+      name = z.0 i;
+      place = z.1.0 i;
+      reserved = z.1.1.0 i;
+      gates = z.1.1.1.0 i;
+      first = z.1.1.1.1.0 i;
+      interval = z.1.1.1.1.1.0 i;
+      overlay = z.1.1.1.1.1.1.0 i;
+      noise = z.1.1.1.1.1.1.1.0 i;
+      flags = z.1.1.1.1.1.1.1.1.0 i;
+      word = z.1.1.1.1.1.1.1.1.1.0 i;
+      scale = z.1.1.1.1.1.1.1.1.1.1.0 i;
+      offset = z.1.1.1.1.1.1.1.1.1.1.1.0 i;
+      scale_bits = z.1.1.1.1.1.1.1.1.1.1.1.1.0 i;
+      offset_bits = z.1.1.1.1.1.1.1.1.1.1.1.1.1 i;
+    } in
+    rw zeros (fill_begins c.args.body.now c.args.count c.requires.2)
 
 pub head_at-head-requires : goal.head_at-head-requires
 head_at-head-requires c =
-    let points = pointed _ _ _ _ c.requires.0 c.loop-i-test.true c.requires.2 c.fetch32.ensures in
+    let points = pointed _ _ _ _ c.requires.0 c.loop-i-test.true c.requires.2 c.fetch.ensures in
     let m = (held _ _ c.requires.0).moment c.loop-i.i (rw (← c.requires.1) c.loop-i-test.true) in
     omega (arith, m.inside, points)
 
 pub loop-i-preserved : goal.loop-i-preserved
 loop-i-preserved c =
-    let points = pointed _ _ _ _ c.requires.0 c.loop-i-test.true c.requires.2 c.fetch32.ensures in
+    let points = pointed _ _ _ _ c.requires.0 c.loop-i-test.true c.requires.2 c.fetch.ensures in
     let l = c.loop-i in
     let b = c.args.body.now in
     fill-turns b _ l.heads l.i l.invariant c.head_at-head.result c.loop-i-test.true

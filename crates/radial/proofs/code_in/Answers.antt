@@ -15,18 +15,18 @@ two_bytes w e = ap (λ (x : ℕ). x / 8) e
 one_byte : (w : ℕ) → Member w word_sizes → (w ≡ 16 → ⊥) → w / 8 ≡ 1
 one_byte w m narrow = ap (λ (x : ℕ). x / 8) (⊎_elim (λ p. p) (λ p. ⊎_elim (λ q. absurd (narrow q)) (λ q. absurd q) p) m)
 
-pub slice_bounds-fetch16-end : goal.slice_bounds-fetch16-end
-slice_bounds-fetch16-end c = omega (arith, rw (two_bytes _ c.if-word-eq-WIDE_WORD.true) at c.requires.within)
+pub slice_bounds-fetch-end : goal.slice_bounds-fetch-end
+slice_bounds-fetch-end c = omega (arith, rw (two_bytes _ c.if-word-eq-WIDE_WORD.true) at c.requires.within)
 
 pub returns-then-word-eq-WIDE_WORD : goal.returns-then-word-eq-WIDE_WORD
 returns-then-word-eq-WIDE_WORD c =
     let a = c.args in
     let e = two_bytes a.word c.if-word-eq-WIDE_WORD.true in
     fetched-code 2 a.body.now a.place a.word a.gate (a.place + (28 + a.gate * 2)) _ e refl (rw e at c.requires.within)
-    c.fetch16.ensures
+    c.fetch.ensures
 
-pub slice_bounds-fetch8-end : goal.slice_bounds-fetch8-end
-slice_bounds-fetch8-end c =
+pub slice_bounds-fetch-end-2 : goal.slice_bounds-fetch-end-2
+slice_bounds-fetch-end-2 c =
     omega (arith, rw (one_byte _ c.requires.sized c.if-word-eq-WIDE_WORD.false) at c.requires.within)
 
 pub returns : goal.returns
@@ -34,4 +34,4 @@ returns c =
     let a = c.args in
     let e = one_byte a.word c.requires.sized c.if-word-eq-WIDE_WORD.false in
     fetched-code 1 a.body.now a.place a.word a.gate (a.place + (28 + a.gate)) _ e
-    (ap (λ (x : ℕ). a.place + (28 + x)) (sym (mul-one a.gate))) (rw e at c.requires.within) c.fetch8.ensures
+    (ap (λ (x : ℕ). a.place + (28 + x)) (sym (mul-one a.gate))) (rw e at c.requires.within) c.fetch-2.ensures

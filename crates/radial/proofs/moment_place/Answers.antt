@@ -16,22 +16,22 @@ pointed : (b : List ℕ) (name n k p : ℕ) → Searching b name n k → k < n �
 pointed b name n k p s more e = pointer_there b (first_pointer + 4 * k) p (pointer-inside b name n k s more) e
 
 pub loop-k-init : goal.loop-k-init
-loop-k-init c = search_begins c.args.body.now c.args.name _ (held _ _ c.requires) c.fetch16-count.ensures
+loop-k-init c = search_begins c.args.body.now c.args.name _ (held _ _ c.requires) c.fetch-count.ensures
 
-pub returns-then-fetch32-name : goal.returns-then-fetch32-name
-returns-then-fetch32-name c =
-    let points = pointed _ _ _ _ _ c.loop-k.invariant c.loop-k-test.true c.fetch32-place.ensures in
-    search-found _ _ _ _ c.loop-k.invariant c.loop-k-test.true _ _ points c.fetch32.ensures c.if-fetch32-name.true
+pub returns-then-fetch-name : goal.returns-then-fetch-name
+returns-then-fetch-name c =
+    let points = pointed _ _ _ _ _ c.loop-k.invariant c.loop-k-test.true c.fetch-place.ensures in
+    search-found _ _ _ _ c.loop-k.invariant c.loop-k-test.true _ _ points c.fetch.ensures c.if-fetch-name.true
 
 pub loop-k-preserved : goal.loop-k-preserved
 loop-k-preserved c =
-    let points = pointed _ _ _ _ _ c.loop-k.invariant c.loop-k-test.true c.fetch32-place.ensures in
-    search-on _ _ _ _ c.loop-k.invariant c.loop-k-test.true _ _ points c.fetch32.ensures c.if-fetch32-name.false
+    let points = pointed _ _ _ _ _ c.loop-k.invariant c.loop-k-test.true c.fetch-place.ensures in
+    search-on _ _ _ _ c.loop-k.invariant c.loop-k-test.true _ _ points c.fetch.ensures c.if-fetch-name.false
 
 pub returns : goal.returns
 returns c = search_ends _ _ _ _ c.loop-k.invariant c.loop-k-test.false
 
-pub slice_bounds-fetch32-end-in-loop-k : goal.slice_bounds-fetch32-end-in-loop-k
-slice_bounds-fetch32-end-in-loop-k c =
-    let points = pointed _ _ _ _ _ c.loop-k.invariant c.loop-k-test.true c.fetch32-place.ensures in
+pub slice_bounds-fetch-end-in-loop-k : goal.slice_bounds-fetch-end-in-loop-k
+slice_bounds-fetch-end-in-loop-k c =
+    let points = pointed _ _ _ _ _ c.loop-k.invariant c.loop-k-test.true c.fetch-place.ensures in
     omega (arith, points, (block_held _ _ _ _ c.loop-k.invariant c.loop-k-test.true).inside)

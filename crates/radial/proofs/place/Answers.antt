@@ -1,36 +1,39 @@
 use Prim.Native.Nat.{ℕ}
 use native.Mathlib.Omega.{arith}
-use mathlib.Core.Path.{◌≡◌, refl, ◌∙◌}
+use mathlib.Core.Path.{◌≡◌, refl, ap, ◌∙◌}
 use mathlib.Core.List.{List}
 use lib.ListN.{length}
-use borrow.Author.Tests.{eq-eqb, ne_eqb}
+use Rattle.std.specs.Prelude.{Option, None, Some}
+use Rattle.std.specs.Option.{ok_or}
 use borrow.Author.Rules.{rules}
+use Rattle.wire.specs.declared.refusal.Refusal.TheVariants.{AskedFor}
 use Rattle.wire.specs.Numbers.{num, fetched}
+use Rattle.wire.proofs.ExitLaws.{exits}
 use Rattle.wire.proofs.NumberLaws.{fetched-whole}
-use Rattle.radial.specs.Steps.{place_in}
 use Rattle.radial_spec.proofs.Held.{number_given}
-use Rattle.radial.proofs.FindLaws.{asked_for}
+use Rattle.radial.specs.Steps.{tell_place, place_in, place_asked}
+use Rattle.radial.proofs.FindLaws.{placed, place_refused}
 use Rattle.radial.proofs.place.Goals as goal
 
 -- the name that was fetched is the one asked for
 asked : (name : List ℕ) (r : ℕ) → length name ≡ 4 → r ≡ fetched 4 name 0 → r ≡ num 4 name 0
 asked name r four e = e ∙ fetched-whole 4 name 0 (omega (arith, four))
 
-pub returns-then-number-ne0 : goal.returns-then-number-ne0
-returns-then-number-ne0 c =
-    let a = c.args in
-    asked_for a.body.now (num 4 a.name 0) _ (place_in a.body.now (num 4 a.name 0)) _ _ (simp (ne_eqb _ _ c.if-number-ne0.true))
-    c.check_radial-number.ensures refl refl
+-- 21 where no place was found
+found : (o : Option ℕ) → tell_place (ok_or o AskedFor) ≡ place_asked o
+found None = refl
+found (Some p) = refl
 
-pub moment_place-begin-requires : goal.moment_place-begin-requires
-moment_place-begin-requires c = number_given _ _ c.check_radial-number.ensures c.if-number-ne0.false
+pub returns-in_err-check_radial : goal.returns-in_err-check_radial
+returns-in_err-check_radial c =
+    rw (exits _ _ c.from_residual.ensures) (place_refused _ _ _ c.in_err-check_radial.ensures)
 
-pub returns-then-begin-eq0 : goal.returns-then-begin-eq0
-returns-then-begin-eq0 c =
-    asked_for c.args.body.now _ _ _ _ _ (simp (eq-eqb _ _ c.if-number-ne0.false, eq-eqb _ _ c.if-begin-eq0.true))
-    c.check_radial-number.ensures c.moment_place-begin.ensures (asked _ _ (search rules) c.fetch32.ensures)
+pub moment_place-requires : goal.moment_place-requires
+moment_place-requires c = number_given _ c.in_ok-check_radial.ensures
 
 pub returns : goal.returns
 returns c =
-    asked_for c.args.body.now _ _ _ _ _ (simp (eq-eqb _ _ c.if-number-ne0.false, ne_eqb _ _ c.if-begin-eq0.false))
-    c.check_radial-number.ensures c.moment_place-begin.ensures (asked _ _ (search rules) c.fetch32.ensures)
+    ap tell_place c.ok_or.ensures.value
+    ∙ found c.moment_place.result
+    ∙ ap place_asked (c.moment_place.ensures ∙ ap (place_in c.args.body.now) (asked _ _ (search rules) c.fetch.ensures))
+    ∙ placed _ _ c.in_ok-check_radial.ensures

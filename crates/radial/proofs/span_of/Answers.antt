@@ -14,9 +14,9 @@ inside b q p points h = rw (← points) h
 
 pub returns : goal.returns
 returns c =
-    let points = number_is 4 _ _ _ c.fetch32-place.ensures c.requires.0 in
-    span_cut c.args.body.now c.args.at _ _ points (inside _ _ _ points c.requires.1) c.fetch16.ensures
+    let points = number_is 4 _ _ _ c.fetch-place.ensures c.requires.0 in
+    span_cut c.args.body.now c.args.at _ _ points (inside _ _ _ points c.requires.1) c.fetch.ensures
 
-pub slice_bounds-fetch16-end : goal.slice_bounds-fetch16-end
-slice_bounds-fetch16-end c =
-    inside c.args.body.now c.args.at _ (number_is 4 _ _ _ c.fetch32-place.ensures c.requires.0) c.requires.1
+pub slice_bounds-fetch-end : goal.slice_bounds-fetch-end
+slice_bounds-fetch-end c =
+    inside c.args.body.now c.args.at _ (number_is 4 _ _ _ c.fetch-place.ensures c.requires.0) c.requires.1

@@ -1,14 +1,16 @@
+use Rattle.wire.proofs.ExitLaws.{exits}
 use Rattle.radial_check.proofs.LoopLaws.{begins, refuses, turns, ends}
 use Rattle.radial_check.proofs.all_moments.Goals as goal
 
 pub loop-i-init : goal.loop-i-init
 loop-i-init c = begins _ _ _ _ c.requires.2
 
-pub returns-in-Refused : goal.returns-in-Refused
-returns-in-Refused c = refuses _ _ _ _ _ _ _ c.loop-i.invariant c.loop-i-test.true _ c.in-Refused.ensures
+pub returns-in_err-found : goal.returns-in_err-found
+returns-in_err-found c =
+    rw (exits _ _ c.from_residual.ensures) (refuses _ _ _ _ _ _ _ c.loop-i.invariant c.loop-i-test.true _ c.in_err-found.ensures)
 
 pub loop-i-preserved : goal.loop-i-preserved
-loop-i-preserved c = turns _ _ _ _ _ _ _ c.loop-i.invariant c.loop-i-test.true _ _ c.in-Moment.ensures
+loop-i-preserved c = turns _ _ _ _ _ _ _ c.loop-i.invariant c.loop-i-test.true _ _ c.in_ok-found.ensures
 
 pub returns : goal.returns
 returns c = ends _ _ _ _ _ _ _ c.loop-i.invariant c.loop-i-test.false

@@ -4,34 +4,34 @@ use Rattle.radial_check.proofs.begin.Goals as goal
 pub returns-then-body-lt-HEADER_SIZE : goal.returns-then-body-lt-HEADER_SIZE
 returns-then-body-lt-HEADER_SIZE c = short_body c.args.body.now c.if-body-lt-HEADER_SIZE.true
 
-pub returns-then-fetch8-ne0 : goal.returns-then-fetch8-ne0
-returns-then-fetch8-ne0 c =
-    compressed c.args.body.now c.if-body-lt-HEADER_SIZE.false _ c.fetch8.ensures c.if-fetch8-ne0.true
+pub returns-then-fetch-ne0 : goal.returns-then-fetch-ne0
+returns-then-fetch-ne0 c =
+    compressed c.args.body.now c.if-body-lt-HEADER_SIZE.false _ c.fetch.ensures c.if-fetch-ne0.true
 
 pub returns-then-length-lt-HEADER_SIZE : goal.returns-then-length-lt-HEADER_SIZE
 returns-then-length-lt-HEADER_SIZE c =
-    short-radial c.args.body.now c.if-body-lt-HEADER_SIZE.false _ c.fetch8.ensures c.if-fetch8-ne0.false _
-    c.fetch16-length.ensures c.if-length-lt-HEADER_SIZE.true
+    short-radial c.args.body.now c.if-body-lt-HEADER_SIZE.false _ c.fetch.ensures c.if-fetch-ne0.false _
+    c.fetch-length.ensures c.if-length-lt-HEADER_SIZE.true
 
 pub returns-then-body-length : goal.returns-then-body-length
 returns-then-body-length c =
-    long-radial c.args.body.now c.if-body-lt-HEADER_SIZE.false _ c.fetch8.ensures c.if-fetch8-ne0.false _
-    c.fetch16-length.ensures c.if-length-lt-HEADER_SIZE.false c.if-body-length.true
+    long-radial c.args.body.now c.if-body-lt-HEADER_SIZE.false _ c.fetch.ensures c.if-fetch-ne0.false _
+    c.fetch-length.ensures c.if-length-lt-HEADER_SIZE.false c.if-body-length.true
 
 pub returns-then-count-lt-FEWEST_BLOCKS : goal.returns-then-count-lt-FEWEST_BLOCKS
 returns-then-count-lt-FEWEST_BLOCKS c =
-    few-blocks c.args.body.now c.if-body-lt-HEADER_SIZE.false _ c.fetch8.ensures c.if-fetch8-ne0.false _
-    c.fetch16-length.ensures c.if-length-lt-HEADER_SIZE.false c.if-body-length.false _
-    c.fetch16-count.ensures c.if-count-lt-FEWEST_BLOCKS.true
+    few-blocks c.args.body.now c.if-body-lt-HEADER_SIZE.false _ c.fetch.ensures c.if-fetch-ne0.false _
+    c.fetch-length.ensures c.if-length-lt-HEADER_SIZE.false c.if-body-length.false _
+    c.fetch-count.ensures c.if-count-lt-FEWEST_BLOCKS.true
 
 pub returns-then-count-gt-MOST_BLOCKS : goal.returns-then-count-gt-MOST_BLOCKS
 returns-then-count-gt-MOST_BLOCKS c =
-    many-blocks c.args.body.now c.if-body-lt-HEADER_SIZE.false _ c.fetch8.ensures c.if-fetch8-ne0.false _
-    c.fetch16-length.ensures c.if-length-lt-HEADER_SIZE.false c.if-body-length.false _
-    c.fetch16-count.ensures c.if-count-lt-FEWEST_BLOCKS.false c.if-count-gt-MOST_BLOCKS.true
+    many-blocks c.args.body.now c.if-body-lt-HEADER_SIZE.false _ c.fetch.ensures c.if-fetch-ne0.false _
+    c.fetch-length.ensures c.if-length-lt-HEADER_SIZE.false c.if-body-length.false _
+    c.fetch-count.ensures c.if-count-lt-FEWEST_BLOCKS.false c.if-count-gt-MOST_BLOCKS.true
 
 pub returns : goal.returns
 returns c =
-    good_start c.args.body.now c.if-body-lt-HEADER_SIZE.false _ c.fetch8.ensures c.if-fetch8-ne0.false _
-    c.fetch16-length.ensures c.if-length-lt-HEADER_SIZE.false c.if-body-length.false _
-    c.fetch16-count.ensures c.if-count-lt-FEWEST_BLOCKS.false c.if-count-gt-MOST_BLOCKS.false
+    good_start c.args.body.now c.if-body-lt-HEADER_SIZE.false _ c.fetch.ensures c.if-fetch-ne0.false _
+    c.fetch-length.ensures c.if-length-lt-HEADER_SIZE.false c.if-body-length.false _
+    c.fetch-count.ensures c.if-count-lt-FEWEST_BLOCKS.false c.if-count-gt-MOST_BLOCKS.false

@@ -5,20 +5,20 @@ use Rattle.radial_check.specs.Steps.{bit_of}
 use Rattle.radial_check.proofs.BitLaws.{seek_found, seek-on, seek-fits, seek_ends}
 use Rattle.radial_check.proofs.bit_of.Goals as goal
 
-pub loop-i-init : goal.loop-i-init
+pub loop-known-init : goal.loop-known-init
 unfolding bit_of fetched num
-loop-i-init c = record { rows = refl; below = omega arith; power = refl; same = refl }
+loop-known-init c = record { rows = refl; below = omega arith; power = refl; same = refl }
 
-pub returns-then-fetch32-name : goal.returns-then-fetch32-name
-returns-then-fetch32-name c =
-    seek_found _ _ _ _ c.loop-i.invariant _ c.loop-i-test.true c.fetch32.ensures c.if-fetch32-name.true
+pub returns-then-fetch-name : goal.returns-then-fetch-name
+returns-then-fetch-name c =
+    seek_found _ _ _ _ c.loop-known.invariant _ c.loop-known-test.true c.fetch.ensures c.if-fetch-name.true
 
 pub overflow_mul-bit : goal.overflow_mul-bit
-overflow_mul-bit c = record { fits = seek-fits _ _ _ _ c.loop-i.invariant c.loop-i-test.true }
+overflow_mul-bit c = record { fits = seek-fits _ _ _ _ c.loop-known.invariant c.loop-known-test.true }
 
-pub loop-i-preserved : goal.loop-i-preserved
-loop-i-preserved c =
-    seek-on _ _ _ _ c.loop-i.invariant _ c.loop-i-test.true c.fetch32.ensures c.if-fetch32-name.false
+pub loop-known-preserved : goal.loop-known-preserved
+loop-known-preserved c =
+    seek-on _ _ _ _ c.loop-known.invariant _ c.loop-known-test.true c.fetch.ensures c.if-fetch-name.false
 
 pub returns : goal.returns
-returns c = seek_ends _ _ _ _ c.loop-i.invariant c.loop-i-test.false
+returns c = seek_ends _ _ _ _ c.loop-known.invariant c.loop-known-test.false

@@ -11,20 +11,20 @@ use Rattle.radial_check.proofs.constant.Goals as goal
 same_name : (l k : List ℕ) (x y : ℕ) → x ≡ fetched 4 l 0 → y ≡ fetched 4 k 0 → x ≡ y → eqb (fetched 4 l 0) (fetched 4 k 0) ≡ true
 same_name l k x y e f same = eq-eqb _ _ (sym e ∙ same ∙ f)
 
-pub returns-then-fetch32 : goal.returns-then-fetch32
-returns-then-fetch32 c = simp (sym c.fetch32.ensures, sym c.fetch32-2.ensures, ne_eqb _ _ c.if-fetch32.true)
+pub returns-then-fetch : goal.returns-then-fetch
+returns-then-fetch c = simp (sym c.fetch.ensures, sym c.fetch-2.ensures, ne_eqb _ _ c.if-fetch.true)
 
 pub returns-then-length-least : goal.returns-then-length-least
 returns-then-length-least c =
-    let same = same_name _ _ _ _ c.fetch32.ensures c.fetch32-2.ensures c.if-fetch32.false in
-    simp (same, sym c.fetch16-length.ensures, lt-ltb _ _ c.if-length-least.true)
+    let same = same_name _ _ _ _ c.fetch.ensures c.fetch-2.ensures c.if-fetch.false in
+    simp (same, sym c.fetch-length.ensures, lt-ltb _ _ c.if-length-least.true)
 
 pub returns-then-size-end : goal.returns-then-size-end
 returns-then-size-end c =
-    let same = same_name _ _ _ _ c.fetch32.ensures c.fetch32-2.ensures c.if-fetch32.false in
-    simp (same, sym c.fetch16-length.ensures, le-ltb _ _ c.if-length-least.false, lt-ltb _ _ c.if-size-end.true)
+    let same = same_name _ _ _ _ c.fetch.ensures c.fetch-2.ensures c.if-fetch.false in
+    simp (same, sym c.fetch-length.ensures, le-ltb _ _ c.if-length-least.false, lt-ltb _ _ c.if-size-end.true)
 
 pub returns : goal.returns
 returns c =
-    let same = same_name _ _ _ _ c.fetch32.ensures c.fetch32-2.ensures c.if-fetch32.false in
-    simp (same, sym c.fetch16-length.ensures, le-ltb _ _ c.if-length-least.false, le-ltb _ _ c.if-size-end.false)
+    let same = same_name _ _ _ _ c.fetch.ensures c.fetch-2.ensures c.if-fetch.false in
+    simp (same, sym c.fetch-length.ensures, le-ltb _ _ c.if-length-least.false, le-ltb _ _ c.if-size-end.false)

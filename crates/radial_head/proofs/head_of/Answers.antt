@@ -9,16 +9,16 @@ returns c =
     λ i. record {
       name = (key.ensures i).name;
       place = c.args.place;
-      reserved = c.fetch32.ensures i;
+      reserved = c.fetch.ensures i;
       gates = (key.ensures i).gates;
-      first = c.fetch16.ensures i;
-      interval = c.fetch16-2.ensures i;
-      overlay = c.fetch16-3.ensures i;
-      noise = c.fetch16-4.ensures i;
-      flags = c.fetch8.ensures i;
+      first = c.fetch-2.ensures i;
+      interval = c.fetch-3.ensures i;
+      overlay = c.fetch-4.ensures i;
+      noise = c.fetch-5.ensures i;
+      flags = c.fetch-6.ensures i;
       word = (key.ensures i).word;
-      scale = (c.float_of.ensures ∙ ap (λ (n : ℕ). of_bits binary32 n) c.fetch32-scale.ensures) i;
-      offset = (c.float_of-2.ensures ∙ ap (λ (n : ℕ). of_bits binary32 n) c.fetch32-offset.ensures) i;
-      scale_bits = c.fetch32-scale.ensures i;
-      offset_bits = c.fetch32-offset.ensures i;
+      scale = (c.float_of.ensures ∙ ap (λ (n : ℕ). of_bits binary32 n) c.fetch-scale.ensures) i;
+      offset = (c.float_of-2.ensures ∙ ap (λ (n : ℕ). of_bits binary32 n) c.fetch-offset.ensures) i;
+      scale_bits = c.fetch-scale.ensures i;
+      offset_bits = c.fetch-offset.ensures i;
     }

@@ -7,4 +7,4 @@ pub returns : goal.returns
 returns c =
     let args = c.args in
     let pre = c.requires in
-    cut_is 2 2 args.body.now count_place 0 _ (omega arith) (omega (arith, pre)) c.fetch16.ensures
+    cut_is 2 2 args.body.now count_place 0 _ (omega arith) (omega (arith, pre)) c.fetch.ensures

@@ -1,49 +1,22 @@
-use Prim.Native.Nat.{◌^◌, ◌≤◌, ◌<◌}
-use lib.ListN.{length}
 use native.Mathlib.Omega.{arith}
-use Rattle.header_rule.specs.Rules.{most_segments}
 use Rattle.writer.proofs.EntryLaws.{body_small, few_segments, has_room, type-refused, time-refused, odd_refused, long-refused, room-refused, wrote-frames}
 use borrow.Author.Rules.{rules}
 use Rattle.writer.proofs.write_message.Goals as goal
 
 pub overflow_mul-whole : goal.overflow_mul-whole
-overflow_mul-whole c =
-    let small : (length c.args.body.now < 2 ^ 31)
-    × (c.segments_of-n.result ≤ most_segments) =
-    search (rules, body_small, few_segments) in
-    omega (arith, small)
+overflow_mul-whole c = grind (arith, body_small, few_segments)
 
 pub overflow_add-whole : goal.overflow_add-whole
-overflow_add-whole c =
-    let small : (length c.args.body.now < 2 ^ 31)
-    × (c.segments_of-n.result ≤ most_segments) =
-    search (rules, body_small, few_segments) in
-    omega (arith, small)
+overflow_add-whole c = grind (arith, body_small, few_segments)
 
 pub overflow_cast-n : goal.overflow_cast-n
-overflow_cast-n c =
-    let small : (length c.args.body.now < 2 ^ 31)
-    × (c.segments_of-n.result ≤ most_segments) =
-    search (rules, body_small, few_segments) in
-    omega (arith, small)
+overflow_cast-n c = grind (arith, few_segments)
 
 pub write_frames-requires : goal.write_frames-requires
-write_frames-requires c =
-    let small : (length c.args.body.now < 2 ^ 31)
-    × (c.segments_of-n.result ≤ most_segments) =
-    search (rules, body_small, few_segments) in
-    let a = c.args in (
-      c.segments_of-n.ensures,
-      (small).0,
-      has_room a.given a.body.now a.out.now _ c.segments_of-n.ensures c.if-out-whole.false,
-    )
+write_frames-requires c = search (rules, body_small, has_room)
 
 pub overflow_cast-result : goal.overflow_cast-result
-overflow_cast-result c =
-    let small : (length c.args.body.now < 2 ^ 31)
-    × (c.segments_of-n.result ≤ most_segments) =
-    search (rules, body_small, few_segments) in
-    omega (arith, small)
+overflow_cast-result c = grind (arith, body_small, few_segments)
 
 pub returns-then-breaks_type : goal.returns-then-breaks_type
 returns-then-breaks_type c = search type-refused

@@ -1,4 +1,0 @@
-use Rattle.radial.proofs.refuse.Goals as goal
-
-pub returns : goal.returns
-returns c = cc
