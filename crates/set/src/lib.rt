@@ -114,8 +114,8 @@ impl Gathered {
         ensures { (result ≡ parts_long self.now n) × (result ≤ n * session_limit.0) }
     {
         let mut sum = 0;
-        for k in 0..n {
-            sum += self.ends[k] - self.starts[k];
+        for j in 0..n {
+            sum += self.ends[j] - self.starts[j];
         }
         sum
     }

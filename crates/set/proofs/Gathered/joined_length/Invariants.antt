@@ -4,5 +4,5 @@ use Rattle.frame.specs.Session.{session_limit}
 use Rattle.set.specs.Steps.{parts_long}
 use Rattle.set.proofs.Gathered.joined_length.Given as goal
 
-abbrev pub invariant-loop-k : goal.invariant-loop-k
-invariant-loop-k l = (l.sum ≡ parts_long l.self l.k) × (l.sum ≤ l.k * session_limit.0)
+abbrev pub invariant-loop-j : goal.invariant-loop-j
+invariant-loop-j l = (l.sum ≡ parts_long l.self l.j) × (l.sum ≤ l.j * session_limit.0)
