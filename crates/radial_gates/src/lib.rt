@@ -7,36 +7,28 @@ ghost use Rattle.radial_spec.specs.Lookups.{gates_of};
 ghost use Rattle.radial_gates.specs.Told.{LiesAt, part_of, Lent};
 ghost use Rattle.radial_gates.specs.Steps.{Locates};
 
-use radial::{MomentAnswer, Name};
+use radial::Name;
 use radial_head::MOMENT_HEAD;
+use wire::refusal::Refusal;
 
-// A refusal's number or 0, the gate count, and where the gates lie.
+// The gate count, and where the gates lie.
 #[derive(Clone, Copy)]
 struct Located {
-    number: u8,
     gates: u16,
     start: usize,
     size: usize,
 }
 
 // The gates lie after the moment's head, one word each.
-fn locate(body: &[u8], name: Name) -> Located
+fn locate(body: &[u8], name: Name) -> Result<Located, Refusal>
     ensures { Locates body.now (num 4 name 0) result }
 {
-    match radial::moment(body, name) {
-        MomentAnswer::Refused(number) => Located {
-            number: number,
-            gates: 0,
-            start: 0,
-            size: 0,
-        },
-        MomentAnswer::Moment(head) => Located {
-            number: 0,
-            gates: head.gates,
-            start: head.place as usize + MOMENT_HEAD,
-            size: radial_head::moment_size(head.gates, head.word) as usize - MOMENT_HEAD,
-        },
-    }
+    let head = radial::moment(body, name)?;
+    Ok(Located {
+        gates: head.gates,
+        start: head.place as usize + MOMENT_HEAD,
+        size: radial_head::moment_size(head.gates, head.word) as usize - MOMENT_HEAD,
+    })
 }
 
 // The part of the lent body itself: nothing is copied.
@@ -53,10 +45,14 @@ fn part(body: &[u8], found: Located) -> &[u8]
 pub fn gates(body: &[u8], name: Name) -> &[u8]
     ensures { LiesAt body.entry result (part_of (gates_of body.now (num 4 name 0))) }
 {
-    part(body, locate(body, name))
+    match locate(body, name) {
+        Ok(found) => part(body, found),
+        Err(_) => &body[..0],
+    }
 }
 
-// "Each returns its number and count 0, and an empty part where gates are handed over."
+// "Each returns its number and count 0, and an empty part where gates are handed over." So the number stands beside the part here, and
+// is 0 where nothing is refused.
 #[derive(Drop)]
 pub struct LentGates<'a> {
     pub number: u8,
@@ -67,11 +63,16 @@ pub struct LentGates<'a> {
 pub fn lent<'a>(body: &'a [u8], name: Name) -> LentGates<'a>
     ensures { Lent body.entry (num 4 name 0) result }
 {
-    let found = locate(body, name);
-    let gates = part(body, found);
-    LentGates {
-        number: found.number,
-        gates: found.gates,
-        part: gates,
+    match locate(body, name) {
+        Ok(found) => LentGates {
+            number: 0,
+            gates: found.gates,
+            part: part(body, found),
+        },
+        Err(refusal) => LentGates {
+            number: refusal.number(),
+            gates: 0,
+            part: &body[..0],
+        },
     }
 }

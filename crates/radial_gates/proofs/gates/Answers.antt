@@ -1,16 +1,14 @@
-use mathlib.Core.Path.{subst}
-use Rattle.wire.specs.Numbers.{num}
-use Rattle.radial_spec.specs.Lookups.{Part}
-use Rattle.radial_gates.specs.Told.{LiesAt}
-use Rattle.radial_gates.proofs.GatesLaws.{located-part}
+use mathlib.Core.Path.{refl}
+use native.Mathlib.Omega.{arith}
+use Rattle.radial_gates.proofs.GatesLaws.{located-part, refused-part}
 use Rattle.radial_gates.proofs.gates.Goals as goal
 
 pub part-requires : goal.part-requires
-part-requires c = c.locate.ensures.inside
+part-requires c = c.in-Ok.ensures.inside
 
-pub returns : goal.returns
-returns c =
-    let args = c.args in
-    let locate = c.locate in
-    subst (λ (p : Part). LiesAt args.body c.part.result p)
-    (located-part args.body.now (num 4 args.name 0) locate.result locate.ensures.is) c.part.ensures
+pub returns-in-Ok : goal.returns-in-Ok
+returns-in-Ok c = rw (← (located-part _ _ c.in-Ok.found c.in-Ok.ensures.is).2) c.part.ensures
+
+pub returns-in-Err : goal.returns-in-Err
+returns-in-Err c =
+    rw (← (refused-part _ _ _ c.in-Err.ensures.is).2) (record { memory = refl; place = omega arith; size = refl; bytes = refl })

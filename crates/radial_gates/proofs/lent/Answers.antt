@@ -1,18 +1,21 @@
-use mathlib.Core.Path.{ap, subst}
-use Rattle.wire.specs.Numbers.{num}
-use Rattle.radial_spec.specs.Lookups.{Part}
-use Rattle.radial_gates.specs.declared.Located.{Located}
-use Rattle.radial_gates.specs.Told.{LiesAt}
-use Rattle.radial_gates.proofs.GatesLaws.{located-part}
+use mathlib.Core.Path.{refl, sym, ◌∙◌}
+use native.Mathlib.Omega.{arith}
+use Rattle.radial_gates.proofs.GatesLaws.{located-part, refused-part}
 use Rattle.radial_gates.proofs.lent.Goals as goal
 
-pub returns : goal.returns
-returns c =
-    let a = c.args in
-    let l = c.locate-found in
+pub part-requires : goal.part-requires
+part-requires c = c.in-Ok.ensures.inside
+
+pub returns-in-Ok : goal.returns-in-Ok
+returns-in-Ok c =
+    let l = located-part _ _ c.in-Ok.found c.in-Ok.ensures.is in
+    record { number = sym l.0; gates = l.1; part = rw (← l.2) c.part.ensures }
+
+pub returns-in-Err : goal.returns-in-Err
+returns-in-Err c =
+    let l = refused-part _ _ _ c.in-Err.ensures.is in
     record {
-      number = ap (λ (x : Located). x.number) l.ensures.is;
-      gates = ap (λ (x : Located). x.gates) l.ensures.is;
-      part = subst (λ (p : Part). LiesAt a.body c.part-gates.result p)
-          (located-part a.body.now (num 4 a.name 0) l.result l.ensures.is) c.part-gates.ensures;
+      number = c.number.ensures ∙ sym l.0;
+      gates = sym l.1;
+      part = rw (← l.2) (record { memory = refl; place = omega arith; size = refl; bytes = refl });
     }

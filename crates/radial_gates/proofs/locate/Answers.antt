@@ -1,19 +1,10 @@
-use Rattle.wire.specs.Numbers.{num}
-use Rattle.radial_spec.specs.Lookups.{moment_of}
-use Rattle.radial_gates.proofs.GatesLaws.{located-refused, located-given, located_inside}
+use Rattle.wire.proofs.ExitLaws.{exits}
+use Rattle.radial_gates.proofs.GatesLaws.{located-refused, located-given}
 use Rattle.radial_gates.proofs.locate.Goals as goal
 
-pub returns-in-Refused : goal.returns-in-Refused
-returns-in-Refused c =
-    let a = c.args in
-    let e = located-refused (moment_of a.body.now (num 4 a.name 0)) _ c.in-Refused.ensures in
-    record { is = e; inside = located_inside a.body.now (num 4 a.name 0) _ (λ i. (c.type_inv.body i).fits) e }
+pub returns-in_err-head : goal.returns-in_err-head
+returns-in_err-head c =
+    rw (exits _ _ c.from_residual.ensures) (record { is = located-refused _ _ _ c.in_err-head.ensures; inside = tt })
 
-pub returns-in-Moment : goal.returns-in-Moment
-returns-in-Moment c =
-    let a = c.args in
-    let e =
-    located-given (moment_of a.body.now (num 4 a.name 0)) c.in-Moment.head c.moment_size.result
-    c.in-Moment.ensures c.moment_size.ensures
-    in
-    record { is = e; inside = located_inside a.body.now (num 4 a.name 0) _ (λ i. (c.type_inv.body i).fits) e }
+pub returns : goal.returns
+returns c = located-given _ _ c.in_ok-head.head c.moment_size.result (λ i. (c.type_inv.body i).fits) c.in_ok-head.ensures c.moment_size.ensures
