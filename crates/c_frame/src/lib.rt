@@ -6,13 +6,13 @@ ghost use Rattle.wire.specs.Answers.{refused, given};
 ghost use Rattle.wire.specs.Refusals.{number};
 ghost use Rattle.frame.specs.Session.{frame_at};
 ghost use Rattle.header.specs.Header.{header_of};
-ghost use Rattle.c_frame.specs.Face.{no_frame, frame_face, header_shown, header_face};
+ghost use Rattle.c_frame.specs.Face.{no_frame, frame_face, header_face};
 
 use header::Header;
 use wire::refusal::Refusal;
 
 #[repr(C)]
-#[derive(Clone, Copy)]
+#[derive(Clone, Copy, Default)]
 pub struct UlmFrame {
     pub refusal: u32,
     pub found: u32,
@@ -24,7 +24,7 @@ pub struct UlmFrame {
 }
 
 #[repr(C)]
-#[derive(Clone, Copy)]
+#[derive(Clone, Copy, Default)]
 pub struct UlmHeader {
     pub refusal: u32,
     pub size: u32,
@@ -60,12 +60,8 @@ fn no_frame(number: u8, place: usize) -> UlmFrame
 {
     UlmFrame {
         refusal: number as u32,
-        found: 0,
-        kind: 0,
-        second: 0,
-        start: 0,
-        size: 0,
         next: place as u64,
+        ..UlmFrame::default()
     }
 }
 
@@ -82,20 +78,8 @@ pub fn header(message: &[u8]) -> UlmHeader
 pub fn header_face(h: Header) -> UlmHeader
     ensures { result ≡ header_face (given h) }
 {
-    show_header(0, h)
-}
-
-pub fn no_header(refusal: Refusal) -> UlmHeader
-    ensures { result ≡ header_face (refused (number refusal)) }
-{
-    show_header(refusal.number(), header::no_header())
-}
-
-fn show_header(number: u8, h: Header) -> UlmHeader
-    ensures { result ≡ header_shown number h }
-{
     UlmHeader {
-        refusal: number as u32,
+        refusal: 0,
         size: h.size.0,
         channel: h.channel as u32,
         kind: h.kind as u32,
@@ -104,5 +88,14 @@ fn show_header(number: u8, h: Header) -> UlmHeader
         ms: h.milliseconds,
         segments: h.segments as u32,
         number: h.number as u32,
+    }
+}
+
+pub fn no_header(refusal: Refusal) -> UlmHeader
+    ensures { result ≡ header_face (refused (number refusal)) }
+{
+    UlmHeader {
+        refusal: refusal.number() as u32,
+        ..UlmHeader::default()
     }
 }

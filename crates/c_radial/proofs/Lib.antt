@@ -1,3 +1,2 @@
--- The laws between what the library answers of radials and the structs that C receives.
-pub mod RadialLaws
+-- That the contracts say what they should.
 pub mod Welds

@@ -4,14 +4,15 @@
 ghost use Rattle.std.specs.Prelude.{◌≡◌};
 ghost use Rattle.radial_spec.specs.Refusal.{radial_of};
 ghost use Rattle.radial_spec.specs.Lookups.{block_of};
-ghost use Rattle.c_radial.specs.Face.{radial_face, no_block, constant_face, block_face};
-ghost use Rattle.c_radial.specs.Steps.{head_face};
+ghost use Rattle.c_radial.specs.Face.{radial_face, constant_face, block_face};
+ghost use Rattle.c_radial.specs.Steps.{heading_face, head_face};
 
-use radial::{BlockAnswer, Lying};
+use radial::{Lying, RadialBlock};
 use radial_head::MomentHead;
+use radial_heading::Heading;
 
 #[repr(C)]
-#[derive(Clone, Copy)]
+#[derive(Clone, Copy, Default)]
 pub struct UlmRadial {
     pub refusal: u32,
     pub station: u32,
@@ -31,7 +32,7 @@ pub struct UlmRadial {
 }
 
 #[repr(C)]
-#[derive(Clone, Copy)]
+#[derive(Clone, Copy, Default)]
 pub struct UlmBlock {
     pub refusal: u32,
     pub found: u32,
@@ -53,10 +54,21 @@ pub struct UlmBlock {
 pub fn radial(body: &[u8]) -> UlmRadial
     ensures { result ≡ radial_face (radial_of body.now) }
 {
-    let read = radial_heading::read_heading(body);
-    let h = read.header;
+    match radial_heading::read_heading(body) {
+        Ok(heading) => heading_face(heading),
+        Err(refusal) => UlmRadial {
+            refusal: refusal.number() as u32,
+            ..UlmRadial::default()
+        },
+    }
+}
+
+fn heading_face(heading: Heading) -> UlmRadial
+    ensures { result ≡ heading_face heading }
+{
+    let h = heading.header;
     UlmRadial {
-        refusal: read.refusal as u32,
+        refusal: 0,
         station: h.station,
         time: h.time,
         date: h.date as u32,
@@ -70,7 +82,7 @@ pub fn radial(body: &[u8]) -> UlmRadial
         elevation: h.elevation,
         blanking: h.spot as u32,
         indexing: h.indexing as u32,
-        blocks: read.count as u32,
+        blocks: heading.count as u32,
     }
 }
 
@@ -78,59 +90,42 @@ pub fn block(body: &[u8], block: u32) -> UlmBlock
     ensures { result ≡ block_face (block_of body.now block) }
 {
     match radial::block(body, block) {
-        BlockAnswer::Constant(k) => constant_block(k),
-        BlockAnswer::Moment(k, h) => moment_block(k, h),
-        BlockAnswer::NoSuch => no_block(0),
-        BlockAnswer::Refused(number) => no_block(number),
+        Ok(Some(RadialBlock::Constant(k))) => constant_block(k),
+        Ok(Some(RadialBlock::Moment(k, h))) => moment_block(k, h),
+        Ok(None) => UlmBlock::default(),
+        Err(refusal) => UlmBlock {
+            refusal: refusal.number() as u32,
+            ..UlmBlock::default()
+        },
     }
 }
 
 fn constant_block(k: Lying) -> UlmBlock
     ensures { result ≡ constant_face k.name k.place k.size }
 {
-    let mut block = no_block(0);
-    block.found = 1;
-    block.name = k.name;
-    block.start = k.place as u64;
-    block.size = k.size as u64;
-    block
+    UlmBlock {
+        found: 1,
+        name: k.name,
+        start: k.place as u64,
+        size: k.size as u64,
+        ..UlmBlock::default()
+    }
 }
 
 fn moment_block(k: Lying, h: MomentHead) -> UlmBlock
     ensures { result ≡ head_face k h }
 {
-    let mut block = constant_block(k);
-    block.reserved = h.reserved;
-    block.gates = h.gates as u32;
-    block.first = h.first as u32;
-    block.interval = h.interval as u32;
-    block.overlay = h.overlay as u32;
-    block.noise = h.noise as u32;
-    block.flags = h.flags as u32;
-    block.word = h.word as u32;
-    block.scale = h.scale_bits;
-    block.offset = h.offset_bits;
-    block
-}
-
-fn no_block(number: u8) -> UlmBlock
-    ensures { result ≡ no_block number }
-{
     UlmBlock {
-        refusal: number as u32,
-        found: 0,
-        name: 0,
-        reserved: 0,
-        gates: 0,
-        first: 0,
-        interval: 0,
-        overlay: 0,
-        noise: 0,
-        flags: 0,
-        word: 0,
-        scale: 0,
-        offset: 0,
-        start: 0,
-        size: 0,
+        reserved: h.reserved,
+        gates: h.gates as u32,
+        first: h.first as u32,
+        interval: h.interval as u32,
+        overlay: h.overlay as u32,
+        noise: h.noise as u32,
+        flags: h.flags as u32,
+        word: h.word as u32,
+        scale: h.scale_bits,
+        offset: h.offset_bits,
+        ..constant_block(k)
     }
 }

@@ -7,7 +7,6 @@ ghost use Rattle.c_lent.specs.Face.{Leaves};
 ghost use Rattle.c_set.specs.Face.{set_shown, set_face};
 
 use c_frame::UlmHeader;
-use set::SetAnswer;
 
 #[repr(C)]
 #[derive(Clone, Copy)]
@@ -28,8 +27,8 @@ pub fn set(buf: &[u8], out: &mut [u8]) -> UlmSet
     ensures { Leaves set_face (set_of buf.now out.old) result out.new }
 {
     match set::read_set(buf, out) {
-        SetAnswer::Set(first, long) => show_set(c_frame::header_face(first), long.0 as u64),
-        SetAnswer::Refused(number) => show_set(c_frame::no_header(number), 0),
+        Ok(read) => show_set(c_frame::header_face(read.header), read.length.0 as u64),
+        Err(refusal) => show_set(c_frame::no_header(refusal), 0),
     }
 }
 

@@ -1,6 +1,5 @@
 -- What the crates above cite of frames.
 pub mod WalkLaws
 pub mod FrontLaws
-pub mod StreamLaws
 pub mod Theorems
 pub mod Welds

@@ -34,6 +34,7 @@ pub const SESSION_LIMIT: u32 = wire::LONGEST_MESSAGE;
 pub const LONGEST: usize = HEAD + SESSION_LIMIT as usize;
 
 // The frame at a place of the stream, or None at its end. The caller keeps the place: a refused read does not change it.
+#[tactic(auto, unfolding(crate::specs::Session::frame_at))]
 pub fn frame_at(stream: &[u8], place: usize) -> Result<Option<Frame>, Refusal>
     ensures { tell_frame result ≡ frame_at stream.now place }
 {
@@ -46,6 +47,7 @@ pub fn frame_at(stream: &[u8], place: usize) -> Result<Option<Frame>, Refusal>
     frame_in(&stream[place..], place)
 }
 
+#[tactic(auto, using(wire::proofs::NumberLaws::number_is))]
 fn frame_in(rest: &[u8], place: usize) -> Result<Option<Frame>, Refusal>
     requires { place + length rest.now < 2 ^ 63 }
     ensures { tell_frame result ≡ rule (frame_checks rest.now) (frame (frame_in rest.now place)) }

@@ -37,6 +37,7 @@ const NUMBER_PLACE: u32 = 14;
 
 // The header of a message, which is a data frame's whole body. Nearly all are accepted in the short form, so that is put in line where a
 // header is read; the long form and the refusals are a call away.
+#[tactic(auto, using(crate::proofs::HeaderLaws::short_read))]
 pub fn read_header(message: &[u8]) -> Result<Header, Refusal>
     ensures { tell_header result ≡ header_of message.now }
 {
@@ -48,6 +49,7 @@ pub fn read_header(message: &[u8]) -> Result<Header, Refusal>
 }
 
 // The same, with neither form tried first.
+#[tactic(auto, using(crate::proofs::HeaderLaws::header_read, crate::proofs::HeaderLaws::header_refused))]
 pub fn read_either(body: &[u8]) -> Result<Header, Refusal>
     ensures { tell_header result ≡ header_of body.now }
 {
@@ -84,6 +86,7 @@ pub fn stored_in(message: &[u8]) -> Stored
 }
 
 // A header of zeros, used until a header has been read.
+#[tactic(auto, unfolding(crate::specs::Header::stored_in, crate::specs::Header::header_in, wire::specs::Numbers::num))]
 pub fn no_header() -> Header
     ensures { result ≡ header_in [] }
 {
@@ -150,7 +153,7 @@ pub fn check_header(s: Stored, long: usize) -> Result<(), Refusal>
     if long < HEADER {
         return Err(Refusal::MessageShort);
     }
-    if s.breaks_form(long) {
+    if header_rule::breaks_form(s, long) {
         return Err(Refusal::Size);
     }
     let h = report(s);
@@ -170,9 +173,9 @@ pub fn check_header(s: Stored, long: usize) -> Result<(), Refusal>
 fn report(s: Stored) -> Header
     ensures { result ≡ as_reported s }
 {
-    let size = s.reported_size();
-    let segments = s.reported_count();
-    let number = number_of(segments, s.number);
+    let size = header_rule::size_of(s);
+    let segments = header_rule::count_of(s);
+    let number = if segments == 1 { 1 } else { s.number };
     Header {
         size,
         channel: s.channel,
@@ -183,13 +186,4 @@ fn report(s: Stored) -> Header
         segments,
         number,
     }
-}
-
-fn number_of(segments: u16, number: u16) -> u16
-    ensures { result ≡ reported_number segments number }
-{
-    if segments != 1 {
-        return number;
-    }
-    1
 }

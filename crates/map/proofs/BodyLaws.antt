@@ -3,17 +3,21 @@ use Prim.Native.Nat.{ℕ, ◌+◌, ◌*◌, ◌-◌, ◌≤◌, ◌<◌}
 use native.Mathlib.Omega.{arith}
 use mathlib.Core.Path.{◌≡◌, refl, sym, ap, ◌∙◌, subst}
 use mathlib.Core.Bool.{Bool, true, false}
-use mathlib.Core.List.{List, [], ◌∷◌, ◌++◌}
+use mathlib.Core.List.{List, ◌++◌}
+use mathlib.Core.Logic.{◌⊎◌, inl, inr}
+use mathlib.Core.Option.{none}
+use Rattle.std.specs.Prelude.{min}
 use lib.Dec.{ltb}
 use lib.ListN.{length, take, drop, length-drop}
 use borrow.Author.Tests.{lt-ltb, le-ltb, lt-leb, ltb-true, ltb-false, eq-eqb, ne_eqb}
 use Rattle.form_spec.specs.Parts.{run_size, run_checks}
 use Rattle.wire.specs.Numbers.{fetched}
-use Rattle.wire.specs.Checks.{pick, either, Check, check, decide, AllHold}
-use Rattle.wire.specs.Answers.{refused, given, rule}
-use Rattle.wire.proofs.CheckLaws.{neither, decide-append, decide-none, decide-some, all_hold}
+use Rattle.wire.specs.Checks.{pick, either, Check, decide, first, AllHold}
+use Rattle.wire.specs.Answers.{Answer, refused, given, rule}
+use Rattle.wire.proofs.AnswerLaws.{rule_given}
+use Rattle.wire.proofs.CheckLaws.{neither, decide-none, all_hold}
 use Rattle.wire.proofs.ListLaws.{part_is}
-use Rattle.form_spec.proofs.PartLaws.{run-count, run-add}
+use Rattle.form_spec.proofs.PartLaws.{run-count, run-add, run_long}
 use Rattle.map_spec.specs.Map.{most_minutes, azimuths, most_elevations, last_kilometre, field_size, head_size, code_at}
 use Rattle.map_spec.specs.Reading.{value, azimuth_part, elevation_part, date_in, minutes_in, segments_in, field_checks, head_checks, leftover_checks, map_checks, map_in, Summary, summary, summary_of, asked_checks, code_of}
 use Rattle.map_spec.specs.Places.{index_of, place_of, AzimuthStands}
@@ -21,17 +25,14 @@ use Rattle.map_spec.proofs.Accepted.{azimuth_long}
 use Rattle.map_spec.proofs.CheckFacts.{map_facts}
 use Rattle.map_spec.proofs.PartLaws.{fetched-value, cut_off, in_full}
 use Rattle.map_spec.proofs.Places.{size_flat, checks_flat, azimuths_stand}
-use Rattle.map_check.specs.declared.Step.{Step}
-use Rattle.map_check.specs.declared.Step.TheVariants.{Next, Stop}
-use Rattle.map_check.specs.Told.{step_by, run_step}
 use Rattle.map_check.proofs.RisingLaws.{one_test}
-use Rattle.map_check.proofs.StepLaws.{step-first, step-none, part_stops, part-passes}
+use Rattle.map.specs.declared.Checked.{Checked}
 use Rattle.map.specs.declared.Found.{Found}
-use Rattle.map.specs.Steps.{head_step, body_step, asked_index, Finds, BodyFinds}
-use Rattle.map.proofs.StepLaws.{not-both, run_fits}
+use Rattle.map.specs.Steps.{head_count, azimuths_found, body_checked, asked_index}
+use Rattle.map.proofs.StepLaws.{still_refused, refused_before, passed_before}
 
 -- ---- the three fields, by fetches
-field-fetched : (b : List ℕ) (p : ℕ) (x : Step) (f : ℕ → Step)
+field-fetched : (b : List ℕ) (p : ℕ) (x : Answer ℕ) (f : ℕ → Answer ℕ)
     → pick (ltb (length (drop p b)) field_size) x (f (value (drop p b)))
     ≡ pick (ltb (length b) (p + field_size)) x (f (fetched field_size b p))
 field-fetched b p x f = go (ltb (length b) (p + field_size)) refl
@@ -44,66 +45,45 @@ field-fetched b p x f = go (ltb (length b) (p + field_size)) refl
         simp (in_full b p h) (ap f (sym (fetched-value b p h)))
 
 module _ (b : List ℕ) where
-  abbrev pub segmentsFetched : Step
+  abbrev pub segmentsFetched : Answer ℕ
   segmentsFetched =
       let n = fetched field_size b 4 in
-      pick (ltb (length b) head_size) (Stop 23) (pick (ltb n 1) (Stop 24) (pick (ltb most_elevations n) (Stop 24) (Next n)))
+      pick (ltb (length b) head_size) (refused 23) (pick (ltb n 1) (refused 24) (pick (ltb most_elevations n) (refused 24) (given n)))
 
-  abbrev pub minutesFetched : Step
-  minutesFetched = pick (ltb (length b) (2 * field_size)) (Stop 23) (pick (ltb most_minutes (fetched field_size b 2)) (Stop 24)
+  abbrev pub minutesFetched : Answer ℕ
+  minutesFetched = pick (ltb (length b) (2 * field_size)) (refused 23) (pick (ltb most_minutes (fetched field_size b 2)) (refused 24)
       segmentsFetched)
 
-  pub head-fetched : head_step b ≡ pick (ltb (length b) field_size) (Stop 23) (pick (ltb (fetched field_size b 0) 1) (Stop 24) minutesFetched)
+  pub head-fetched : head_count b ≡ pick (ltb (length b) field_size) (refused 23) (pick (ltb (fetched field_size b 0) 1) (refused 24) minutesFetched)
   head-fetched =
       let segments = field_checks (drop 4 b) (either (ltb (segments_in b) 1) (ltb most_elevations (segments_in b))) in
-      let third = decide segments Stop (Next (segments_in b)) in
-      let second = pick (ltb (length (drop 2 b)) field_size) (Stop 23) (pick (ltb most_minutes (minutes_in b)) (Stop 24) third) in
+      let third = decide segments refused (given (segments_in b)) in
+      let second = pick (ltb (length (drop 2 b)) field_size) (refused 23) (pick (ltb most_minutes (minutes_in b)) (refused 24) third) in
       let e₃ : third ≡ segmentsFetched
-      = ap (λ (s : Step). pick (ltb (length (drop 4 b)) field_size) (Stop 23) s)
-      (sym (one_test (ltb (segments_in b) 1) (ltb most_elevations (segments_in b)) (Stop 24) (Next (segments_in b))))
-      ∙ field-fetched b 4 (Stop 23) (λ n. pick (ltb n 1) (Stop 24) (pick (ltb most_elevations n) (Stop 24) (Next n))) in
+      = ap (λ (s : Answer ℕ). pick (ltb (length (drop 4 b)) field_size) (refused 23) s)
+      (sym (one_test (ltb (segments_in b) 1) (ltb most_elevations (segments_in b)) (refused 24) (given (segments_in b))))
+      ∙ field-fetched b 4 (refused 23) (λ n. pick (ltb n 1) (refused 24) (pick (ltb most_elevations n) (refused 24) (given n))) in
       let e₂ : second ≡ minutesFetched
-      = field-fetched b 2 (Stop 23) (λ n. pick (ltb most_minutes n) (Stop 24) third)
-      ∙ ap (λ (s : Step). pick (ltb (length b) (2 * field_size)) (Stop 23) (pick (ltb most_minutes (fetched field_size b 2))
-      (Stop 24) s)) e₃ in
-      field-fetched b 0 (Stop 23) (λ n. pick (ltb n 1) (Stop 24) second)
-      ∙ ap (λ (s : Step). pick (ltb (length b) field_size) (Stop 23) (pick (ltb (fetched field_size b 0) 1) (Stop 24) s)) e₂
+      = field-fetched b 2 (refused 23) (λ n. pick (ltb most_minutes n) (refused 24) third)
+      ∙ ap (λ (s : Answer ℕ). pick (ltb (length b) (2 * field_size)) (refused 23) (pick (ltb most_minutes (fetched field_size b 2))
+      (refused 24) s)) e₃ in
+      field-fetched b 0 (refused 23) (λ n. pick (ltb n 1) (refused 24) second)
+      ∙ ap (λ (s : Answer ℕ). pick (ltb (length b) field_size) (refused 23) (pick (ltb (fetched field_size b 0) 1) (refused 24) s)) e₂
 
 -- ---- the body by its parts
 abbrev segments : List ℕ → List Check
 segments b = run_checks elevation_part (segments_in b) (drop head_size b)
 
-pub head-stop : (b : List ℕ) (n : ℕ) → Stop n ≡ head_step b → Stop n ≡ body_step b
-head-stop b n e = sym (part_stops (head_checks b) (segments b ++ leftover_checks b) (segments_in b) (Next (segments_in b)) n (sym e))
-
--- the azimuths of all elevation segments, counted through
-counted_through : (n : ℕ) (b : List ℕ) → run_step azimuth_part (n * azimuths) b ≡ run_step elevation_part n b
-counted_through n b =
-    ap (λ (ks : List Check). step_by ks (run_size azimuth_part (n * azimuths) b)) (sym (checks_flat n b))
-    ∙ ap (λ (k : ℕ). step_by (run_checks elevation_part n b) k) (sym (size_flat n b))
-
--- ---- the least of two
-pub least_low : (a b : ℕ) → pick (ltb a b) a b ≤ b
-least_low a b = go (ltb a b) refl
-  where
-    go : (t : Bool) → ltb a b ≡ t → pick t a b ≤ b
-    go true e = omega (arith, ltb-true a b e)
-    go false e = omega arith
-
-pub least_first : (a b : ℕ) → a ≤ b → pick (ltb a b) a b ≡ a
-least_first a b h = go (ltb a b) refl
-  where
-    go : (t : Bool) → ltb a b ≡ t → pick t a b ≡ a
-    go true e = refl
-    go false e = omega (arith, ltb-false a b e)
+pub head-stop : (index : ℕ) (b : List ℕ) (n : ℕ) → refused n ≡ head_count b → refused n ≡ body_checked index b
+head-stop index b n e = refused_before (head_checks b) (segments b ++ leftover_checks b) (segments_in b) _ n e
 
 -- ---- the three fields passed
-module _ (b : List ℕ) (m : ℕ) (e : Next m ≡ head_step b) where
+module _ (b : List ℕ) (m : ℕ) (e : given m ≡ head_count b) where
   passed : AllHold (head_checks b)
-  passed = all_hold (head_checks b) (step-none (head_checks b) (segments_in b) m (sym e)).0
+  passed = all_hold (head_checks b) (rule_given (head_checks b) (segments_in b) m (sym e)).0
 
   count_is : segments_in b ≡ m
-  count_is = (step-none (head_checks b) (segments_in b) m (sym e)).1
+  count_is = (rule_given (head_checks b) (segments_in b) m (sym e)).1
 
   pub head-long : head_size ≤ length b
   head-long =
@@ -116,91 +96,82 @@ module _ (b : List ℕ) (m : ℕ) (e : Next m ≡ head_step b) where
       let t = (neither (ltb (segments_in b) 1) (ltb most_elevations (segments_in b)) passed.1.1.1.1.1.0).1 in
       omega (arith, ltb-false most_elevations (segments_in b) t, count_is)
 
-  body_is : body_step b ≡ decide (segments b ++ leftover_checks b) Stop (Next (segments_in b))
-  body_is = part-passes (head_checks b) (segments b ++ leftover_checks b) (segments_in b) (Next (segments_in b)) m (sym e)
-
-  -- the azimuths behind them, as they are lent
+  -- the azimuths of all elevation segments behind them, counted through, as they are lent
   abbrev behind : List ℕ
   behind = take (length b - head_size) (drop head_size b)
 
-  behind_is : run_step azimuth_part (m * azimuths) behind ≡ run_step elevation_part (segments_in b) (drop head_size b)
-  behind_is =
-      ap (λ (l : List ℕ). run_step azimuth_part (m * azimuths) l) (part_is b head_size)
-      ∙ counted_through m (drop head_size b)
-      ∙ ap (λ (k : ℕ). run_step elevation_part k (drop head_size b)) (sym count_is)
+  checks_are : segments b ≡ run_checks azimuth_part (m * azimuths) behind
+  checks_are =
+      checks_flat (segments_in b) (drop head_size b)
+      ∙ (λ i. run_checks azimuth_part (count_is i * azimuths) (sym (part_is b head_size) i))
 
-  module _ (index : ℕ) (f : Found) (finds : Finds (run_step azimuth_part (m * azimuths) behind) (run_size azimuth_part index behind) f) where
-    pub azimuths-stop : (n : ℕ) → f.step ≡ Stop n → Stop n ≡ body_step b
-    azimuths-stop n g =
-        sym (body_is ∙ part_stops (segments b) (leftover_checks b) (run_size elevation_part (segments_in b) (drop head_size b))
-        (Next (segments_in b)) n (sym behind_is ∙ sym finds.checked ∙ g))
+  size_is : run_size elevation_part (segments_in b) (drop head_size b) ≡ run_size azimuth_part (m * azimuths) behind
+  size_is =
+      size_flat (segments_in b) (drop head_size b)
+      ∙ (λ i. run_size azimuth_part (count_is i * azimuths) (sym (part_is b head_size) i))
 
-    module _ (s : ℕ) (g : f.step ≡ Next s) where
-      passes : Next s ≡ run_step azimuth_part (m * azimuths) behind
-      passes = sym g ∙ finds.checked
+  -- what is left to decide
+  by_azimuths : {A : Type 0} (v : A) → rule (map_checks b) v ≡ rule (run_checks azimuth_part (m * azimuths) behind ++ leftover_checks b) v
+  by_azimuths v =
+      passed_before (head_checks b) (segments b ++ leftover_checks b) (segments_in b) m v e
+      ∙ ap (λ (ks : List Check). rule (ks ++ leftover_checks b) v) checks_are
 
-      size_is : run_size elevation_part (segments_in b) (drop head_size b) ≡ s
-      size_is = (step-none (segments b) (run_size elevation_part (segments_in b) (drop head_size b)) s (sym (passes ∙ behind_is))).1
+  module _ (index : ℕ) where
+    pub azimuths-stop : {A : Type 0} (v : A) (n : ℕ) → refused n ≡ azimuths_found (m * azimuths) index behind → refused n ≡ rule (map_checks b) v
+    azimuths-stop v n f =
+        refused_before (run_checks azimuth_part (m * azimuths) behind) (leftover_checks b) _ v n f ∙ sym (by_azimuths v)
 
-      pub azimuths-fit : head_size + s ≤ length b
+    module _ (found : Found) (f : given found ≡ azimuths_found (m * azimuths) index behind) where
+      told : (first (run_checks azimuth_part (m * azimuths) behind) ≡ none)
+          × (◌≡◌ {A = Found} (record { size = run_size azimuth_part (m * azimuths) behind; place = run_size azimuth_part index behind }) found)
+      told = rule_given (run_checks azimuth_part (m * azimuths) behind) _ found (sym f)
+
+      size-told : run_size azimuth_part (m * azimuths) behind ≡ found.size
+      size-told = ap (λ (x : Found). x.size) told.1
+
+      place-told : run_size azimuth_part index behind ≡ found.place
+      place-told = ap (λ (x : Found). x.place) told.1
+
+      pub azimuths-fit : head_size + found.size ≤ length b
       azimuths-fit =
-          let l : s ≤ length behind = run_fits azimuth_part azimuth_long (m * azimuths) behind s passes in
+          let l = run_long azimuth_part azimuth_long (m * azimuths) behind (all_hold (run_checks azimuth_part (m * azimuths) behind) told.0) in
           let k = ap (λ (x : List ℕ). length x) (part_is b head_size) ∙ length-drop head_size b in
-          omega (arith, l, k, head-long)
+          omega (arith, l, k, size-told, head-long)
 
-      left_is : body_step b ≡ decide (leftover_checks b) Stop (Next (segments_in b))
-      left_is =
-          body_is ∙ part-passes (segments b) (leftover_checks b) (run_size elevation_part (segments_in b) (drop head_size b))
-          (Next (segments_in b)) s (sym (passes ∙ behind_is))
-
-      pub body-left : head_size + s < length b → Stop 23 ≡ body_step b
-      body-left h =
-          let l : head_size + run_size elevation_part (segments_in b) (drop head_size b) < length b = omega (arith, size_is) in
-          sym (left_is ∙ simp (lt-ltb (head_size + run_size elevation_part (segments_in b) (drop head_size b)) (length b) l))
-
-      body-next : length b ≤ head_size + s → Next m ≡ body_step b
-      body-next h =
-          let l : length b ≤ head_size + run_size elevation_part (segments_in b) (drop head_size b) = omega (arith, size_is) in
-          ap Next (sym count_is)
-          ∙ sym (left_is ∙ simp (le-ltb (head_size + run_size elevation_part (segments_in b) (drop head_size b)) (length b) l))
-
-      -- where the one of the index begins
-      place_is : head_size + f.place ≡ place_of index b
-      place_is =
-          ap (λ (k : ℕ). head_size + k)
-          (finds.placed s passes ∙ ap (λ (l : List ℕ). run_size azimuth_part index l) (part_is b head_size))
-
-      pub place-fits : index ≤ m * azimuths → head_size + f.place ≤ length b
+      pub place-fits : index ≤ m * azimuths → found.place ≤ found.size
       place-fits h =
-          let e : index + (m * azimuths - index) ≡ m * azimuths = omega arith in
-          let k = ap (λ (n : ℕ). run_size azimuth_part n behind) (sym e) ∙ run-add azimuth_part index (m * azimuths - index) behind in
-          let n = (step-none (run_checks azimuth_part (m * azimuths) behind) (run_size azimuth_part (m * azimuths) behind) s (sym passes)).1 in
-          omega (arith, k, n, finds.placed s passes, azimuths-fit)
+          let n : index + (m * azimuths - index) ≡ m * azimuths = omega arith in
+          let k = ap (λ (n : ℕ). run_size azimuth_part n behind) (sym n) ∙ run-add azimuth_part index (m * azimuths - index) behind in
+          omega (arith, k, size-told, place-told)
 
-      pub body-found : (asked : ℕ) → index ≡ pick (ltb asked (m * azimuths)) asked (m * azimuths) → length b ≤ head_size + s
-          → BodyFinds asked b (record { step = Next m; place = head_size + f.place })
+      left_is : {A : Type 0} (v : A) → rule (map_checks b) v ≡ pick (ltb (head_size + found.size) (length b)) (refused 23) (given v)
+      left_is v =
+          by_azimuths v
+          ∙ passed_before (run_checks azimuth_part (m * azimuths) behind) (leftover_checks b) _ found v f
+          ∙ ap (λ (k : ℕ). pick (ltb (head_size + k) (length b)) (refused 23) (given v)) (size_is ∙ size-told)
+
+      pub body-left : {A : Type 0} (v : A) → head_size + found.size < length b → refused 23 ≡ rule (map_checks b) v
+      body-left v h = sym (left_is v ∙ simp (lt-ltb (head_size + found.size) (length b) h))
+
+      pub body-found : (asked : ℕ) → index ≡ min asked (m * azimuths) → length b ≤ head_size + found.size
+          → given (record { elevations = m; place = head_size + found.place }) ≡ body_checked asked b
       body-found asked i h =
-          record {
-            checked = body-next h;
-            placed =
-                λ n q l.
-                let c : n ≡ m = cc (q ∙ sym (body-next h)) in
-                place_is ∙ ap (λ (k : ℕ). place_of k b) (i ∙ least_first asked (m * azimuths) (omega (arith, l, c)));
-          }
-
--- a body that is refused tells no place
-pub body_none : (index : ℕ) (b : List ℕ) (r : Found) (k : ℕ) → r ≡ record { step = Stop k; place = 0 } → Stop k ≡ body_step b
-    → BodyFinds index b r
-body_none index b r k e f = record { checked = ap (λ (x : Found). x.step) e ∙ f; placed = λ n q i. not-both k n (body_step b) f q }
+          let p : head_size + found.place ≡ place_of (min asked (segments_in b * azimuths)) b =
+          sym (ap (λ (k : ℕ). head_size + k) place-told)
+          ∙ (λ i. head_size + run_size azimuth_part index (part_is b head_size i))
+          ∙ ap (λ (k : ℕ). place_of k b) i
+          ∙ ap (λ (k : ℕ). place_of (min asked (k * azimuths)) b) (sym count_is) in
+          let c : ◌≡◌ {A = Checked} _ _ = λ i. record { elevations = sym count_is i; place = p i } in
+          ap given c ∙ sym (left_is _ ∙ simp (le-ltb (head_size + found.size) (length b) h))
 
 -- ---- what is answered of it
-pub map-stop : (b : List ℕ) (n : ℕ) → Stop n ≡ body_step b → refused n ≡ summary_of b
-map-stop b n e = sym (decide-some (map_checks b) refused (given (summary (map_in b))) n (step-first (map_checks b) (segments_in b) n (sym e)))
+pub map-stop : (index : ℕ) (b : List ℕ) (n : ℕ) → refused n ≡ body_checked index b → refused n ≡ summary_of b
+map-stop index b n e = still_refused (map_checks b) _ (summary (map_in b)) n e
 
-pub map-given : (b : List ℕ) (m : ℕ) → Next m ≡ body_step b
+pub map-given : (index : ℕ) (b : List ℕ) (c : Checked) → given c ≡ body_checked index b
     → given (record { date = fetched 2 b 0; minutes = fetched 2 b 2; elevations = fetched 2 b 4 }) ≡ summary_of b
-map-given b m e =
-    let p = (step-none (map_checks b) (segments_in b) m (sym e)).0 in
+map-given index b c e =
+    let p = (rule_given (map_checks b) _ c (sym e)).0 in
     let h = (map_facts b (all_hold (map_checks b) p)).here in
     let d : fetched 2 b 0 ≡ date_in b = fetched-value b 0 (omega arith) in
     let q : fetched 2 b 2 ≡ minutes_in b = fetched-value b 2 (omega arith) in
@@ -211,64 +182,69 @@ map-given b m e =
     ap given s ∙ sym (decide-none (map_checks b) refused (given (summary (map_in b))) p)
 
 -- ---- what is asked of it
-pub query_stop : (b : List ℕ) (elevation azimuth kilometre n : ℕ) → Stop n ≡ body_step b → refused n ≡ code_of b elevation azimuth kilometre
-query_stop b elevation azimuth kilometre n e =
-    let ask = asked_checks (segments_in b) elevation azimuth kilometre in
-    let v = given (code_at (map_in b) elevation azimuth kilometre) in
-    sym
-    (decide-append (map_checks b) ask refused v
-    ∙ decide-some (map_checks b) refused (decide ask refused v) n (step-first (map_checks b) (segments_in b) n (sym e)))
+pub query_stop : (index : ℕ) (b : List ℕ) (elevation azimuth kilometre n : ℕ) → refused n ≡ body_checked index b
+    → refused n ≡ code_of b elevation azimuth kilometre
+query_stop index b elevation azimuth kilometre n e =
+    refused_before (map_checks b) (asked_checks (segments_in b) elevation azimuth kilometre) _
+    (code_at (map_in b) elevation azimuth kilometre) n e
 
-module _ (b : List ℕ) (m : ℕ) (e : Next m ≡ body_step b) where
+module _ (index : ℕ) (b : List ℕ) (checked : Checked) (e : given checked ≡ body_checked index b) where
+  told-by : (first (map_checks b) ≡ none)
+      × (◌≡◌ {A = Checked} (record { elevations = segments_in b; place = place_of (min index (segments_in b * azimuths)) b }) checked)
+  told-by = rule_given (map_checks b) _ checked (sym e)
+
   holds : AllHold (map_checks b)
-  holds = all_hold (map_checks b) (step-none (map_checks b) (segments_in b) m (sym e)).0
+  holds = all_hold (map_checks b) told-by.0
 
-  segments_are : segments_in b ≡ m
-  segments_are = (step-none (map_checks b) (segments_in b) m (sym e)).1
+  segments_are : segments_in b ≡ checked.elevations
+  segments_are = ap (λ (c : Checked). c.elevations) told-by.1
+
+  -- the azimuth that was found is the one asked for
+  pub asked-stands : (elevation azimuth : ℕ) → index ≡ asked_index elevation azimuth → (elevation ≡ 0 → ⊥)
+      → elevation ≤ checked.elevations → azimuth < azimuths → AzimuthStands b elevation azimuth checked.place
+  asked-stands elevation azimuth asked z h a =
+      let f = (map_facts b holds).most in
+      let i : index ≡ index_of elevation azimuth = asked ∙ simp (
+        ne_eqb elevation 0 z,
+        le-ltb most_elevations elevation (omega (arith, f, segments_are)),
+        lt-leb azimuths azimuth a,
+      ) in
+      let l : min index (segments_in b * azimuths) ≡ index_of elevation azimuth = omega (arith, i, segments_are) in
+      let p = ap (λ (k : ℕ). place_of k b) (sym l) ∙ ap (λ (c : Checked). c.place) told-by.1 in
+      subst (AzimuthStands b elevation azimuth) p
+      (azimuths_stand b holds elevation azimuth (omega arith) (omega (arith, segments_are)) a)
 
   module _ (elevation azimuth kilometre : ℕ) where
-    query-is : code_of b elevation azimuth kilometre ≡ rule (asked_checks m elevation azimuth kilometre)
+    query-is : code_of b elevation azimuth kilometre ≡ rule (asked_checks checked.elevations elevation azimuth kilometre)
         (code_at (map_in b) elevation azimuth kilometre)
     query-is =
-        let ask = asked_checks (segments_in b) elevation azimuth kilometre in
         let v = code_at (map_in b) elevation azimuth kilometre in
-        decide-append (map_checks b) ask refused (given v)
-        ∙ decide-none (map_checks b) refused (rule ask v) (step-none (map_checks b) (segments_in b) m (sym e)).0
+        passed_before (map_checks b) (asked_checks (segments_in b) elevation azimuth kilometre) _ checked v e
         ∙ ap (λ (k : ℕ). rule (asked_checks k elevation azimuth kilometre) v) segments_are
 
-    pub asked-none : elevation ≡ 0 → refused 21 ≡ code_of b elevation azimuth kilometre
-    asked-none z = sym (query-is ∙ simp (eq-eqb elevation 0 z))
+    -- no such place, by the tests in their order
+    pub asked-none : (elevation ≡ 0) ⊎ (((elevation ≡ 0 → ⊥) × (checked.elevations < elevation))
+        ⊎ (((elevation ≡ 0 → ⊥) × (elevation ≤ checked.elevations) × (azimuths ≤ azimuth))
+        ⊎ ((elevation ≡ 0 → ⊥) × (elevation ≤ checked.elevations) × (azimuth < azimuths) × (last_kilometre < kilometre))))
+        → refused 21 ≡ code_of b elevation azimuth kilometre
+    asked-none (inl z) = sym (query-is ∙ simp (eq-eqb elevation 0 z))
+    asked-none (inr (inl h)) = sym (query-is ∙ simp (ne_eqb elevation 0 h.0, lt-ltb checked.elevations elevation h.1))
+    asked-none (inr (inr (inl h))) =
+        sym (query-is ∙ simp (ne_eqb elevation 0 h.0, le-ltb checked.elevations elevation h.1, le-ltb azimuth azimuths h.2))
+    asked-none (inr (inr (inr h))) =
+        sym (query-is ∙ simp (
+          ne_eqb elevation 0 h.0,
+          le-ltb checked.elevations elevation h.1,
+          lt-ltb azimuth azimuths h.2,
+          lt-ltb last_kilometre kilometre h.3,
+        ))
 
-    module _ (z : elevation ≡ 0 → ⊥) where
-      pub asked-high : m < elevation → refused 21 ≡ code_of b elevation azimuth kilometre
-      asked-high h = sym (query-is ∙ simp (ne_eqb elevation 0 z, lt-ltb m elevation h))
-
-      module _ (h : elevation ≤ m) where
-        pub asked-azimuth : azimuths ≤ azimuth → refused 21 ≡ code_of b elevation azimuth kilometre
-        asked-azimuth a = sym (query-is ∙ simp (ne_eqb elevation 0 z, le-ltb m elevation h, le-ltb azimuth azimuths a))
-
-        module _ (a : azimuth < azimuths) where
-          by-kilometre : code_of b elevation azimuth kilometre
-              ≡ rule (check 21 (ltb last_kilometre kilometre) ∷ []) (code_at (map_in b) elevation azimuth kilometre)
-          by-kilometre = query-is ∙ simp (ne_eqb elevation 0 z, le-ltb m elevation h, lt-ltb azimuth azimuths a)
-
-          pub asked-far : last_kilometre < kilometre → refused 21 ≡ code_of b elevation azimuth kilometre
-          asked-far k = sym (by-kilometre ∙ simp (lt-ltb last_kilometre kilometre k))
-
-          pub asked-given : kilometre ≤ last_kilometre
-              → given (code_at (map_in b) elevation azimuth kilometre) ≡ code_of b elevation azimuth kilometre
-          asked-given k = sym (by-kilometre ∙ simp (le-ltb last_kilometre kilometre k))
-
-          -- the azimuth that was found is the one asked for
-          pub asked-stands : (index place : ℕ) → index ≡ asked_index elevation azimuth
-              → (index ≤ m * azimuths → place ≡ place_of index b) → AzimuthStands b elevation azimuth place
-          asked-stands index place asked found =
-              let f = (map_facts b holds).most in
-              let i : index ≡ index_of elevation azimuth = asked ∙ simp (
-                ne_eqb elevation 0 z,
-                le-ltb most_elevations elevation (omega (arith, f, segments_are)),
-                lt-leb azimuths azimuth a,
-              ) in
-              let p : place ≡ place_of (index_of elevation azimuth) b = found (omega (arith, i)) ∙ ap (λ (k : ℕ). place_of k b) i in
-              subst (AzimuthStands b elevation azimuth) (sym p)
-              (azimuths_stand b holds elevation azimuth (omega arith) (omega (arith, segments_are)) a)
+    pub asked-given : (elevation ≡ 0 → ⊥) → elevation ≤ checked.elevations → azimuth < azimuths → kilometre ≤ last_kilometre
+        → given (code_at (map_in b) elevation azimuth kilometre) ≡ code_of b elevation azimuth kilometre
+    asked-given z h a k =
+        sym (query-is ∙ simp (
+          ne_eqb elevation 0 z,
+          le-ltb checked.elevations elevation h,
+          lt-ltb azimuth azimuths a,
+          le-ltb last_kilometre kilometre k,
+        ))

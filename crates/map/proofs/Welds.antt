@@ -2,30 +2,21 @@
 -- of one call meet it. Assumes nothing.
 use mathlib.Core.Path.{◌≡◌}
 use Rattle.wire.proofs.AnswerLaws.{only_answer}
-use Rattle.wire.proofs.CheckLaws.{never}
-use Rattle.map_spec.specs.Reading.{code_of, summary_of, Summary}
+use Rattle.wire.proofs.RefusalLaws.{tell_apart}
+use Rattle.std.specs.Prelude.{ℕ, Result}
+use Rattle.wire.specs.declared.refusal.Refusal.{Refusal}
+use Rattle.map_spec.specs.Reading.{code_of, summary_of}
 use Rattle.map.specs.Told.{tell_code, tell_map}
-use Rattle.map.specs.declared.CodeAnswer.{CodeAnswer}
-use Rattle.map.specs.declared.CodeAnswer.TheVariants.{Code, Refused as NoCode}
-use Rattle.map.specs.declared.MapAnswer.{MapAnswer}
-use Rattle.map.specs.declared.MapAnswer.TheVariants.{Map, Refused}
+use Rattle.map.specs.declared.MapSummary.{MapSummary}
 use Rattle.map.proofs.check_map.Reads as check_map
 use Rattle.map.proofs.code_at.Reads as code_at
 
-pub map_apart : (a b : MapAnswer) → tell_map a ≡ tell_map b → a ≡ b
-map_apart (Map d m n) (Map d' m' n') e =
-    let s : ◌≡◌ {A = Summary} (record { date = d; minutes = m; elevations = n })
-    (record { date = d'; minutes = m'; elevations = n' }) = cc e in
-    λ i. Map (s i).date (s i).minutes (s i).elevations
-map_apart (Map d m n) (Refused k) e = never (cc e)
-map_apart (Refused k) (Map d m n) e = never (cc e)
-map_apart (Refused k) (Refused k') e = cc e
+pub map_apart : (a b : Result MapSummary Refusal) → tell_map a ≡ tell_map b → a ≡ b
+map_apart = tell_apart (λ s. record { date = s.date; minutes = s.minutes; elevations = s.elevations })
+    (λ x y e. λ i. record { date = (e i).date; minutes = (e i).minutes; elevations = (e i).elevations })
 
-pub code_apart : (a b : CodeAnswer) → tell_code a ≡ tell_code b → a ≡ b
-code_apart (Code c) (Code c') e = cc e
-code_apart (Code c) (NoCode k) e = never (cc e)
-code_apart (NoCode k) (Code c) e = never (cc e)
-code_apart (NoCode k) (NoCode k') e = cc e
+pub code_apart : (a b : Result ℕ Refusal) → tell_code a ≡ tell_code b → a ≡ b
+code_apart = tell_apart (λ code. code) (λ x y e. e)
 
 pub check_map-says : (κs body r last : _) → check_map.Learnt κs (body, tt) r last → tell_map r ≡ summary_of body.now
 check_map-says κs body r last l = l

@@ -1,33 +1,42 @@
 -- What the private functions promise each other. No public promise cites this file.
-use Rattle.std.specs.Prelude.{ℕ, ◌*◌, ◌≤◌, ◌≡◌, List, ltb, leb, eqb}
+use Rattle.std.specs.Prelude.{ℕ, ◌*◌, min, List, ltb, leb, eqb, Result}
+use Rattle.form_spec.specs.Parts.{run_size, run_checks}
 use Rattle.wire.specs.Checks.{pick}
+use Rattle.wire.specs.Answers.{Answer, rule}
+use Rattle.wire.specs.Refusals.{tell}
+use Rattle.wire.specs.declared.refusal.Refusal.{Refusal}
 use Rattle.map_spec.specs.Map.{most_elevations, azimuths}
-use Rattle.map_spec.specs.Reading.{segments_in, head_checks, map_checks}
+use Rattle.map_spec.specs.Reading.{azimuth_part, segments_in, head_checks, map_checks}
 use Rattle.map_spec.specs.Places.{index_of, place_of}
-use Rattle.map_check.specs.declared.Step.{Step}
-use Rattle.map_check.specs.declared.Step.TheVariants.{Next}
-use Rattle.map_check.specs.Told.{step_by}
+use Rattle.map.specs.declared.Checked.{Checked}
 use Rattle.map.specs.declared.Found.{Found}
 
--- the fields before the azimuths, and the whole body: how many elevation segments
-abbrev pub head_step : List ℕ → Step
-head_step b = step_by (head_checks b) (segments_in b)
+-- the fields before the azimuths: how many elevation segments
+abbrev pub tell_count : Result ℕ Refusal → Answer ℕ
+tell_count = tell (λ count. count)
 
-abbrev pub body_step : List ℕ → Step
-body_step b = step_by (map_checks b) (segments_in b)
+abbrev pub head_count : List ℕ → Answer ℕ
+head_count b = rule (head_checks b) (segments_in b)
+
+-- so many azimuths: the bytes that they take, and where the one with the index begins
+abbrev pub tell_found : Result Found Refusal → Answer Found
+tell_found = tell (λ found. found)
+
+abbrev pub azimuths_found : ℕ → ℕ → List ℕ → Answer Found
+azimuths_found count index b =
+    rule (run_checks azimuth_part count b) (record { size = run_size azimuth_part count b; place = run_size azimuth_part index b })
+
+-- the whole body: how many elevation segments, and where the azimuth with the index begins, or the end of the azimuths if it has none such
+abbrev pub tell_checked : Result Checked Refusal → Answer Checked
+tell_checked = tell (λ checked. checked)
+
+abbrev pub body_checked : ℕ → List ℕ → Answer Checked
+body_checked index b =
+    rule (map_checks b)
+    (record { elevations = segments_in b; place = place_of (min index (segments_in b * azimuths)) b })
 
 -- ---- a query, the azimuths of all elevation segments counted through from 0
 -- the azimuth asked for, or 0 where no map has one
 abbrev pub asked_index : ℕ → ℕ → ℕ
 asked_index elevation azimuth =
     pick (eqb elevation 0) 0 (pick (ltb most_elevations elevation) 0 (pick (leb azimuths azimuth) 0 (index_of elevation azimuth)))
-
--- the answer of a check that also reports a place if it passes
-pub record Finds (right : Step) (place : ℕ) (r : Found) : Type 0 where
-  pub checked : r.step ≡ right
-  pub placed : (n : ℕ) → Next n ≡ right → r.place ≡ place
-
--- the same for the whole body, if the index is at most the number of its azimuths
-pub record BodyFinds (index : ℕ) (b : List ℕ) (r : Found) : Type 0 where
-  pub checked : r.step ≡ body_step b
-  pub placed : (n : ℕ) → Next n ≡ body_step b → index ≤ n * azimuths → r.place ≡ place_of index b

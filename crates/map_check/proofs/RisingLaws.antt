@@ -1,25 +1,26 @@
 -- Zones: what their checks decide, by the least end that a zone after them may have. Assumes nothing.
 use Prim.Native.Nat.{ℕ, zero, suc, ◌+◌, ◌*◌, ◌-◌, ◌/◌, ◌%◌, ◌≤◌, ◌<◌}
+use native.Mathlib.Nat.{add-zero}
 use native.Mathlib.Numerals.{add-one}
 use native.Mathlib.Omega.{arith}
-use mathlib.Core.Path.{◌≡◌, refl, sym, ap, ◌∙◌, subst}
+use mathlib.Core.Path.{◌≡◌, refl, sym, ap, ◌∙◌}
 use mathlib.Core.Bool.{Bool, true, false, not}
 use mathlib.Core.List.{List, ◌++◌}
 use Rattle.std.specs.Prelude.{Option, Some, None}
 use Rattle.std.specs.Option.{option_eq}
 use lib.Dec.{ltb, eqb}
-use lib.ListN.{length, take, drop, length-drop, length-append}
-use lib.Seq.{drop-drop, drop-append_seam, length-take-le}
+use lib.ListN.{length, take, drop, length-drop}
+use lib.Seq.{drop-drop, length-take-le}
 use borrow.Author.Tests.{lt-ltb, le-ltb, eq-eqb, ne_eqb, eqb-true, eqb-false, ltb-true, ltb-false}
 use Rattle.wire.specs.Numbers.{num, fetched, Octets}
 use Rattle.wire.specs.Answers.{Answer, refused, given}
 use Rattle.wire.specs.Checks.{pick, either, Check, decide}
 use Rattle.wire.proofs.CheckLaws.{either_true}
 use Rattle.wire.proofs.ListLaws.{drop-take}
-use Rattle.wire.proofs.NumberLaws.{num-append, num-drop, num-take, fetched-whole, fetched_short, octets_drop}
+use Rattle.wire.proofs.NumberLaws.{num-drop, num-take, fetched-whole, fetched_short, octets_drop}
 use Rattle.map_spec.specs.Map.{most_code, last_kilometre, kilometres, halfword_numbers, field_size, zone_size}
 use Rattle.map_spec.specs.Places.{zone_at}
-use Rattle.map_spec.proofs.ZoneWalk.{code_half, end_half}
+use Rattle.map_spec.proofs.ZoneWalk.{four-fetched, code_half, end_half}
 use Rattle.map_spec.specs.Reading.{value, after, end_broken, zone_checks, zones_checks}
 use Rattle.map_check.specs.Steps.{zone_broken, next_end, zones_step, CutOff}
 use Rattle.map_spec.proofs.PartLaws.{fetched-value}
@@ -182,59 +183,69 @@ cut_decides (suc n) (suc (suc left)) from b end m f h k =
     (λ q. cut_decides n (suc left) (suc v) rest end (omega arith) (omega (arith, q)) (rest_long b (zone_size * n) (omega arith)) (rest_short b (zone_size * n + zone_size) (omega arith) (omega arith))
     ∙ ap (λ (l : List ℕ). pick (too_high (next_end n (suc v) rest)) (refused 24) (cut_by (fetched field_size l 0))) e)
 
--- ---- from zone to zone, each in one number: the zones that are left answer as all of them
-pub record Rising (b : List ℕ) (from : ℕ) (rest : List ℕ) : Type 0 where
-  pub octets : Octets rest
-  pub same : next_end (length rest / zone_size) from rest ≡ next_end (length b / zone_size) 0 b
-
+-- ---- from zone to zone, each in one number that was fetched before it is looked at
 pub one_test : {X : Type 0} (c e : Bool) (x y : X) → pick c x (pick e x y) ≡ pick (either c e) x y
 one_test true e x y = refl
 one_test false e x y = refl
 
-pub rising_start : (b : List ℕ) → Octets b → Rising b 0 b
-rising_start b o = record { octets = o; same = refl }
+-- what one zone and those behind it come to
+abbrev pub with_zone : ℕ → ℕ → List ℕ → Option ℕ
+with_zone zone from rest =
+    pick (zone_broken from zone) None (next_end (length rest / zone_size) (suc (zone % halfword_numbers)) rest)
 
-module _ (b : List ℕ) (from : ℕ) (rest : List ℕ) (r : Rising b from rest) where
-  pub rising_done : length rest < zone_size → Some from ≡ next_end (length b / zone_size) 0 b
-  rising_done h =
-      let n : length rest / zone_size ≡ 0 = omega arith in
-      sym (ap (λ (k : ℕ). next_end k from rest) n) ∙ r.same
+-- the next one of these
+next_turn : (rest : List ℕ) → Octets rest → zone_size ≤ length rest → (zone : ℕ) → zone ≡ num zone_size rest 0 → (from : ℕ)
+    → next_end (length rest / zone_size) from rest ≡ with_zone zone from (drop zone_size rest)
+unfolding zone_at
+next_turn rest octets there zone here from =
+    let n : length rest / zone_size ≡ suc (length (drop zone_size rest) / zone_size) = rw length-drop (omega arith) in
+    let c : value rest ≡ zone / halfword_numbers = sym (code_half rest octets 0 zone here) in
+    let e : value (after rest) ≡ zone % halfword_numbers = value-after rest ∙ sym (end_half rest octets 0 zone here) in
+    ap (λ (k : ℕ). next_end k from rest) n
+    ∙ one_test (ltb most_code (value rest)) (ltb (value (after rest)) from) None _
+    ∙ (λ i. pick (either (ltb most_code (c i)) (ltb (e i) from)) None
+    (next_end (length (drop zone_size rest) / zone_size) (suc (e i)) (after_after rest i)))
 
-  -- one more
-  module _ (four others : List ℕ) (split : rest ≡ four ++ others) (long : length four ≡ zone_size) (zone : ℕ)
-      (is : zone ≡ fetched zone_size four 0)
-    where
-      here : zone ≡ num zone_size rest 0
-      here = is ∙ fetched-whole zone_size four 0 (omega (arith, long)) ∙ sym (num-append zone_size four others 0 (omega (arith, long)))
-          ∙ ap (λ (l : List ℕ). num zone_size l 0) (sym split)
+-- the zone that was fetched and those from a place on answer as all zones
+pub record Rising (b : List ℕ) (zone from at : ℕ) : Type 0 where
+  pub inside : at ≤ length b
+  pub same : with_zone zone from (drop at b) ≡ next_end (length b / zone_size) 0 b
 
-      behind : after (after rest) ≡ others
-      behind =
-          after_after rest ∙ ap (λ (l : List ℕ). drop zone_size l) split ∙ ap (λ (k : ℕ). drop k (four ++ others)) (sym long)
-          ∙ drop-append_seam four others
+module _ (b : List ℕ) (octets : Octets b) where
+  pub rising_start : (zone : ℕ) → zone ≡ fetched zone_size b 0 → zone_size ≤ length b → Rising b zone 0 zone_size
+  rising_start zone e h =
+      record { inside = h; same = sym (next_turn b octets h zone (e ∙ fetched-whole zone_size b 0 (omega arith)) 0) }
 
-      turn : next_end (length b / zone_size) 0 b
-          ≡ pick (zone_broken from zone) None (next_end (length others / zone_size) (suc (zone % halfword_numbers)) others)
-      unfolding zone_at
-      turn =
-          let n : length rest / zone_size ≡ suc (length others / zone_size) =
-          omega (arith, ap length split, length-append four others, long) in
-          let c : value rest ≡ zone / halfword_numbers = sym (code_half rest r.octets 0 zone here) in
-          let e : value (after rest) ≡ zone % halfword_numbers = value-after rest ∙ sym (end_half rest r.octets 0 zone here) in
-          sym r.same
-          ∙ ap (λ (k : ℕ). next_end k from rest) n
-          ∙ one_test (ltb most_code (value rest)) (ltb (value (after rest)) from) None _
-          ∙ (λ i. pick (either (ltb most_code (c i)) (ltb (e i) from)) None (next_end (length others / zone_size) (suc (e i)) (behind i)))
+  module _ (zone from at : ℕ) (r : Rising b zone from at) where
+    pub rising-broken : zone_broken from zone ≡ true → None ≡ next_end (length b / zone_size) 0 b
+    rising-broken t =
+        sym (ap (λ (u : Bool). pick u None (next_end (length (drop at b) / zone_size) (suc (zone % halfword_numbers)) (drop at b))) t) ∙ r.same
 
-      pub rising-broken : zone_broken from zone ≡ true → None ≡ next_end (length b / zone_size) 0 b
-      rising-broken t = sym (turn ∙ simp t)
+    module _ (end : ℕ) (ends : end ≡ zone % halfword_numbers) (t : zone_broken from zone ≡ false) where
+      turned : next_end (length (drop at b) / zone_size) (end + 1) (drop at b) ≡ next_end (length b / zone_size) 0 b
+      turned =
+          ap (λ (k : ℕ). next_end (length (drop at b) / zone_size) k (drop at b)) (add-one end ∙ ap suc ends)
+          ∙ sym (ap (λ (u : Bool). pick u None (next_end (length (drop at b) / zone_size) (suc (zone % halfword_numbers)) (drop at b))) t)
+          ∙ r.same
 
-      pub rising-on : (end : ℕ) → end ≡ zone % halfword_numbers → zone_broken from zone ≡ false → Rising b (end + 1) others
-      rising-on end ends t = record {
-        octets = subst Octets behind (octets_drop 2 (after rest) (octets_drop 2 rest r.octets));
-        same =
-            ap (λ (k : ℕ). next_end (length others / zone_size) k others) (add-one end ∙ ap suc ends) ∙ sym (turn ∙ simp t);
-      }
+      pub rising-on : (next : ℕ) → next ≡ fetched zone_size (take (at + zone_size - at) (drop at b)) 0 → at + zone_size ≤ length b
+          → Rising b next (end + 1) (at + zone_size)
+      rising-on next e h =
+          let l : zone_size ≤ length (drop at b) = rw length-drop (omega arith) in
+          let n : next ≡ num zone_size (drop at b) 0 = four-fetched b at next h e ∙ ap (λ (k : ℕ). num zone_size b k) (sym (add-zero at))
+          ∙ sym (num-drop zone_size b at 0) in
+          record {
+            inside = h;
+            same =
+                ap (λ (x : List ℕ). with_zone next (end + 1) x) (sym (drop-drop zone_size at b))
+                ∙ sym (next_turn (drop at b) (octets_drop at b octets) l next n (end + 1))
+                ∙ turned;
+          }
+
+      pub rising-done : length b < at + zone_size → Some (end + 1) ≡ next_end (length b / zone_size) 0 b
+      rising-done h =
+          let n : length (drop at b) / zone_size ≡ 0 = rw length-drop (omega arith) in
+          sym (ap (λ (k : ℕ). next_end k (end + 1) (drop at b)) n) ∙ turned
 
 -- ---- the zones of an azimuth that are all there
 -- bytes behind the zones are not looked at

@@ -33,19 +33,29 @@ fn zone_broken(zone: u32, from: u32) -> bool
 }
 
 // The least end that may follow the whole zones: one more than the last end. None if a code is out of range or an end does not rise.
-// Ends rise strictly, so it is enough that the last is 511.
+// Ends rise strictly, so it is enough that the last is 511. A zone is fetched a turn before it is checked: in a `for` over
+// `chunks_exact`, with or without that, the check of a map with few zones to an azimuth took a quarter more time.
 fn next_end(zones: &[u8]) -> Option<usize>
     ensures { result ≡ next_end (length zones.now / zone_size) 0 zones.now }
 {
+    if zones.len() < ZONE_SIZE {
+        return Some(0);
+    }
+    let mut zone = wire::fetch::<u32>(zones, 0);
     let mut from: u32 = 0;
-    for bytes in zones.chunks_exact(ZONE_SIZE) {
-        let zone = wire::fetch::<u32>(bytes, 0);
+    let mut at = ZONE_SIZE;
+    while at + ZONE_SIZE <= zones.len() {
         if zone_broken(zone, from) {
             return None;
         }
         from = end_of(zone) as u32 + 1;
+        zone = wire::fetch::<u32>(&zones[at..at + ZONE_SIZE], 0);
+        at += ZONE_SIZE;
     }
-    Some(from as usize)
+    if zone_broken(zone, from) {
+        return None;
+    }
+    Some(end_of(zone) as usize + 1)
 }
 
 // Why zones that are cut off are refused: 24 if a field before the cut is bad, else 23.

@@ -1,10 +1,8 @@
-use Prim.Native.Nat.{◌≤◌}
-use Rattle.map_spec.specs.Map.{most_azimuth_size}
+use mathlib.Core.Path.{◌≡◌}
+use Rattle.std.specs.Slice.Iter.{chunks_exact_size, chunks_exact_rest}
+use Rattle.map_spec.specs.Map.{zone_size}
 use Rattle.map.proofs.QueryLaws.{Looking}
 use Rattle.map.proofs.zone_code.Given as goal
 
-abbrev pub invariant-loop-left : goal.invariant-loop-left
-invariant-loop-left l = (l.at ≤ most_azimuth_size) × Looking l.part l.kilometre l.left l.at
-
-abbrev pub decreases-loop-left : goal.decreases-loop-left
-decreases-loop-left l = l.left
+abbrev pub invariant-loop-bytes : goal.invariant-loop-bytes
+invariant-loop-bytes l = (chunks_exact_size l.bytes-iterator ≡ zone_size) × Looking l.part l.kilometre (chunks_exact_rest l.bytes-iterator)
