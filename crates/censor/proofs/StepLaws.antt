@@ -103,7 +103,8 @@ module _ (body : List ℕ) (n : ℕ) (e : num 2 body 0 ≡ n) where
   pub count_high : 2 ≤ length body → most_regions < n → censor_shown (censor_of body) ≡ refused 24
   count_high a h = simp (read_ways, le-ltb (length body) 2 a, many n h)
 
-  pub body_misfits : 2 ≤ length body → n ≤ most_regions → (length body ≡ 2 + region_bytes * n → ⊥) → censor_shown (censor_of body) ≡ refused 23
+  pub body_misfits : 2 ≤ length body → n ≤ most_regions → (length body ≡ 2 + region_bytes * n → ⊥)
+      → censor_shown (censor_of body) ≡ refused 23
   body_misfits a h m = simp (read_ways, le-ltb (length body) 2 a, few n h, ne_eqb (length body) (2 + region_bytes * n) m)
 
   -- the array that holds the fields of its regions

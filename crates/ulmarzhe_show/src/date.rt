@@ -1,56 +1,78 @@
 // A date, in days of which the first is 1 January 1970, and a time of day, as people write them.
-ghost use Rattle.std.specs.Prelude.{◌≤◌};
+use std::fmt;
 
+// The date and the time of day that a message has. No rule checks a radial's: values that no clock shows are written as stored.
 #[derive(Clone, Copy)]
 pub struct Stamp {
-    pub year: u64,
-    pub month: u64,
-    pub day: u64,
-    pub hour: u64,
-    pub minute: u64,
-    pub second: u64,
-    pub thousandth: u64,
+    pub date: u16,
+    pub milliseconds: u32,
 }
 
-const DAY: u64 = 86400000;
+impl fmt::Display for Stamp {
+    fn fmt<W: fmt::Write>(&self, f: &mut fmt::Formatter<W>) -> fmt::Result {
+        if header_rule::breaks_time(self.date, self.milliseconds) {
+            return write!(f, "day {} and {} ms", self.date, self.milliseconds);
+        }
+        let day = Day::numbered(self.date);
+        let time = Time(self.milliseconds);
+        write!(f, "{day} {time}")
+    }
+}
 
 // From 1 March of the year 0 to 31 December 1969; four hundred years; a hundred; four; one.
-const BEFORE: u64 = 719467;
+const BEFORE: u32 = 719467;
 
-const ERA: u64 = 146097;
+const ERA: u32 = 146097;
 
-const CENTURY: u64 = 36524;
+const CENTURY: u32 = 36524;
 
-const LEAP: u64 = 1460;
+const LEAP: u32 = 1460;
 
-const YEAR: u64 = 365;
+const YEAR: u32 = 365;
 
-pub fn read(date: u16, milliseconds: u32) -> Stamp {
-    let days = date as u64 + BEFORE;
-    let since = days / ERA * 400;
-    let day = days % ERA;
-    let leaps = less(day + day / CENTURY, day / LEAP + day / (ERA - 1));
-    let year = leaps / YEAR % 400;
-    let left = less(day, year * YEAR + year / 4 - year / 100);
+#[derive(Clone, Copy)]
+struct Day {
+    year: u32,
+    month: u32,
+    day: u32,
+}
+
+impl Day {
     // Months are counted from March, so that a leap day is a year's last.
-    let month = (left * 5 + 2) / 153 % 12;
-    let ms = milliseconds as u64 % DAY;
-    Stamp {
-        year: std::num::wrapping_add_u64(since + year, month / 10),
-        month: (month + 2) % 12 + 1,
-        day: less(left + 1, (month * 153 + 2) / 5),
-        hour: ms / 3600000,
-        minute: ms / 60000 % 60,
-        second: ms / 1000 % 60,
-        thousandth: ms % 1000,
+    fn numbered(date: u16) -> Self {
+        let days = u32::from(date) + BEFORE;
+        let since = days % ERA;
+        let year = (since + since / CENTURY - since / LEAP - since / (ERA - 1)) / YEAR;
+        let left = since - (year * YEAR + year / 4 - year / 100);
+        let month = (left * 5 + 2) / 153;
+        Day {
+            year: days / ERA * 400 + year + month / 10,
+            month: (month + 2) % 12 + 1,
+            day: left + 1 - (month * 153 + 2) / 5,
+        }
     }
 }
 
-fn less(a: u64, b: u64) -> u64
-    ensures { result ≤ a }
-{
-    if a < b {
-        return 0;
+impl fmt::Display for Day {
+    fn fmt<W: fmt::Write>(&self, f: &mut fmt::Formatter<W>) -> fmt::Result {
+        write!(f, "{}-{:02}-{:02}", self.year, self.month, self.day)
     }
-    a - b
+}
+
+// A time of day, in milliseconds.
+#[derive(Clone, Copy)]
+struct Time(u32);
+
+impl fmt::Display for Time {
+    fn fmt<W: fmt::Write>(&self, f: &mut fmt::Formatter<W>) -> fmt::Result {
+        let ms = self.0;
+        write!(
+            f,
+            "{:02}:{:02}:{:02}.{:03}",
+            ms / 3600000,
+            ms / 60000 % 60,
+            ms / 1000 % 60,
+            ms % 1000
+        )
+    }
 }

@@ -1,140 +1,141 @@
-// A picture of a moment's codes: a row for each radial that has the moment, in order, a column for each gate. A first walk measures it.
-use crate::recorded::Carried;
-use radial::MomentAnswer;
+// A picture of a moment's codes: a row for each radial that has the moment, in order, a column for each gate. A first walk measures it,
+// a second one draws it.
+use crate::listing;
+use crate::moments::Moment;
+use crate::recorded::{Found, Task};
 use radial_check::WIDE_WORD;
+use radial_head::MomentHead;
 use ulmarzhe_text::output::Output;
-use ulmarzhe_text::page::SHEET;
-use ulmarzhe_text::part::wide16;
-use ulmarzhe_text::{output, page};
-use wire::refusal;
+use ulmarzhe_text::page::Page;
+use wire::refusal::Refusal;
 
-// How many rows a picture has, how many gates its longest row has, and whether a code takes two bytes.
+// The largest code of a picture. A code takes a byte, or two.
+#[derive(Clone, Copy, PartialEq, Eq, PartialOrd, Ord)]
+enum Largest {
+    Narrow = 255,
+    Wide = 65535,
+}
+
+// How many rows a picture has, and how many gates its longest row.
 #[derive(Clone, Copy)]
 pub struct Picture {
-    pub rows: u64,
-    pub most: u16,
-    pub wide: bool,
+    moment: Moment,
+    rows: u64,
+    most: u16,
+    largest: Largest,
 }
 
-pub fn empty() -> Picture {
-    Picture {
-        rows: 0,
-        most: 0,
-        wide: false,
-    }
-}
-
-// The moment of a radial, where it has one. `refused`: the message or the radial is refused.
+// A radial's body, and the head of its moment.
 #[derive(Clone, Copy)]
-struct Shown {
-    there: bool,
-    refused: bool,
-    gates: u16,
-    word: u8,
+struct Shown<'a> {
+    body: &'a [u8],
+    head: MomentHead,
 }
 
-fn look_for(c: Carried, body: &[u8], name: [u8; 4]) -> Shown {
-    match c {
-        Carried::Other => without(false),
-        Carried::Refused(_) => without(true),
-        Carried::Radial => match radial::moment(body, name) {
-            MomentAnswer::Refused(n) => without(n != refusal::ASKED_FOR),
-            MomentAnswer::Moment(m) => Shown {
-                there: true,
-                refused: false,
-                gates: m.gates,
-                word: m.word,
-            },
-        },
+impl Picture {
+    pub fn new(moment: Moment) -> Self {
+        Picture {
+            moment,
+            rows: 0,
+            most: 0,
+            largest: Largest::Narrow,
+        }
+    }
+
+    pub fn is_empty(&self) -> bool {
+        self.most == 0
+    }
+
+    // The moment of the radial in a frame, where it has one.
+    fn look_for<'a>(&self, found: Found<'a>) -> Result<Option<Shown<'a>>, Refusal> {
+        let Some(body) = found.radial()? else {
+            return Ok(None);
+        };
+        match radial::moment(body, self.moment.name()) {
+            Ok(head) => Ok(Some(Shown { body, head })),
+            Err(Refusal::AskedFor) => Ok(None),
+            Err(why) => Err(why),
+        }
+    }
+
+    fn measure(&mut self, m: MomentHead) {
+        self.rows = self.rows.wrapping_add(1);
+        self.most = self.most.max(m.gates);
+        if m.word == WIDE_WORD {
+            self.largest = Largest::Wide;
+        }
+    }
+
+    // The picture's head: its width, its height, and the largest code.
+    pub fn put_head(&self, page: &mut Page) {
+        let largest = self.largest as u16;
+        write!(page, "P5\n{} {}\n{largest}\n", self.most, self.rows);
+    }
+
+    // A row with fewer gates than the longest is filled up with 0.
+    fn put_row(&self, shown: Shown<'_>, page: &mut Page) {
+        let gates = radial_gates::gates(shown.body, self.moment.name());
+        for i in 0..self.most {
+            self.put_pixel(code_at(gates, shown.head.word, i), page);
+        }
+    }
+
+    fn put_pixel(&self, code: u16, page: &mut Page) {
+        let [high, low] = code.to_be_bytes();
+        if self.largest == Largest::Wide {
+            page.put_byte(high);
+        }
+        page.put_byte(low);
     }
 }
 
-fn without(refused: bool) -> Shown {
-    Shown {
-        there: false,
-        refused,
-        gates: 0,
-        word: 0,
-    }
+#[derive(Clone, Copy)]
+pub struct Survey {
+    pub picture: Picture,
 }
 
-pub fn measure(p: Picture, c: Carried, body: &[u8], name: [u8; 4]) -> Picture {
-    let s = look_for(c, body, name);
-    let mut p = p;
-    if s.there {
-        p.rows = std::num::wrapping_add_u64(p.rows, 1);
+impl Task for Survey {
+    fn take(&mut self, found: Found<'_>, _out: &mut Output) {
+        if let Ok(Some(shown)) = self.picture.look_for(found) {
+            self.picture.measure(shown.head);
+        }
     }
-    if p.most < s.gates {
-        p.most = s.gates;
-    }
-    if s.word == WIDE_WORD {
-        p.wide = true;
-    }
-    p
+
+    // The second walk tells it.
+    fn stop(&self, _rt: &HostRuntime, _place: u64, _why: Refusal, _out: &mut Output) {}
 }
 
-// The picture's head: its width, its height, and the largest code.
-pub fn put_head(p: Picture, sheet: &mut [u8; SHEET]) -> usize {
-    let largest = if p.wide { 65535 } else { 255 };
-    page::fill_in(
-        sheet,
-        0,
-        b"P5\n# #\n#\n",
-        &[wide16(p.most), p.rows, largest],
-    )
+#[derive(Clone, Copy)]
+pub struct Drawing {
+    pub picture: Picture,
 }
 
-// The row of a radial that has the moment.
-pub fn add_row(
-    p: Picture,
-    c: Carried,
-    body: &[u8],
-    name: [u8; 4],
-    sheet: &mut [u8; SHEET],
-    out: Output,
-) -> Output {
-    let s = look_for(c, body, name);
-    if s.refused {
-        return output::refuse(out, out.at);
+impl Task for Drawing {
+    fn take(&mut self, found: Found<'_>, out: &mut Output) {
+        match self.picture.look_for(found) {
+            Ok(Some(shown)) => self.picture.put_row(shown, &mut out.page),
+            Ok(None) => {}
+            Err(_) => out.refuse(),
+        }
     }
-    if !s.there {
-        return out;
-    }
-    let gates = radial_gates::gates(body, name);
-    output::fill(out, put_codes(p, gates, s.word, sheet, out.at))
-}
 
-// A row with fewer gates than the longest is filled up with 0.
-fn put_codes(p: Picture, gates: &[u8], word: u8, sheet: &mut [u8; SHEET], at: usize) -> usize {
-    let most = p.most;
-    let mut next = at;
-    let mut i = 0;
-    while i < most {
-        next = put_pixel(sheet, next, code_at(gates, word, i as u32), p.wide);
-        i += 1;
+    // Writes what was drawn, then the damaged place on standard error.
+    fn stop(&self, rt: &HostRuntime, place: u64, why: Refusal, out: &mut Output) {
+        out.flush(rt, 0);
+        if out.has_failed() {
+            return;
+        }
+        listing::list_stop(place, why, out);
+        let _ = out.page.send(&rt.stderr());
+        out.page.clear();
     }
-    next
-}
-
-fn put_pixel(sheet: &mut [u8; SHEET], at: usize, code: u16, wide: bool) -> usize {
-    let mut next = at;
-    if wide {
-        next = page::put_byte(sheet, at, (code / 256) as u8);
-    }
-    page::put_byte(sheet, next, (code % 256) as u8)
 }
 
 // The code of a gate, or 0 where there is none.
-pub fn code_at(gates: &[u8], word: u8, i: u32) -> u16 {
-    if 65535 < i {
-        return 0;
-    }
+pub fn code_at(gates: &[u8], word: u8, i: u16) -> u16 {
+    let i = u32::from(i);
     if word == WIDE_WORD {
         return wire::fetch::<u16>(gates, i * 2);
     }
-    wide(wire::fetch::<u8>(gates, i))
-}
-
-fn wide(x: u8) -> u16 {
-    x as u16
+    u16::from(wire::fetch::<u8>(gates, i))
 }
