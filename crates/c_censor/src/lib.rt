@@ -36,6 +36,7 @@ pub fn censor(body: &[u8]) -> UlmCensor
     }
 }
 
+#[tactic(auto, using(c_lent::proofs::LentLaws::leaves_of))]
 pub fn write_censor(list: &[u16], out: &mut [u8]) -> UlmWritten
     ensures { Leaves written_face (censor_written list.now out.old) result out.new }
 {

@@ -1,3 +1,3 @@
--- The laws between what the library answers of gates and the structs that C receives.
+-- A name as one number, and that the contracts say what they should.
 pub mod GatesLaws
 pub mod Welds

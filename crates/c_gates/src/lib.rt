@@ -2,20 +2,18 @@
 #![tactic(auto)]
 
 ghost use Rattle.std.specs.Prelude.{◌≡◌};
-ghost use Rattle.wire.specs.Numbers.{be};
-ghost use Rattle.wire.specs.Answers.{refused};
 ghost use Rattle.radial_spec.specs.Lookups.{moment_of};
 ghost use Rattle.gate_value.specs.Value.{value_of, gate_of};
 ghost use Rattle.gate_value.specs.Told.{tell_gate};
 ghost use Rattle.c_gates.specs.Face.{gates_face, worth_face};
 ghost use Rattle.c_gates.specs.Steps.{head_gates};
 
-use gate_value::GateAnswer;
-use radial::MomentAnswer;
+use gate_value::Gate;
 use radial_head::{MOMENT_HEAD, MomentHead};
+use wire::refusal::Refusal;
 
 #[repr(C)]
-#[derive(Clone, Copy)]
+#[derive(Clone, Copy, Default)]
 pub struct UlmGates {
     pub refusal: u32,
     pub gates: u32,
@@ -29,19 +27,23 @@ pub struct UlmGates {
 }
 
 #[repr(C)]
-#[derive(Clone, Copy)]
+#[derive(Clone, Copy, Default)]
 pub struct UlmGate {
     pub refusal: u32,
     pub kind: u32,
     pub value: f32,
 }
 
+#[tactic(auto, using(crate::proofs::GatesLaws::name_back))]
 pub fn gates(body: &[u8], name: u32) -> UlmGates
     ensures { result ≡ gates_face (moment_of body.now name) }
 {
-    match radial::moment(body, four(name)) {
-        MomentAnswer::Moment(head) => gates_of(head),
-        MomentAnswer::Refused(number) => no_gates(number),
+    match radial::moment(body, name.to_be_bytes()) {
+        Ok(head) => gates_of(head),
+        Err(refusal) => UlmGates {
+            refusal: refusal.number() as u32,
+            ..UlmGates::default()
+        },
     }
 }
 
@@ -62,35 +64,11 @@ fn gates_of(h: MomentHead) -> UlmGates
     }
 }
 
-fn no_gates(number: u8) -> UlmGates
-    ensures { result ≡ gates_face (refused number) }
-{
-    UlmGates {
-        refusal: number as u32,
-        gates: 0,
-        word: 0,
-        scale: 0,
-        offset: 0,
-        first: 0,
-        interval: 0,
-        start: 0,
-        size: 0,
-    }
-}
-
-// The four bytes of a name that C passes as one number.
-fn four(name: u32) -> [u8; 4]
-    ensures { result ≡ be 4 name }
-{
-    let mut bytes = [0u8; 4];
-    wire::store::<u32>(&mut bytes, 0, name);
-    bytes
-}
-
+#[tactic(auto, using(crate::proofs::GatesLaws::name_back))]
 pub fn gate(body: &[u8], name: u32, gate: u64) -> UlmGate
     ensures { result ≡ worth_face (gate_of body.now name gate) }
 {
-    gate_face(gate_value::gate_value(body, four(name), gate as usize))
+    gate_face(gate_value::gate_value(body, name.to_be_bytes(), gate as usize))
 }
 
 pub fn value(code: u16, scale: u32, offset: u32) -> UlmGate
@@ -99,29 +77,25 @@ pub fn value(code: u16, scale: u32, offset: u32) -> UlmGate
     gate_face(gate_value::value(code, scale, offset))
 }
 
-fn gate_face(answer: GateAnswer) -> UlmGate
+fn gate_face(answer: Result<Gate, Refusal>) -> UlmGate
     ensures { result ≡ worth_face (tell_gate answer) }
 {
     match answer {
-        GateAnswer::Value(v) => UlmGate {
-            refusal: 0,
-            kind: 0,
+        Ok(Gate::Value(v)) => UlmGate {
             value: v,
+            ..UlmGate::default()
         },
-        GateAnswer::BelowThreshold => UlmGate {
-            refusal: 0,
+        Ok(Gate::BelowThreshold) => UlmGate {
             kind: 1,
-            value: 0.0f32,
+            ..UlmGate::default()
         },
-        GateAnswer::RangeFolded => UlmGate {
-            refusal: 0,
+        Ok(Gate::RangeFolded) => UlmGate {
             kind: 2,
-            value: 0.0f32,
+            ..UlmGate::default()
         },
-        GateAnswer::Refused(number) => UlmGate {
-            refusal: number as u32,
-            kind: 0,
-            value: 0.0f32,
+        Err(refusal) => UlmGate {
+            refusal: refusal.number() as u32,
+            ..UlmGate::default()
         },
     }
 }

@@ -30,6 +30,7 @@ pub fn request(body: &[u8]) -> UlmRequest
     }
 }
 
+#[tactic(auto, using(c_lent::proofs::LentLaws::leaves_of))]
 pub fn write_request(list: &[u16], out: &mut [u8]) -> UlmWritten
     ensures { Leaves written_face (request_written list.now out.old) result out.new }
 {

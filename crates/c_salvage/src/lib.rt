@@ -1,12 +1,9 @@
 // Salvages as C receives them.
 #![tactic(auto)]
 
-ghost use Rattle.std.specs.Prelude.{◌≡◌};
 ghost use Rattle.c_lent.specs.Face.{Leaves};
 ghost use Rattle.salvage_spec.specs.Salvage.{salvage_of};
 ghost use Rattle.c_salvage.specs.Face.{salvage_face};
-
-use salvage::SalvageAnswer;
 
 #[repr(C)]
 #[derive(Clone, Copy)]
@@ -21,18 +18,17 @@ pub fn salvage(buf: &[u8], out: &mut [u8], runs: &mut [u64]) -> UlmSalvage
     ensures { Leaves salvage_face (salvage_of buf.now out.old runs.old) result (out.new, runs.new) }
 {
     match salvage::salvage(buf, out, runs) {
-        SalvageAnswer::Salvaged(kept, long, count) => salvage_with(0, kept, long, count),
-        SalvageAnswer::Refused(number) => salvage_with(number, 0, 0, 0),
-    }
-}
-
-fn salvage_with(refusal: u8, kept: usize, long: usize, count: usize) -> UlmSalvage
-    ensures { result ≡ record { refusal = refusal; kept = kept; length = long; runs = count } }
-{
-    UlmSalvage {
-        refusal: refusal as u32,
-        kept: kept as u64,
-        length: long as u64,
-        runs: count as u64,
+        Ok(s) => UlmSalvage {
+            refusal: 0,
+            kept: s.kept as u64,
+            length: s.length as u64,
+            runs: s.runs as u64,
+        },
+        Err(refusal) => UlmSalvage {
+            refusal: refusal.number() as u32,
+            kept: 0,
+            length: 0,
+            runs: 0,
+        },
     }
 }

@@ -6,24 +6,25 @@ use mathlib.Core.Path.{◌≡◌, sym, ap, ◌∙◌}
 use mathlib.Core.List.{List, [], ◌∷◌, ◌++◌, map, map-append}
 use lib.ListN.{length, get_or, take, set, replicate}
 use lib.Seq.{take-suc, set_at, append_snoc, length-take-le}
-use Rattle.wire.specs.Numbers.{num, nums, be, stored}
+use Rattle.wire.specs.Numbers.{num, nums, fetched, be, stored}
 use Rattle.wire.specs.Sheets.{laid}
 use Rattle.wire.specs.Tables.{field, render, run}
 use Rattle.wire.specs.Writing.{filled}
-use Rattle.wire.proofs.NumberLaws.{nums-length, nums_snoc, stored-whole}
+use Rattle.wire.proofs.NumberLaws.{number_is, nums-length, nums_snoc, stored-whole}
 use Rattle.wire.proofs.SheetLaws.{laid_more}
 use Rattle.wire.proofs.TableLaws.{render-length, total-run, render-append}
 
 -- one number more in an array of `room` places
-pub stored_more : (b : List ℕ) (room i : ℕ) → i < room
-    → set (nums 2 b 2 i ++ replicate (room - i) 0) i (num 2 b (2 + 2 * i)) ≡ nums 2 b 2 (i + 1) ++ replicate (room - (i + 1)) 0
-stored_more b room i h =
-    let x = num 2 b (2 + 2 * i) in
+pub read_more : (b held : List ℕ) (room i x : ℕ) → i < room → 2 + 2 * i + 2 ≤ length b → held ≡ nums 2 b 2 i ++ replicate (room - i) 0
+    → x ≡ fetched 2 b (2 + 2 * i) → set held i x ≡ nums 2 b 2 (i + 1) ++ replicate (room - (i + 1)) 0
+read_more b held room i x h there e read =
     let r : List ℕ = replicate (room - (i + 1)) 0 in
     let m : room - i ≡ suc (room - (i + 1)) = omega arith in
-    ap (λ (k : ℕ). set (nums 2 b 2 i ++ replicate k 0) i x) m
+    let v : x ≡ num 2 b (2 + 2 * i) = sym (number_is 2 b (2 + 2 * i) x read there) in
+    ap (λ (l : List ℕ). set l i x) (e ∙ ap (λ (k : ℕ). nums 2 b 2 i ++ replicate k 0) m)
     ∙ set_at (nums 2 b 2 i) 0 r x i (nums-length 2 b 2 i)
     ∙ sym (append_snoc (nums 2 b 2 i) x r)
+    ∙ ap (λ (y : ℕ). (nums 2 b 2 i ++ (y ∷ [])) ++ r) v
     ∙ ap (λ (l : List ℕ). l ++ r) (sym (nums_snoc 2 b 2 i) ∙ ap (λ (k : ℕ). nums 2 b 2 k) (sym (add-one i)))
 
 -- ---- numbers as halfwords

@@ -50,6 +50,7 @@ fn region_broken(region: &[u16]) -> bool
 }
 
 // Whether one of the whole regions has such a field.
+#[tactic(auto, using(crate::proofs::StepLaws::regions_told))]
 fn regions_broken(fields: &[u16]) -> bool
     ensures { result ≡ regions_broken (length fields.now / region_fields) fields.now }
 {
@@ -62,6 +63,7 @@ fn regions_broken(fields: &[u16]) -> bool
 }
 
 // The fields of n regions, then 0.
+#[tactic(auto, using(crate::proofs::Halfwords::read_more))]
 fn regions_of(body: &[u8], n: usize) -> [u16; PLACES]
     requires { (n ≤ most_regions) × (2 + region_bytes * n ≤ length body.now) }
     ensures { result ≡ nums 2 body.now 2 (region_fields * n) ++ replicate (places - region_fields * n) 0 }
@@ -73,6 +75,7 @@ fn regions_of(body: &[u8], n: usize) -> [u16; PLACES]
     regions
 }
 
+#[tactic(auto, using(crate::proofs::StepLaws::reads))]
 pub fn read_censor(body: &[u8]) -> Result<Censor, Refusal>
     ensures { tell_censor result ≡ censor_shown (censor_of body.now) }
 {
@@ -95,6 +98,7 @@ pub fn read_censor(body: &[u8]) -> Result<Censor, Refusal>
 }
 
 // The numbers of a list as halfwords from the output's start.
+#[tactic(auto, using(crate::proofs::Halfwords::written_more))]
 fn put_all(list: &[u16], out: &mut [u8])
     requires { (length list.now ≤ 1 + places) × (2 * length list.now ≤ length out.old) }
     ensures { out.new ≡ filled (run 2 list.now) out.old }
@@ -104,6 +108,7 @@ fn put_all(list: &[u16], out: &mut [u8])
     }
 }
 
+#[tactic(auto, using(crate::proofs::StepLaws::writes))]
 pub fn write_censor(list: &[u16], out: &mut [u8]) -> Result<Bytes, Refusal>
     ensures { Promise tell_write (censor_written list.now out.old) result out.new }
 {

@@ -15,30 +15,30 @@ use Rattle.map_spec.specs.Map.{azimuths}
 use Rattle.compare_spec.specs.Differences.{in_order}
 
 -- ---- some
-abbrev pub Some : {A : Type 0} → (A → Type 0) → List A → Type 0
-Some P [] = ⊥
-Some P (x ∷ xs) = P x ⊎ Some P xs
+abbrev pub SomeOf : {A : Type 0} → (A → Type 0) → List A → Type 0
+SomeOf P [] = ⊥
+SomeOf P (x ∷ xs) = P x ⊎ SomeOf P xs
 
-pub some_left : {A : Type 0} (P : A → Type 0) (xs ys : List A) → Some P xs → Some P (xs ++ ys)
+pub some_left : {A : Type 0} (P : A → Type 0) (xs ys : List A) → SomeOf P xs → SomeOf P (xs ++ ys)
 some_left P [] ys s = absurd s
 some_left P (x ∷ xs) ys s = ⊎_elim (λ p. inl p) (λ q. inr (some_left P xs ys q)) s
 
-pub some_right : {A : Type 0} (P : A → Type 0) (xs ys : List A) → Some P ys → Some P (xs ++ ys)
+pub some_right : {A : Type 0} (P : A → Type 0) (xs ys : List A) → SomeOf P ys → SomeOf P (xs ++ ys)
 some_right P [] ys s = s
 some_right P (x ∷ xs) ys s = inr (some_right P xs ys s)
 
-pub some-map : {A B : Type 0} (P : A → Type 0) (Q : B → Type 0) (f : A → B) (xs : List A) → ((x : A) → P x → Q (f x)) → Some P xs
-    → Some Q (map f xs)
+pub some-map : {A B : Type 0} (P : A → Type 0) (Q : B → Type 0) (f : A → B) (xs : List A) → ((x : A) → P x → Q (f x)) → SomeOf P xs
+    → SomeOf Q (map f xs)
 some-map P Q f [] h s = s
 some-map P Q f (x ∷ xs) h s = ⊎_elim (λ p. inl (h x p)) (λ q. inr (some-map P Q f xs h q)) s
 
-pub some_at : {A : Type 0} (P : A → Type 0) (xs : List A) (d : A) (i : ℕ) → i < length xs → P (get_or xs i d) → Some P xs
+pub some_at : {A : Type 0} (P : A → Type 0) (xs : List A) (d : A) (i : ℕ) → i < length xs → P (get_or xs i d) → SomeOf P xs
 some_at P [] d i h p = absurd (omega arith)
 some_at P (x ∷ xs) d zero h p = inl p
 some_at P (x ∷ xs) d (suc i) h p = inr (some_at P xs d i (omega arith) p)
 
 -- if all elements have P and one has Q, then that one has what follows from P and Q
-pub some_each : {A : Type 0} (P Q S : A → Type 0) (xs : List A) → ((x : A) → P x → Q x → S x) → Each P xs → Some Q xs → Some S xs
+pub some_each : {A : Type 0} (P Q S : A → Type 0) (xs : List A) → ((x : A) → P x → Q x → S x) → Each P xs → SomeOf Q xs → SomeOf S xs
 some_each P Q S [] h p s = s
 some_each P Q S (x ∷ xs) h p s = ⊎_elim (λ q. inl (h x p.0 q)) (λ q. inr (some_each P Q S xs h p.1 q)) s
 
@@ -67,7 +67,7 @@ module _ {A : Type 0} (of : ℕ → List A) where
       each_append P (of first) (in_order (suc first) count of) (h first (omega arith) (omega arith))
       (each_order P (suc first) count (λ k l u. h k (omega arith) (omega arith)))
 
-  pub some_order : (P : A → Type 0) (first count k : ℕ) → first ≤ k → k < first + count → Some P (of k) → Some P (in_order first count of)
+  pub some_order : (P : A → Type 0) (first count k : ℕ) → first ≤ k → k < first + count → SomeOf P (of k) → SomeOf P (in_order first count of)
   unfolding in_order
   some_order P first zero k l u s = absurd (omega arith)
   some_order P first (suc count) k l u s =
@@ -76,12 +76,12 @@ module _ {A : Type 0} (of : ℕ → List A) where
       rest : List A
       rest = in_order (suc first) count of
 
-      go : (t : Bool) → ltb first k ≡ t → (first < k → Some P rest) → Some P (of first ++ rest)
+      go : (t : Bool) → ltb first k ≡ t → (first < k → SomeOf P rest) → SomeOf P (of first ++ rest)
       go true e later = some_right P (of first) rest (later (ltb-true first k e))
       go false e later =
           let h = ltb-false first k e in
           let q : k ≡ first = omega arith in
-          some_left P (of first) rest (subst (λ (j : ℕ). Some P (of j)) q s)
+          some_left P (of first) rest (subst (λ (j : ℕ). SomeOf P (of j)) q s)
 
   -- Q k holds of each element of the k-th list
   pub sorted_order : (R : A → A → Type 0) (Q : ℕ → A → Type 0) → ((j k : ℕ) (x y : A) → j < k → Q j x → Q k y → R x y)

@@ -10,7 +10,7 @@ use Rattle.wire.specs.Properties.{Each}
 use Rattle.map_spec.specs.Map.{FilterMap, code_at}
 use Rattle.compare_spec.specs.Differences.{Difference}
 use Rattle.compare_spec.specs.Compared.{Present, Coded, Sound, Longest, Within, no_difference, OneRun, Before, by_elevation, by_azimuth, by_kilometre, Ordered, Compared}
-use Rattle.compare_spec.proofs.Lists.{Some, some_at, some_each, Sorted}
+use Rattle.compare_spec.proofs.Lists.{SomeOf, some_at, some_each, Sorted}
 
 -- ---- the order
 before_on : (d e f : Difference) → e.first ≤ e.last → Before d e → Before e f → Before d f
@@ -52,7 +52,7 @@ sorted_ordered (d ∷ []) s = tt
 sorted_ordered (d ∷ (e ∷ ds)) s = (s.0.0, sorted_ordered (e ∷ ds) s.1)
 
 -- ---- the one run in which a kilometre lies
-one-run : (ds : List Difference) (elevation azimuth kilometre : ℕ) → Sorted Before ds → Some (λ d. Within d elevation azimuth kilometre) ds
+one-run : (ds : List Difference) (elevation azimuth kilometre : ℕ) → Sorted Before ds → SomeOf (λ d. Within d elevation azimuth kilometre) ds
     → OneRun ds elevation azimuth kilometre
 one-run [] elevation azimuth kilometre s h = absurd h
 one-run (d ∷ ds) elevation azimuth kilometre s h =
@@ -77,30 +77,30 @@ one-run (d ∷ ds) elevation azimuth kilometre s h =
         later (suc i) l v = ap suc (o.only i (omega arith) v)
 
 -- ---- two lists in order with the same elements
-in_tail : (x y : Difference) (ys : List Difference) → (x ≡ y → ⊥) → Some (λ z. x ≡ z) (y ∷ ys) → Some (λ z. x ≡ z) ys
+in_tail : (x y : Difference) (ys : List Difference) → (x ≡ y → ⊥) → SomeOf (λ z. x ≡ z) (y ∷ ys) → SomeOf (λ z. x ≡ z) ys
 in_tail x y ys ne s = ⊎_elim (λ e. absurd (ne e)) (λ k. k) s
 
-related : (P : Difference → Type 0) (x : Difference) (ys : List Difference) → Each P ys → Some (λ z. x ≡ z) ys → P x
+related : (P : Difference → Type 0) (x : Difference) (ys : List Difference) → Each P ys → SomeOf (λ z. x ≡ z) ys → P x
 related P x [] p s = absurd s
 related P x (y ∷ ys) p s = ⊎_elim (λ e. subst P (sym e) p.0) (λ k. related P x ys p.1 k) s
 
 heads : (x y : Difference) (xs ys : List Difference) → Proper x → Proper y → Each (Before x) xs → Each (Before y) ys
-    → Some (λ z. x ≡ z) (y ∷ ys) → Some (λ z. y ≡ z) (x ∷ xs) → x ≡ y
+    → SomeOf (λ z. x ≡ z) (y ∷ ys) → SomeOf (λ z. y ≡ z) (x ∷ xs) → x ≡ y
 heads x y xs ys p q bx by s t =
     ⊎_elim (λ e. e)
     (λ k. ⊎_elim (λ e. sym e)
     (λ l. absurd (not_itself x p (before_on x y x q (related (Before x) y xs bx l) (related (Before y) x ys by k)))) t)
     s
 
-tails : (x y : Difference) (xs ys : List Difference) → x ≡ y → Proper x → Each (Before x) xs → Each (λ z. Some (λ w. z ≡ w) (y ∷ ys)) xs
-    → Each (λ z. Some (λ w. z ≡ w) ys) xs
+tails : (x y : Difference) (xs ys : List Difference) → x ≡ y → Proper x → Each (Before x) xs → Each (λ z. SomeOf (λ w. z ≡ w) (y ∷ ys)) xs
+    → Each (λ z. SomeOf (λ w. z ≡ w) ys) xs
 tails x y xs ys e p b s =
-    each_both (Before x) (λ z. Some (λ w. z ≡ w) (y ∷ ys)) (λ z. Some (λ w. z ≡ w) ys) xs
+    each_both (Before x) (λ z. SomeOf (λ w. z ≡ w) (y ∷ ys)) (λ z. SomeOf (λ w. z ≡ w) ys) xs
     (λ z q k. in_tail z y ys (λ f. not_itself x p (subst (λ (w : Difference). Before x w) (f ∙ sym e) q)) k)
     b s
 
 same-list : (xs ys : List Difference) → Each Proper xs → Each Proper ys → Sorted Before xs → Sorted Before ys
-    → Each (λ x. Some (λ z. x ≡ z) ys) xs → Each (λ y. Some (λ z. y ≡ z) xs) ys → xs ≡ ys
+    → Each (λ x. SomeOf (λ z. x ≡ z) ys) xs → Each (λ y. SomeOf (λ z. y ≡ z) xs) ys → xs ≡ ys
 same-list [] [] p q s t a b = refl
 same-list [] (y ∷ ys) p q s t a b = absurd b.0
 same-list (x ∷ xs) [] p q s t a b = absurd a.0
@@ -169,7 +169,7 @@ pub record Exact (m n : FilterMap) (ds : List Difference) : Type 0 where
   pub longest : Each (Longest m n) ds
   pub covered : (elevation azimuth kilometre : ℕ) → Present m n elevation azimuth kilometre
       → (code_at m elevation azimuth kilometre ≡ code_at n elevation azimuth kilometre → ⊥)
-      → Some (λ d. Within d elevation azimuth kilometre) ds
+      → SomeOf (λ d. Within d elevation azimuth kilometre) ds
   pub sorted : Sorted Before ds
 
 module _ (m n : FilterMap) where
@@ -196,7 +196,7 @@ module _ (m n : FilterMap) where
   }
 
   -- a sound and longest run stands in every such list
-  found : (d : Difference) (ds : List Difference) → Sound m n d × Longest m n d → Exact m n ds → Some (λ e. d ≡ e) ds
+  found : (d : Difference) (ds : List Difference) → Sound m n d × Longest m n d → Exact m n ds → SomeOf (λ e. d ≡ e) ds
   found d ds p x =
       let s = p.0 in
       let h = s.present in
@@ -214,9 +214,9 @@ module _ (m n : FilterMap) where
       (record { from = h.from; in_old = h.in_old; in_new = h.in_new; around = h.around; far = omega (arith, s.some, h.far) })
       (λ e. s.differ (sym c.old ∙ e ∙ c.new)))
 
-  all_found : (ds es : List Difference) → Exact m n ds → Exact m n es → Each (λ d. Some (λ e. d ≡ e) es) ds
+  all_found : (ds es : List Difference) → Exact m n ds → Exact m n es → Each (λ d. SomeOf (λ e. d ≡ e) es) ds
   all_found ds es x y =
-      each_both (Sound m n) (Longest m n) (λ d. Some (λ e. d ≡ e) es) ds (λ d a b. found d es (a, b) y) x.sound x.longest
+      each_both (Sound m n) (Longest m n) (λ d. SomeOf (λ e. d ≡ e) es) ds (λ d a b. found d es (a, b) y) x.sound x.longest
 
   pub one_list : (ds es : List Difference) → Exact m n ds → Exact m n es → ds ≡ es
   one_list ds es x y =

@@ -14,7 +14,7 @@ use Rattle.wire.specs.Checks.{pick, both}
 use Rattle.wire.proofs.CheckLaws.{never}
 use Rattle.compare_spec.specs.Differences.{Difference, stay, stretch, stretches}
 use Rattle.compare_spec.specs.Compared.{Within, Before, by_kilometre}
-use Rattle.compare_spec.proofs.Lists.{Some, some_left, some_right, Sorted, sorted_append}
+use Rattle.compare_spec.proofs.Lists.{SomeOf, some_left, some_right, Sorted, sorted_append}
 
 -- ---- codes that stay
 module _ (old new : ℕ → ℕ) where
@@ -97,10 +97,10 @@ module _ (elevation azimuth : ℕ) (old new : ℕ → ℕ) where
       go false e = (h (eqb-false (old first) (new first) e), tt)
 
   some-stretch : (P : Difference → Type 0) (first next : ℕ) → (old first ≡ new first → ⊥) → P (run_of first next)
-      → Some P (stretch elevation azimuth old new first next)
+      → SomeOf P (stretch elevation azimuth old new first next)
   some-stretch P first next ne p = go (eqb (old first) (new first)) refl
     where
-      go : (t : Bool) → eqb (old first) (new first) ≡ t → Some P (pick t [] (run_of first next ∷ []))
+      go : (t : Bool) → eqb (old first) (new first) ≡ t → SomeOf P (pick t [] (run_of first next ∷ []))
       go true e = absurd (ne (eqb-true (old first) (new first) e))
       go false e = inl p
 
@@ -148,7 +148,7 @@ module _ (elevation azimuth : ℕ) (old new : ℕ → ℕ) where
       pub each : Each P ds
       pub here : Each (Here elevation azimuth low) ds
       pub sorted : Sorted Before ds
-      pub covered : (k : ℕ) → low ≤ k → k ≤ far → (old k ≡ new k → ⊥) → Some (λ d. Within d elevation azimuth k) ds
+      pub covered : (k : ℕ) → low ≤ k → k ≤ far → (old k ≡ new k → ⊥) → SomeOf (λ d. Within d elevation azimuth k) ds
 
     module _ (P : Difference → Type 0) (of : (first next : ℕ) → Whole old new far first next → (old first ≡ new first → ⊥)
         → P (run_of first next)) where
@@ -176,10 +176,10 @@ module _ (elevation azimuth : ℕ) (old new : ℕ → ℕ) where
           }
         where
           cover : (k : ℕ) → first ≤ k → k ≤ far → (old k ≡ new k → ⊥)
-              → Some (λ d. Within d elevation azimuth k) (stretch elevation azimuth old new first next ++ rest)
+              → SomeOf (λ d. Within d elevation azimuth k) (stretch elevation azimuth old new first next ++ rest)
           cover k low high ne = go (ltb k next) refl
             where
-              go : (t : Bool) → ltb k next ≡ t → Some (λ d. Within d elevation azimuth k) (stretch elevation azimuth old new first
+              go : (t : Bool) → ltb k next ≡ t → SomeOf (λ d. Within d elevation azimuth k) (stretch elevation azimuth old new first
                   next ++ rest)
               go true e =
                   let u = ltb-true k next e in

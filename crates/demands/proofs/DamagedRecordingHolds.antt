@@ -14,9 +14,11 @@ use Rattle.salvage_spec.specs.Account.{Piece, Account, kept_in, runs_in}
 use Rattle.salvage_spec.specs.Theorems.{long_all, least_frame, Apart}
 use Rattle.salvage_spec.proofs.AccountLaws.{kept_told, skipped_told}
 use Rattle.salvage_spec.proofs.Theorems.{accounted_once, by_account, undamaged, again, refused-in_order, in_all, runs_apart, most_runs_lem, most_kept}
-use Rattle.salvage.specs.declared.SalvageAnswer.{SalvageAnswer}
-use Rattle.salvage.specs.declared.SalvageAnswer.TheVariants.{Salvaged, Refused}
-use Rattle.salvage.specs.Told.{tell_salvage}
+use Rattle.std.specs.Prelude.{Result, Ok, Err}
+use Rattle.wire.specs.declared.refusal.Refusal.{Refusal}
+use Rattle.wire.specs.declared.refusal.Refusal.TheVariants.{OutputSmall}
+use Rattle.salvage.specs.declared.Salvaged.{Salvaged}
+use Rattle.salvage.specs.Told.{reported, tell_salvage}
 use Rattle.salvage.proofs.Welds.{salvage_apart}
 use Rattle.c_salvage.specs.declared.UlmSalvage.{UlmSalvage}
 use Rattle.c_salvage.specs.Face.{salvage_face}
@@ -28,7 +30,7 @@ use Rattle.demands.proofs.Lent.{salvage_kept}
 abbrev right : Call → Outcome (List ℕ × List ℕ) Report
 right c = salvage_of c.buf.now c.out.now c.runs.now
 
-ends : (c : Call) (answer : SalvageAnswer) (left : List ℕ × List ℕ) → right c ≡ record { answer = tell_salvage answer; output = left }
+ends : (c : Call) (answer : Result Salvaged Refusal) (left : List ℕ × List ℕ) → right c ≡ record { answer = tell_salvage answer; output = left }
     → Ends c answer (salvage_face (tell_salvage answer)) left
 ends c = comes tell_salvage salvage_apart salvage_face (right c)
 
@@ -41,7 +43,7 @@ with_room : (c : Call) (pieces : List Piece) → Account c.buf.now pieces → le
 with_room c pieces a h k =
     let frames = kept_in pieces in
     let skipped = runs_in 0 pieces in
-    ends c (Salvaged (length frames) (length (flatten frames)) (length skipped))
+    ends c (Ok (record { kept = length frames; length = length (flatten frames); runs = length skipped }))
     (filled (flatten frames) c.out.now, filled (numbers skipped) c.runs.now)
     (by_pieces c pieces a ∙ (refused-in_order frames skipped c.out.now c.runs.now).enough h k)
 
@@ -51,7 +53,7 @@ no_runs : (c : Call) (frames : List (List ℕ)) → right c ≡ salvaged frames 
     → Reports c (length frames) (length (flatten frames)) 0 (filled (flatten frames) c.out.now) c.runs.now
 unfolding numbers flatten
 no_runs c frames e h =
-    ends c (Salvaged (length frames) (length (flatten frames)) 0) (filled (flatten frames) c.out.now, c.runs.now)
+    ends c (Ok (record { kept = length frames; length = length (flatten frames); runs = 0 })) (filled (flatten frames) c.out.now, c.runs.now)
     (e ∙ (refused-in_order frames [] c.out.now c.runs.now).enough h (omega arith))
 
 -- ---- what a salvage wrote
@@ -117,10 +119,10 @@ pub damaged_recording : DamagedRecording
 damaged_recording = record {
   one = accounted_once;
   little_output = λ c pieces a h.
-      ends c (Refused 13) (c.out.now, c.runs.now)
+      ends c (Err OutputSmall) (c.out.now, c.runs.now)
       (by_pieces c pieces a ∙ (refused-in_order (kept_in pieces) (runs_in 0 pieces) c.out.now c.runs.now).little_output h);
   few_runs = λ c pieces a h.
-      ends c (Refused 13) (c.out.now, c.runs.now)
+      ends c (Err OutputSmall) (c.out.now, c.runs.now)
       (by_pieces c pieces a ∙ (refused-in_order (kept_in pieces) (runs_in 0 pieces) c.out.now c.runs.now).few_runs h);
   enough = with_room;
   suffices = λ c pieces a h k.
@@ -131,8 +133,8 @@ damaged_recording = record {
   undamaged = λ c frames e p h.
       no_runs c frames (ap (λ (b : List ℕ). salvage_of b c.out.now c.runs.now) e
       ∙ undamaged frames c.out.now c.runs.now p) h;
-  again = λ c d kept long count out' runs' p b h.
-      wrote_again c d (record { kept = kept; long = long; runs = count }) out' (sym p.answers)
+  again = λ c d told out' runs' p b h.
+      wrote_again c d (reported told) out' (sym p.answers)
       (ap (λ (o : List ℕ × List ℕ). o.0) p.leaves) b h;
   again_for_c = wrote_for_c;
   all = λ b pieces a. in_account b pieces a (λ frames skipped. length (flatten frames) + long_all skipped ≡ length b) (in_all b);

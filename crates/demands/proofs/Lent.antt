@@ -12,12 +12,10 @@ use Rattle.wire.specs.Sizes.{bytes}
 use Rattle.wire.specs.declared.Bytes.{Bytes}
 use Rattle.wire.specs.Writing.{tell_write, filled, room_check, then_room, wrote_all, written}
 use Rattle.set_spec.specs.Walk.{set_of}
-use Rattle.set.specs.declared.Set.{Set}
 use Rattle.set.specs.Told.{set_says, tell_set}
 use Rattle.salvage_spec.specs.Walk.{kept_of, skipped_of}
 use Rattle.salvage_spec.specs.Salvage.{report, salvage_of}
-use Rattle.salvage.specs.declared.Salvage.{Salvage}
-use Rattle.salvage.specs.Told.{salvage_says, tell_salvage}
+use Rattle.salvage.specs.Told.{reported, tell_salvage}
 use Rattle.writer_head.specs.declared.Given.{Given}
 use Rattle.writer.specs.Writing.{frames_of, write_checks, write_of}
 use Rattle.request.specs.Request.{request_form, request_written}
@@ -25,8 +23,7 @@ use Rattle.censor.specs.Censor.{censor_form, censor_written}
 use Rattle.map_spec.specs.Reading.{map_checks, map_in}
 use Rattle.compare_spec.specs.Differences.{differences}
 use Rattle.compare_spec.specs.Comparing.{comparison, halfwords, comparison_of}
-use Rattle.compare.specs.declared.MapComparison.{MapComparison}
-use Rattle.compare.specs.Told.{comparison_says, tell_compare}
+use Rattle.compare.specs.Told.{compared_as, tell_compare}
 use Rattle.demands.specs.Notions.{KeptLent}
 use Rattle.demands.specs.Orders.{set_checks, comparison_checks, salvage_checks}
 use Rattle.demands.proofs.ByChecksLaws.{inside, inside_join, by_outcome, outcome_untouched, kept-lent}
@@ -70,7 +67,9 @@ pub compare_kept : (old new out : List ℕ)
     → KeptLent (Promise tell_compare (comparison_of old new out)) tell_compare (comparison_checks old new (length out))
     (comparison_of old new out) out
 compare_kept old new out =
-    all_kept comparison_says (λ c. record { old_elevations = c.old_elevations; new_elevations = c.new_elevations; differences = c.differences }) (λ v. refl) (λ x. refl) (map_checks old ++ map_checks new) (comparison (map_in old) (map_in new))
+    all_kept compared_as
+    (λ c. record { old_elevations = c.old_elevations; new_elevations = c.new_elevations; differences = c.differences }) (λ v. refl) (λ x. refl)
+    (map_checks old ++ map_checks new) (comparison (map_in old) (map_in new))
     (halfwords (differences (map_in old) (map_in new))) out (inside_join (map_checks old) (map_checks new) (map_inside old) (map_inside new))
 
 pub set_kept : (frames out : List ℕ) → KeptLent (Promise tell_set (set_of frames out)) tell_set (set_checks frames (length out))
@@ -84,6 +83,6 @@ unfolding salvage_of
 salvage_kept b out runs =
     let all = salvage_checks b out runs in
     let v = report (kept_of b) (skipped_of b) in
-    kept-lent salvage_says (λ s. record { kept = s.kept; length = s.long; runs = s.runs }) (λ v. refl) (λ x. refl) all (salvage_of b out runs) (out, runs)
+    kept-lent reported (λ s. record { kept = s.kept; length = s.long; runs = s.runs }) (λ v. refl) (λ x. refl) all (salvage_of b out runs) (out, runs)
     (by_outcome all (out, runs) v _ refl)
     (outcome_untouched all (out, runs) v _)

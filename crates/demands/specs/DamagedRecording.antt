@@ -4,7 +4,7 @@
 use Rattle.std.specs.Prelude.{ℕ, suc, ◌+◌, ◌*◌, ◌/◌, ◌≤◌, ◌<◌, ◌≡◌, length, take, Result, Ok, Err}
 use Rattle.wire.specs.declared.refusal.Refusal.{Refusal}
 use Rattle.wire.specs.declared.refusal.Refusal.TheVariants.{OutputSmall}
-use Rattle.salvage.specs.declared.Salvage.{Salvage}
+use Rattle.salvage.specs.declared.Salvaged.{Salvaged}
 use mathlib.Core.List.{List, flatten}
 use contract.Lifetimes.{Lfts}
 use denote.Ref.{Bor, MutBor, at_last}
@@ -30,7 +30,7 @@ pub record Call : Type 0 where
   pub buf' : Bor (List ℕ)
 
 -- what the contract says of a call that returned r and left these two in the outputs: of `salvage`, and of `ulm_salvage`
-abbrev pub Salvages : Call → Result Salvage Refusal → List ℕ × List ℕ → Type 0
+abbrev pub Salvages : Call → Result Salvaged Refusal → List ℕ × List ℕ → Type 0
 Salvages c r left = salvage.Learnt c.κs (c.buf, (c.out, (c.runs, tt))) r
     (c.buf', (at_last c.out left.0, (at_last c.runs left.1, tt)))
 
@@ -40,7 +40,7 @@ SalvagesForC c r left =
     (c.buf', (at_last c.out left.0, (at_last c.runs left.1, tt)))
 
 -- the result of both calls
-abbrev pub Ends : Call → Result Salvage Refusal → UlmSalvage → List ℕ × List ℕ → Type 0
+abbrev pub Ends : Call → Result Salvaged Refusal → UlmSalvage → List ℕ × List ℕ → Type 0
 Ends c = Comes (Salvages c) (SalvagesForC c)
 
 -- "13 and nothing written"; all numbers that are reported are 0
@@ -50,7 +50,7 @@ Refuses c = Ends c (Err OutputSmall) (salvage_face (refused 13)) (c.out.now, c.r
 -- "the number of frames kept", the bytes written, the number of runs
 abbrev pub Reports : Call → ℕ → ℕ → ℕ → List ℕ → List ℕ → Type 0
 Reports c kept long count left listed =
-    Ends c (Salvaged kept long count) (record { refusal = 0; kept = kept; length = long; runs = count }) (left, listed)
+    Ends c (Ok (record { kept = kept; length = long; runs = count })) (record { refusal = 0; kept = kept; length = long; runs = count }) (left, listed)
 
 -- the frames kept in order and each run as place and length, each from its output's start on, and after them what stood there
 abbrev pub Tells : Call → List (List ℕ) → List Run → Type 0
@@ -78,9 +78,9 @@ pub record DamagedRecording : Type 0 where
       → length (flatten frames) ≤ length c.out.now
       → Reports c (length frames) (length (flatten frames)) 0 (filled (flatten frames) c.out.now) c.runs.now
   -- the bytes that a salvage wrote, given to the call d, come out unchanged with no runs
-  pub again : (c d : Call) (kept long count : ℕ) (out' runs' : List ℕ) → Salvages c (Salvaged kept long count) (out', runs')
-      → d.buf.now ≡ take long out' → long ≤ length d.out.now
-      → Reports d kept long 0 (filled (take long out') d.out.now) d.runs.now
+  pub again : (c d : Call) (told : Salvaged) (out' runs' : List ℕ) → Salvages c (Ok told) (out', runs')
+      → d.buf.now ≡ take told.length out' → told.length ≤ length d.out.now
+      → Reports d told.kept told.length 0 (filled (take told.length out') d.out.now) d.runs.now
   pub again_for_c : (c d : Call) (r : UlmSalvage) (out' runs' : List ℕ) → SalvagesForC c r (out', runs') → r.refusal ≡ 0
       → d.buf.now ≡ take r.length out' → r.length ≤ length d.out.now
       → Reports d r.kept r.length 0 (filled (take r.length out') d.out.now) d.runs.now

@@ -2,7 +2,7 @@
 -- listed, over the codes of the two maps: sound, complete, of longest runs and in order.
 use Rattle.std.specs.Prelude.{ℕ, ◌*◌, ◌≤◌, ◌<◌, ◌≡◌, List, map, length, Result, Ok, Err}
 use Rattle.wire.specs.declared.refusal.Refusal.{Refusal}
-use Rattle.compare.specs.declared.MapComparison.{MapComparison}
+use Rattle.compare.specs.declared.Comparison.{Comparison as MapComparison}
 use contract.Lifetimes.{Lfts}
 use denote.Ref.{Bor, MutBor, at_last}
 use Rattle.wire.specs.Properties.{One}

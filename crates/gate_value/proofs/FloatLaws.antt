@@ -15,7 +15,7 @@ use lib.Ieee.Scale.{finite}
 use borrow.Author.Tests.{eqb-true, eqb-false, eq-eqb, ne_eqb, le-leb, lt-leb, leb-true, leb-false, lt-ltb, ltb-true}
 use Rattle.wire.specs.Numbers.{infinite, sign}
 use Rattle.wire.specs.Checks.{either, both, some_broken}
-use Rattle.wire.proofs.CheckLaws.{either_false, either_true, neither}
+use Rattle.wire.proofs.CheckLaws.{either_false, either_true}
 use Rattle.wire.proofs.FloatLaws.{no_nan}
 use Rattle.gate_value.specs.Value.{float, not_finite, not_above0, value_checks}
 
@@ -153,11 +153,3 @@ pub finite_no_nan : (bits : ℕ) → not_finite bits ≡ false → nan_bits bina
 finite_no_nan bits h =
     let k = leb-false infinite (bits % sign) (sym (not_finite_bits bits) ∙ h) in
     no_nan bits (omega arith)
-
--- where no test of 22 is broken, both are finite
-pub both_finite : (scale offset : ℕ) → some_broken (value_checks scale offset) ≡ false
-    → (not_finite scale ≡ false) × (not_finite offset ≡ false)
-both_finite scale offset h =
-    let p = neither (not_finite scale) _ h in
-    let q = neither (not_above0 scale) _ p.1 in
-    (p.0, (neither (not_finite offset) false q.1).0)

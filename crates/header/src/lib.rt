@@ -153,7 +153,7 @@ pub fn check_header(s: Stored, long: usize) -> Result<(), Refusal>
     if long < HEADER {
         return Err(Refusal::MessageShort);
     }
-    if s.breaks_form(long) {
+    if header_rule::breaks_form(s, long) {
         return Err(Refusal::Size);
     }
     let h = report(s);
@@ -173,9 +173,9 @@ pub fn check_header(s: Stored, long: usize) -> Result<(), Refusal>
 fn report(s: Stored) -> Header
     ensures { result ≡ as_reported s }
 {
-    let size = s.reported_size();
-    let segments = s.reported_count();
-    let number = number_of(segments, s.number);
+    let size = header_rule::size_of(s);
+    let segments = header_rule::count_of(s);
+    let number = if segments == 1 { 1 } else { s.number };
     Header {
         size,
         channel: s.channel,
@@ -186,13 +186,4 @@ fn report(s: Stored) -> Header
         segments,
         number,
     }
-}
-
-fn number_of(segments: u16, number: u16) -> u16
-    ensures { result ≡ reported_number segments number }
-{
-    if segments != 1 {
-        return number;
-    }
-    1
 }

@@ -5,9 +5,9 @@ use Rattle.wire.specs.Checks.{some_broken}
 use Rattle.header_rule.specs.Rules.{form_checks, not_permitted, reported_count, reported_number, reported_size, segment_checks, size_checks}
 use Rattle.header_rule.specs.Rules.{time_checks}
 use Rattle.header_rule.proofs.breaks_size.Reads as breaks_size
-use Rattle.header_rule.proofs.Stored.breaks_form.Reads as breaks_form
-use Rattle.header_rule.proofs.Stored.reported_size.Reads as reported_size_reads
-use Rattle.header_rule.proofs.Stored.reported_count.Reads as reported_count_reads
+use Rattle.header_rule.proofs.breaks_form.Reads as breaks_form
+use Rattle.header_rule.proofs.size_of.Reads as type_size
+use Rattle.header_rule.proofs.count_of.Reads as count_of
 use Rattle.header_rule.proofs.breaks_type.Reads as breaks_type
 use Rattle.header_rule.proofs.breaks_segment.Reads as breaks_segment
 use Rattle.header_rule.proofs.breaks_time.Reads as breaks_time
@@ -27,19 +27,19 @@ pub breaks_form-one : (κs s long r r₂ last last₂ : _) → breaks_form.Learn
     → breaks_form.Learnt κs (s, (long, tt)) r₂ last₂ → r ≡ r₂
 breaks_form-one κs s long r r₂ last last₂ l l₂ = l ∙ sym l₂
 
-pub reported_size-says : (κs s r last : _) → reported_size_reads.Learnt κs (s, tt) r last → r ≡ reported_size s.size s.kind s.segments s.number
-reported_size-says κs s r last l = l
+pub size_of-says : (κs s r last : _) → type_size.Learnt κs (s, tt) r last → r ≡ reported_size s.size s.kind s.segments s.number
+size_of-says κs s r last l = l
 
-pub reported_size-one : (κs s r r₂ last last₂ : _) → reported_size_reads.Learnt κs (s, tt) r last
-    → reported_size_reads.Learnt κs (s, tt) r₂ last₂ → r ≡ r₂
-reported_size-one κs s r r₂ last last₂ l l₂ = l ∙ sym l₂
+pub size_of-one : (κs s r r₂ last last₂ : _) → type_size.Learnt κs (s, tt) r last
+    → type_size.Learnt κs (s, tt) r₂ last₂ → r ≡ r₂
+size_of-one κs s r r₂ last last₂ l l₂ = l ∙ sym l₂
 
-pub reported_count-says : (κs s r last : _) → reported_count_reads.Learnt κs (s, tt) r last → r ≡ reported_count s.size s.kind s.segments
-reported_count-says κs s r last l = l
+pub count_of-says : (κs s r last : _) → count_of.Learnt κs (s, tt) r last → r ≡ reported_count s.size s.kind s.segments
+count_of-says κs s r last l = l
 
-pub reported_count-one : (κs s r r₂ last last₂ : _) → reported_count_reads.Learnt κs (s, tt) r last
-    → reported_count_reads.Learnt κs (s, tt) r₂ last₂ → r ≡ r₂
-reported_count-one κs s r r₂ last last₂ l l₂ = l ∙ sym l₂
+pub count_of-one : (κs s r r₂ last last₂ : _) → count_of.Learnt κs (s, tt) r last
+    → count_of.Learnt κs (s, tt) r₂ last₂ → r ≡ r₂
+count_of-one κs s r r₂ last last₂ l l₂ = l ∙ sym l₂
 
 pub breaks_type-says : (κs kind r last : _) → breaks_type.Learnt κs (kind, tt) r last → r ≡ not_permitted kind
 breaks_type-says κs kind r last l = l

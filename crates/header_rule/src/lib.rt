@@ -51,54 +51,6 @@ pub struct Stored {
     pub number: u16,
 }
 
-impl Stored {
-    // Whether the size breaks its rule: in the short form by the size, in the long form by the length in the two segment fields.
-    pub fn breaks_form(self, long: usize) -> bool
-        ensures { result ≡ some_broken (form_checks self.size self.kind self.segments self.number long) }
-    {
-        if self.size.0 != LONG_MARK {
-            return breaks_size(self.size, long);
-        }
-        if self.kind != RADIAL {
-            return false;
-        }
-        breaks_length(self.length(), long)
-    }
-
-    // The size as it is reported: in the long form half of the length.
-    pub fn reported_size(self) -> Halfwords
-        ensures { result ≡ reported_size self.size self.kind self.segments self.number }
-    {
-        if self.is_long() {
-            return wire::to_halfwords(self.length());
-        }
-        self.size
-    }
-
-    // N as it counts: the long form is one segment.
-    pub fn reported_count(self) -> u16
-        ensures { result ≡ reported_count self.size self.kind self.segments }
-    {
-        if self.is_long() {
-            return 1;
-        }
-        self.segments
-    }
-
-    // The length that the two segment fields hold in the long form, high half first.
-    fn length(self) -> Bytes
-        ensures { result ≡ length_in self.segments self.number }
-    {
-        Bytes(self.segments as u32 * 65536 + self.number as u32)
-    }
-
-    fn is_long(self) -> bool
-        ensures { result ≡ long_form self.size self.kind }
-    {
-        self.size.0 == LONG_MARK && self.kind == RADIAL
-    }
-}
-
 // Whether the size of a message of `long` bytes is out of range or not half of `long`. A size that is half of `long` is in range where
 // `long` is. The compiler drops the first test where the caller has made it.
 pub fn breaks_size(size: Halfwords, long: usize) -> bool
@@ -117,6 +69,26 @@ pub fn breaks_size(size: Halfwords, long: usize) -> bool
     long % 2 != 0
 }
 
+// Whether the size breaks its rule: in the short form by the size, in the long form by the length in the two segment fields.
+pub fn breaks_form(s: Stored, long: usize) -> bool
+    ensures { result ≡ some_broken (form_checks s.size s.kind s.segments s.number long) }
+{
+    if s.size.0 != LONG_MARK {
+        return breaks_size(s.size, long);
+    }
+    if s.kind != RADIAL {
+        return false;
+    }
+    breaks_length(length_in(s), long)
+}
+
+// The length that the two segment fields hold in the long form, high half first.
+fn length_in(s: Stored) -> Bytes
+    ensures { result ≡ length_in s.segments s.number }
+{
+    Bytes(s.segments as u32 * 65536 + s.number as u32)
+}
+
 fn breaks_length(told: Bytes, long: usize) -> bool
     ensures { result ≡ some_broken (length_checks told long) }
 {
@@ -130,6 +102,32 @@ fn breaks_length(told: Bytes, long: usize) -> bool
         return true;
     }
     told.0 as usize != long
+}
+
+// The size as it is reported: in the long form half of the length.
+pub fn size_of(s: Stored) -> Halfwords
+    ensures { result ≡ reported_size s.size s.kind s.segments s.number }
+{
+    if is_long(s) {
+        return wire::to_halfwords(length_in(s));
+    }
+    s.size
+}
+
+// N as it counts: the long form is one segment.
+pub fn count_of(s: Stored) -> u16
+    ensures { result ≡ reported_count s.size s.kind s.segments }
+{
+    if is_long(s) {
+        return 1;
+    }
+    s.segments
+}
+
+fn is_long(s: Stored) -> bool
+    ensures { result ≡ long_form s.size s.kind }
+{
+    s.size.0 == LONG_MARK && s.kind == RADIAL
 }
 
 // Whether a type is not permitted. Radials are tested first because most messages are radials.

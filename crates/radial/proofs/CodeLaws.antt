@@ -1,13 +1,13 @@
 -- The code of a gate: the word of its moment's block that its number counts to. Assumes nothing.
-use Prim.Native.Nat.{ℕ, suc, ◌+◌, ◌-◌, ◌*◌, ◌/◌, ◌^◌, ◌≤◌, ◌<◌}
-use native.Mathlib.Nat.{add-zero, suc-mul, mul-le-mul_right}
+use Prim.Native.Nat.{ℕ, ◌+◌, ◌-◌, ◌*◌, ◌/◌, ◌≤◌}
+use native.Mathlib.Nat.{add-zero}
 use native.Mathlib.Omega.{arith}
 use mathlib.Core.Path.{◌≡◌, refl, sym, ap, subst, ◌∙◌}
 use mathlib.Core.Bool.{Bool, true, false}
 use mathlib.Core.List.{List}
 use lib.Dec.{leb}
 use lib.ListN.{length, get_or, take, drop}
-use borrow.Author.Tests.{le-leb, lt-leb, leb-false}
+use borrow.Author.Tests.{leb-false}
 use Rattle.wire.specs.Numbers.{num, fetched, Octets}
 use Rattle.wire.specs.Checks.{pick}
 use Rattle.wire.specs.Answers.{Answer, refused, given, onward}
@@ -18,7 +18,7 @@ use Rattle.wire.proofs.OnwardLaws.{shows_given, shows_refused}
 use Rattle.radial_spec.proofs.Naming.{code_at, found_lies}
 use Rattle.radial_head.specs.declared.MomentHead.{MomentHead}
 use Rattle.radial.specs.Told.{head_of, head_shown, code_shown}
-use Rattle.radial.specs.Steps.{WordThere, code_in, GatesThere, coded_by}
+use Rattle.radial.specs.Steps.{code_in, GatesThere, coded_by}
 
 -- ---- the code of a gate, one fact over the word width
 -- a fetch of k bytes at the gate's word
@@ -29,20 +29,6 @@ fetched-code k b p w i n r e f h g =
     ∙ ap (num k b) (add-zero n ∙ f)
     ∙ sym (num-drop k b p (moment_head + i * k))
     ∙ ap (λ (x : ℕ). num x (drop p b) (moment_head + i * x)) (sym e)
-
--- ---- a gate of the moment with this head
-module _ (b : List ℕ) (h : MomentHead) (i : ℕ) where
-  pub no_gate : h.gates ≤ i → refused 21 ≡ coded_by b h i
-  no_gate k = simp (le-leb h.gates i k)
-
-  pub gate_coded : (x : ℕ) → i < h.gates → x ≡ code_in b h.place h.word i → given (record { code = x; head = h }) ≡ coded_by b h i
-  gate_coded x k e = simp (lt-leb h.gates i k, e)
-
-  pub word_there : h.place < 2 ^ 32 → GatesThere b h → i < h.gates → WordThere b h.place h.word i
-  word_there l t k =
-      let w = h.word / 8 in
-      let r : suc i * w ≤ h.gates * w = mul-le-mul_right w k in
-      record { sized = t.sized; few = omega (arith, t.few, k); within = omega (arith, t.within, suc-mul i w); low = l }
 
 -- ---- what a moment's head says
 pub gates_there : (b : List ℕ) (name : ℕ) (h : MomentHead) → Octets b → given h ≡ head_shown (moment_of b name) → GatesThere b h

@@ -46,9 +46,6 @@ pub record Filling (b : List ℕ) (n : ℕ) (heads : List MomentHead) (i : ℕ) 
   pub small : n ≤ most_moments
   pub filled : heads ≡ map head_of (moments_at b moment_pointer i) ++ replicate (most_moments - i) no_head
 
-pub fill_begins : (b : List ℕ) (n : ℕ) → n ≤ most_moments → Filling b n (replicate most_moments no_head) 0
-fill_begins b n h = record { below = omega arith; small = h; filled = refl }
-
 module _ (b : List ℕ) (n : ℕ) (heads : List MomentHead) (i : ℕ) (g : Filling b n heads i) where
   pub fill-turns : (h : MomentHead) → i < n → h ≡ head_of (moment_at (pointer b (moment_pointer + 4 * i)) (part b (moment_pointer + 4 * i)))
       → Filling b n (set heads i h) (i + 1)

@@ -6,7 +6,7 @@ use mathlib.Core.List.{List}
 use lib.Dec.{eqb}
 use lib.ListN.{length, drop}
 use borrow.Author.Tests.{eq-eqb, ne_eqb}
-use Rattle.std.specs.Prelude.{None, Some}
+use Rattle.std.specs.Prelude.{Some}
 use Rattle.wire.specs.Numbers.{fetched}
 use Rattle.wire.specs.Checks.{pick}
 use Rattle.wire.proofs.NumberLaws.{fetched-whole}
@@ -73,6 +73,3 @@ module _ (b : List ℕ) (name n k : ℕ) (s : Searching b name n k) where
         counts = s.counts;
         same = sym (this-block ∙ simp (ne_eqb (name_in (part b at)) name (λ q. h (sym named ∙ q)))) ∙ s.same;
       }
-
-  pub search_ends : n ≤ k → None ≡ place_in b name
-  search_ends h = let e : n - k ≡ 0 = omega arith in sym (ap (place_from b name at) e) ∙ s.same

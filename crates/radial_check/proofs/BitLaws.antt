@@ -7,11 +7,11 @@ use mathlib.Core.Path.{◌≡◌, refl, sym, ap, ◌∙◌}
 use mathlib.Core.Bool.{Bool, true, false, not}
 use mathlib.Core.List.{List, [], ◌∷◌, ◌++◌}
 use lib.Bits.{bit_and, bit_or, and_step, or_step, or_shr, and_zero_l, and_zero_r, shifted_half, shifted_even}
-use lib.Dec.{eqb, ltb}
-use lib.ListN.{length, get_or, drop, drop_of_length-le}
+use lib.Dec.{eqb}
+use lib.ListN.{length, get_or, drop}
 use lib.Seq.{drop-cons}
 use lib.Pow.{pow_pos, shr-shr}
-use borrow.Author.Tests.{eqb-true, eq-eqb, ne_eqb, ltb-true}
+use borrow.Author.Tests.{eqb-true, eq-eqb, ne_eqb}
 use Rattle.wire.specs.Numbers.{fetched}
 use Rattle.wire.specs.Checks.{pick, either, both, among}
 use Rattle.wire.proofs.CheckLaws.{either_false, both_true, never}
@@ -84,13 +84,6 @@ module _ (table : List (List ℕ)) (n bit i : ℕ) (s : Seeking table n bit i) w
       power = ap (λ (k : ℕ). k * 2) s.power ∙ sym (ap (λ (k : ℕ). 2 ^ k) (add-one i) ∙ pow-suc 2 i);
       same = sym (this_name permitted i n more ∙ simp (ne_eqb n (get_or permitted i 0) (λ q. ne (row-name ∙ sym q)))) ∙ s.same;
     }
-
-  pub seek-fits : i < length permitted → bit * 2 < 2 ^ 32
-  seek-fits more =
-      rw s.power (ltb-true (2 ^ i * 2) (2 ^ 32) (below (λ (k : ℕ). ltb (2 ^ k * 2) (2 ^ 32)) (length permitted) refl i more))
-
-  pub seek_ends : length permitted ≤ i → 0 ≡ bit_of n
-  seek_ends h = sym (ap (λ (l : List ℕ). bit_from i l n) (drop_of_length-le permitted h)) ∙ s.same
 
 -- ---- digits
 small : (i j n : ℕ) → i < 2 → j < 2 → eqb ((n * 2 + max i j) % 2) 1 ≡ either (eqb i 1) (eqb j 1)

@@ -25,9 +25,6 @@ module _ (b : List ℕ) where
   abbrev left : ℕ → Answer (ℕ × ℕ)
   left k = rule (drop k (header_checks b [])) (size_in b, count_in b)
 
-  pub short_body : length b < header_size → refused 14 ≡ start_of b
-  short_body h = simp (lt-ltb (length b) header_size h)
-
   module _ (long : header_size ≤ length b) (x : ℕ) (e : x ≡ fetched 1 b compression_place) where
     compression : num 1 b compression_place ≡ x
     compression = number_is 1 b compression_place x e (omega arith)
@@ -92,9 +89,6 @@ module _ (z p : ℕ) (h : Key) (seen bit : ℕ) (is : bit ≡ bit_of h.name) whe
   module _ (some : bit ≡ 0 → ⊥) where
     known : rest 1 ≡ moment_in z p h seen
     known = simp (permits ∙ ap not (ne_eqb bit 0 some))
-
-    pub repeated-name : (bit_and seen bit ≡ 0 → ⊥) → refused 19 ≡ moment_in z p h seen
-    repeated-name e = let r : refused 19 ≡ rest 1 = simp (marks ∙ ap not (ne_eqb (bit_and seen bit) 0 e)) in r ∙ known
 
     module _ (new : bit_and seen bit ≡ 0) where
       after-19 : rest 2 ≡ moment_in z p h seen

@@ -16,11 +16,6 @@ use Rattle.radial_gates.specs.declared.Located.{Located}
 use Rattle.radial_gates.specs.Told.{count_of, part_of}
 use Rattle.radial_gates.specs.Steps.{located, Locates}
 
--- a moment that is refused is not located
-pub located-refused : (b : List ℕ) (n k : ℕ) → refused k ≡ head_shown (moment_of b n)
-    → refused k ≡ onward (moment_of b n) (λ m. given (located m))
-located-refused b n k e = rw (shows_refused (moment_of b n) head_of k e) refl
-
 -- one that is given lies where its head says, inside the body
 pub located-given : (b : List ℕ) (n : ℕ) (h : MomentHead) (z : ℕ) → Octets b → given h ≡ head_shown (moment_of b n)
     → z ≡ moment_bytes h.gates h.word

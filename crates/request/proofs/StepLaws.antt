@@ -11,6 +11,7 @@ use Rattle.wire.specs.Numbers.{num, be}
 use Rattle.wire.specs.Answers.{refused, given, refusal}
 use Rattle.wire.specs.Writing.{wrote}
 use Rattle.form_spec.specs.Forms.{outside}
+use Rattle.wire.proofs.NumberLaws.{number_is, stored-whole}
 use Rattle.wire.proofs.CheckLaws.{pick_same}
 use Rattle.request.specs.Request.{permitted, request_of, request_written}
 
@@ -47,3 +48,8 @@ module _ (list out : List ℕ) where
     pub list-fine : outside permitted (get_or list 0 0) ≡ false → 2 ≤ length out → request_written list out ≡ wrote (be 2 (get_or list 0 0)) out
     unfolding request_written
     list-fine p r = simp (le-ltb (length list) 1 (omega arith), eq-eqb (length list) 1 h, p, le-ltb (length out) 2 r)
+
+-- ---- what the check tries on the reader and on the writer
+pub ruleset reads = (body_long, body-code, body-fine, number_is)
+
+pub ruleset writes = (list-long, list_code, list-room, list-fine, stored-whole)

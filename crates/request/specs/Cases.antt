@@ -10,15 +10,15 @@ pub data Case : Type 0 where
   read : List ℕ → Answer ℕ → Case
   write : List ℕ → List ℕ → Outcome (List ℕ) Bytes → Case
 
-pub data Result : Type 0 where
-  answered : Answer ℕ → Result
-  wrote : Outcome (List ℕ) Bytes → Result
+pub data Reply : Type 0 where
+  answered : Answer ℕ → Reply
+  wrote : Outcome (List ℕ) Bytes → Reply
 
-abbrev pub found : Case → Result
+abbrev pub found : Case → Reply
 found (read body answer) = answered (request_of body)
 found (write list out outcome) = wrote (request_written list out)
 
-abbrev pub right : Case → Result
+abbrev pub right : Case → Reply
 right (read body answer) = answered answer
 right (write list out outcome) = wrote outcome
 

@@ -17,12 +17,14 @@ const SIZE: usize = 2;
 const PERMITTED: [u16; 6] = [129, 130, 132, 136, 144, 160];
 
 // Whether a code is not one of those permitted.
+#[tactic(auto, using(wire::proofs::CheckLaws::among_any), unfolding(form_spec::specs::Forms::outside))]
 fn breaks_code(code: u16) -> bool
     ensures { result ≡ outside permitted code }
 {
     !PERMITTED.contains(&code)
 }
 
+#[tactic(auto, using(crate::proofs::StepLaws::reads))]
 pub fn read_request(body: &[u8]) -> Result<u16, Refusal>
     ensures { tell_request result ≡ request_of body.now }
 {
@@ -36,6 +38,7 @@ pub fn read_request(body: &[u8]) -> Result<u16, Refusal>
     Ok(code)
 }
 
+#[tactic(auto, using(crate::proofs::StepLaws::writes))]
 pub fn write_request(list: &[u16], out: &mut [u8]) -> Result<Bytes, Refusal>
     ensures { Promise tell_write (request_written list.now out.old) result out.new }
 {

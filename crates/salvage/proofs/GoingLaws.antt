@@ -15,6 +15,7 @@ use Rattle.salvage_spec.specs.Walk.{Step, Run, run, steps_of, frames_of, runs_of
 use Rattle.salvage_spec.specs.Salvage.{two_of, numbers}
 use Rattle.salvage_spec.proofs.RunLaws.{run_none}
 use Rattle.salvage_spec.proofs.InTurn.{numbers-length}
+use Rattle.salvage.specs.declared.Salvaged.{Salvaged}
 use Rattle.salvage.specs.declared.Stretch.{Stretch}
 use Rattle.salvage_find.specs.Steps.{FoundFrom}
 use Rattle.salvage.specs.Steps.{StretchFrom, WalkedOver}
@@ -31,7 +32,7 @@ run_most first next = go (eqb first next)
     go false = omega arith
 
 -- ---- the walk, come to a place with so many frames, bytes and runs
-pub record Going (b out₀ runs₀ : List ℕ) (at frames long count : ℕ) (out runs : List ℕ) : Type 0 where
+pub record Going (b out₀ runs₀ : List ℕ) (at : ℕ) (t : Salvaged) (out runs : List ℕ) : Type 0 where
   pub within : at ≤ length b
   pub had : List (List ℕ)
   pub lost : List Run
@@ -40,17 +41,17 @@ pub record Going (b out₀ runs₀ : List ℕ) (at frames long count : ℕ) (out
   pub parts_are : flatten parts ≡ flatten had
   pub all_frames : kept_of b ≡ had ++ frames_of (steps_of (drop at b))
   pub all_runs : skipped_of b ≡ lost ++ runs_of at at (steps_of (drop at b))
-  pub frames_is : frames ≡ length had
-  pub frames_fit : frames ≤ at
-  pub long_fits : long ≤ at
-  pub count_fits : count ≤ at
-  pub output : sheet long out ≡ onto parts (sheet 0 out₀)
-  pub listed : sheet (2 * count) runs ≡ onto (map two_of lost) (sheet 0 runs₀)
+  pub frames_is : t.kept ≡ length had
+  pub frames_fit : t.kept ≤ at
+  pub long_fits : t.length ≤ at
+  pub count_fits : t.runs ≤ at
+  pub output : sheet t.length out ≡ onto parts (sheet 0 out₀)
+  pub listed : sheet (2 * t.runs) runs ≡ onto (map two_of lost) (sheet 0 runs₀)
   pub out_long : length out ≡ length out₀
   pub runs_long : length runs ≡ length runs₀
 
-pub going_start : (b out runs : List ℕ) → Going b out runs 0 0 0 0 out runs
-going_start b out runs = record {
+pub going_start : (b out runs : List ℕ) (t : Salvaged) → (t.kept ≡ 0) × ((t.length ≡ 0) × (t.runs ≡ 0)) → Going b out runs 0 t out runs
+going_start b out runs t z = record {
   within = omega arith;
   had = [];
   lost = [];
@@ -58,22 +59,22 @@ going_start b out runs = record {
   parts_are = refl;
   all_frames = refl;
   all_runs = refl;
-  frames_is = refl;
-  frames_fit = omega arith;
-  long_fits = omega arith;
-  count_fits = omega arith;
-  output = refl;
-  listed = refl;
+  frames_is = z.0;
+  frames_fit = omega (arith, z.0);
+  long_fits = omega (arith, z.1.0);
+  count_fits = omega (arith, z.1.1);
+  output = ap (λ (n : ℕ). sheet n out) z.1.0;
+  listed = ap (λ (n : ℕ). sheet (2 * n) runs) z.1.1;
   out_long = refl;
   runs_long = refl;
 }
 
-module _ {b out₀ runs₀ : List ℕ} {at frames long count : ℕ} {out runs : List ℕ} (g : Going b out₀ runs₀ at frames long count out runs) where
+module _ {b out₀ runs₀ : List ℕ} {at : ℕ} {t : Salvaged} {out runs : List ℕ} (g : Going b out₀ runs₀ at t out runs) where
   -- a run, and the frames after it: the run is listed, and their bytes are put
   module _ (more : at < length b) {place : ℕ} (f : FoundFrom b at place) {frames' : Stretch} (s : StretchFrom b place frames')
-      (count' : ℕ) (runs' : List ℕ) (r : sheet (2 * count') runs' ≡ onto (map two_of (run at place)) (sheet (2 * count) runs))
+      (count' : ℕ) (runs' : List ℕ) (r : sheet (2 * count') runs' ≡ onto (map two_of (run at place)) (sheet (2 * t.runs) runs))
       (runs_long : length runs' ≡ length runs) (long' : ℕ) (out' : List ℕ)
-      (l : sheet long' out' ≡ lay (take (frames'.next - place) (drop place b)) (sheet long out)) (out_long : length out' ≡ length out) where
+      (l : sheet long' out' ≡ lay (take (frames'.next - place) (drop place b)) (sheet t.length out)) (out_long : length out' ≡ length out) where
     abbrev next : ℕ
     next = frames'.next
 
@@ -89,16 +90,16 @@ module _ {b out₀ runs₀ : List ℕ} {at frames long count : ℕ} {out runs : 
         let d = length-drop place b in
         length-take-le (next - place) (drop place b) (omega arith)
 
-    longer : long' ≡ long + length bytes
+    longer : long' ≡ t.length + length bytes
     unfolding lay
     longer = ap (λ (s : Sheet). s.long) l
 
     -- a run more, or none
-    counted : count' ≡ count + length (run at place)
+    counted : count' ≡ t.runs + length (run at place)
     unfolding numbers
     counted =
-        let e : 2 * count' ≡ 2 * count + length (numbers (run at place)) =
-        ap (λ (s : Sheet). s.long) r ∙ onto-long (map two_of (run at place)) (sheet (2 * count) runs) in
+        let e : 2 * count' ≡ 2 * t.runs + length (numbers (run at place)) =
+        ap (λ (s : Sheet). s.long) r ∙ onto-long (map two_of (run at place)) (sheet (2 * t.runs) runs) in
         omega (arith, e, numbers-length (run at place))
 
     parts_are : flatten (g.parts ++ (bytes ∷ [])) ≡ flatten (g.had ++ each)
@@ -122,7 +123,7 @@ module _ {b out₀ runs₀ : List ℕ} {at frames long count : ℕ} {out runs : 
     runs-next = runs_there f.before ∙ runs_closed b at place f.stood f.before.within
         ∙ ap (λ (x : List Run). run at place ++ x) s.frames.none
 
-    pub going_on : Going b out₀ runs₀ next (frames + frames'.frames) long' count' out' runs'
+    pub going_on : Going b out₀ runs₀ next (record { kept = t.kept + frames'.frames; length = long'; runs = count' }) out' runs'
     going_on =
         let w = f.before.forward in
         let c = counted in
@@ -150,14 +151,14 @@ module _ {b out₀ runs₀ : List ℕ} {at frames long count : ℕ} {out runs : 
         }
 
   -- to the end
-  pub going_ends : length b ≤ at → WalkedOver b out₀ runs₀ (record { kept = frames; long = long; runs = count }) out runs
+  pub going_ends : length b ≤ at → WalkedOver b out₀ runs₀ t out runs
   unfolding frames_of runs_of numbers
   going_ends h = record {
     kept = g.frames_is ∙ sym (ap length frames-all);
-    long = all_counted g.parts (flatten (kept_of b)) out₀ long out bytes-all g.output;
+    long = all_counted g.parts (flatten (kept_of b)) out₀ t.length out bytes-all g.output;
     count = omega (arith, twice, numbers-length (skipped_of b));
-    output = all_laid g.parts (flatten (kept_of b)) out₀ long out bytes-all g.output;
-    listed = λ room. all_laid (map two_of g.lost) (numbers (skipped_of b)) runs₀ (2 * count) runs numbers-all g.listed
+    output = all_laid g.parts (flatten (kept_of b)) out₀ t.length out bytes-all g.output;
+    listed = λ room. all_laid (map two_of g.lost) (numbers (skipped_of b)) runs₀ (2 * t.runs) runs numbers-all g.listed
         (omega (arith, room, numbers-length (skipped_of b)));
   }
     where
@@ -177,5 +178,5 @@ module _ {b out₀ runs₀ : List ℕ} {at frames long count : ℕ} {out runs : 
       numbers-all : flatten (map two_of g.lost) ≡ numbers (skipped_of b)
       numbers-all = sym (ap numbers runs-all)
 
-      twice : 2 * count ≡ length (numbers (skipped_of b))
-      twice = all_counted (map two_of g.lost) (numbers (skipped_of b)) runs₀ (2 * count) runs numbers-all g.listed
+      twice : 2 * t.runs ≡ length (numbers (skipped_of b))
+      twice = all_counted (map two_of g.lost) (numbers (skipped_of b)) runs₀ (2 * t.runs) runs numbers-all g.listed

@@ -4,21 +4,17 @@ use Prim.Native.Nat.{ℕ}
 use mathlib.Core.List.{List}
 use mathlib.Core.Path.{◌≡◌, ap}
 use Rattle.wire.proofs.AnswerLaws.{only}
-use Rattle.wire.proofs.CheckLaws.{never}
+use Rattle.wire.proofs.RefusalLaws.{tell_apart}
+use Rattle.std.specs.Prelude.{Result}
+use Rattle.wire.specs.declared.refusal.Refusal.{Refusal}
 use Rattle.wire.specs.Answers.{Promise}
 use Rattle.salvage_spec.specs.Salvage.{salvage_of, Report}
-use Rattle.salvage.specs.Told.{tell_salvage}
-use Rattle.salvage.specs.declared.SalvageAnswer.{SalvageAnswer}
-use Rattle.salvage.specs.declared.SalvageAnswer.TheVariants.{Salvaged, Refused}
+use Rattle.salvage.specs.declared.Salvaged.{Salvaged}
+use Rattle.salvage.specs.Told.{reported, tell_salvage}
 use Rattle.salvage.proofs.salvage.Reads as salvage
 
-pub salvage_apart : (a b : SalvageAnswer) → tell_salvage a ≡ tell_salvage b → a ≡ b
-salvage_apart (Salvaged k l r) (Salvaged k' l' r') e =
-    let s : ◌≡◌ {A = Report} (record { kept = k; long = l; runs = r }) (record { kept = k'; long = l'; runs = r' }) = cc e in
-    λ i. Salvaged (s i).kept (s i).long (s i).runs
-salvage_apart (Salvaged k l r) (Refused n) e = never (cc e)
-salvage_apart (Refused n) (Salvaged k l r) e = never (cc e)
-salvage_apart (Refused n) (Refused n') e = cc e
+pub salvage_apart : (a b : Result Salvaged Refusal) → tell_salvage a ≡ tell_salvage b → a ≡ b
+salvage_apart = tell_apart reported (λ x y e. ap (λ (r : Report). record { kept = r.kept; length = r.long; runs = r.runs }) e)
 
 pub salvage-says : (κs buf out runs r buf' out' runs' : _) → salvage.Learnt κs (buf, (out, (runs, tt))) r (buf', (out', (runs', tt)))
     → Promise tell_salvage (salvage_of buf.now out.now runs.now) r (out'.now, runs'.now)

@@ -5,7 +5,7 @@ use Rattle.wire.specs.Writing.{filled}
 use Rattle.salvage_spec.specs.Walk.{stands, steps_of, frames_of, runs_of, kept_of, skipped_of}
 use Rattle.salvage_spec.specs.Salvage.{numbers}
 use Rattle.salvage.specs.declared.Stretch.{Stretch}
-use Rattle.salvage.specs.declared.Totals.{Totals}
+use Rattle.salvage.specs.declared.Salvaged.{Salvaged}
 
 -- from one place to another there are only frames that pass: their number, and their bytes
 pub record Frames (b : List ℕ) (from to count : ℕ) : Type 0 where
@@ -23,9 +23,9 @@ pub record StretchFrom (b : List ℕ) (from : ℕ) (r : Stretch) : Type 0 where
   pub some : stands (drop from b) ≡ true → from < r.next
 
 -- everything is counted, and each output that has room holds its part
-pub record WalkedOver (b out runs : List ℕ) (r : Totals) (out' runs' : List ℕ) : Type 0 where
+pub record WalkedOver (b out runs : List ℕ) (r : Salvaged) (out' runs' : List ℕ) : Type 0 where
   pub kept : r.kept ≡ length (kept_of b)
-  pub long : r.long ≡ length (flatten (kept_of b))
+  pub long : r.length ≡ length (flatten (kept_of b))
   pub count : r.runs ≡ length (skipped_of b)
   pub output : length (flatten (kept_of b)) ≤ length out → out' ≡ filled (flatten (kept_of b)) out
   pub listed : 2 * length (skipped_of b) ≤ length runs → runs' ≡ filled (numbers (skipped_of b)) runs

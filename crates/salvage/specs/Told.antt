@@ -1,9 +1,13 @@
--- What each case of the answer means: the number of refusal, or the values.
-use Rattle.wire.specs.Answers.{Answer, refused, given}
+-- What the answer means: the number of refusal, or how much was kept, written and listed.
+use Rattle.std.specs.Prelude.{Result}
+use Rattle.wire.specs.Answers.{Answer}
+use Rattle.wire.specs.Refusals.{tell}
+use Rattle.wire.specs.declared.refusal.Refusal.{Refusal}
 use Rattle.salvage_spec.specs.Salvage.{Report}
-use Rattle.salvage.specs.declared.SalvageAnswer.{SalvageAnswer}
-use Rattle.salvage.specs.declared.SalvageAnswer.TheVariants.{Salvaged, Refused}
+use Rattle.salvage.specs.declared.Salvaged.{Salvaged}
 
-abbrev pub tell_salvage : SalvageAnswer → Answer Report
-tell_salvage (Salvaged kept long runs) = given (record { kept = kept; long = long; runs = runs })
-tell_salvage (Refused n) = refused n
+abbrev pub reported : Salvaged → Report
+reported s = record { kept = s.kept; long = s.length; runs = s.runs }
+
+abbrev pub tell_salvage : Result Salvaged Refusal → Answer Report
+tell_salvage = tell reported

@@ -11,16 +11,17 @@ ghost use Rattle.salvage.specs.Steps.{StretchFrom, WalkedOver, room_for};
 
 use frame::HEAD;
 use header::HEADER;
-use wire::refusal;
+use wire::refusal::Refusal;
 
 // The size of the shortest frame that passes: a session head and a message header.
 const LEAST: usize = HEAD + HEADER;
 
-// The frames kept, the bytes written and the runs listed, or the number of refusal.
-#[derive(Clone, Copy)]
-pub enum SalvageAnswer {
-    Salvaged(usize, usize, usize),
-    Refused(u8),
+// How many frames are kept, bytes written and runs listed.
+#[derive(Clone, Copy, Default)]
+pub struct Salvaged {
+    pub kept: usize,
+    pub length: usize,
+    pub runs: usize,
 }
 
 // Frames in a row: where the last one ends, and how many there are.
@@ -30,13 +31,6 @@ struct Stretch {
     frames: usize,
 }
 
-#[derive(Clone, Copy)]
-struct Totals {
-    kept: usize,
-    long: usize,
-    runs: usize,
-}
-
 // The longest row of passing frames from a place on.
 fn follow(buf: &[u8], place: usize) -> Stretch
     requires { place ≤ length buf.now }
@@ -44,11 +38,9 @@ fn follow(buf: &[u8], place: usize) -> Stretch
 {
     let mut next = place;
     let mut frames: usize = 0;
-    let mut long = salvage_find::whole_at(buf, next);
-    while long != 0 {
+    while let Some(long) = salvage_find::whole_at(buf, next) {
         next += long;
         frames += 1;
-        long = salvage_find::whole_at(buf, next);
     }
     Stretch { next, frames }
 }
@@ -85,27 +77,20 @@ fn put(bytes: &[u8], out: &mut [u8], long: usize) -> usize
 
 // Finds a run of skipped bytes, then the frames in a row after it, and so on to the end of the buffer. Frames in a row are copied at once.
 // What has no room is only counted.
-fn walk(buf: &[u8], out: &mut [u8], runs: &mut [u64]) -> Totals
+fn walk(buf: &[u8], out: &mut [u8], runs: &mut [u64]) -> Salvaged
     ensures { WalkedOver buf.now out.old runs.old result out.new runs.new }
 {
     let mut at: usize = 0;
-    let mut kept: usize = 0;
-    let mut long: usize = 0;
-    let mut count: usize = 0;
+    let mut totals = Salvaged::default();
     while at < buf.len() {
         let place = salvage_find::next_kept(buf, at);
-        count = list(runs, count, at, place);
-        let frames = follow(buf, place);
-        let next = frames.next;
-        long = put(&buf[place..next], out, long);
-        kept += frames.frames;
-        at = next;
+        totals.runs = list(runs, totals.runs, at, place);
+        let row = follow(buf, place);
+        totals.length = put(&buf[place..row.next], out, totals.length);
+        totals.kept += row.frames;
+        at = row.next;
     }
-    Totals {
-        kept,
-        long,
-        runs: count,
-    }
+    totals
 }
 
 // Whether both outputs have room. They do if `out` is as long as the buffer and `runs` has room for the most runs possible: any two
@@ -113,20 +98,19 @@ fn walk(buf: &[u8], out: &mut [u8], runs: &mut [u64]) -> Totals
 fn has_room(buf: &[u8], out: &mut [u8], runs: &mut [u64]) -> bool
     ensures { (result ≡ room_for buf.now out.old runs.old) × (out.new ≡ out.old) × (runs.new ≡ runs.old) }
 {
-    if (buf.len() <= out.len()) & (2 * ((buf.len() + LEAST) / (LEAST + 1)) <= runs.len()) {
+    if (buf.len() <= out.len()) & (2 * buf.len().div_ceil(LEAST + 1) <= runs.len()) {
         return true;
     }
     let totals = walk(buf, &mut out[0..0], &mut runs[0..0]);
-    (totals.long <= out.len()) & (2 * totals.runs <= runs.len())
+    (totals.length <= out.len()) & (2 * totals.runs <= runs.len())
 }
 
 // The frames of a damaged recording into `out`, and each run of skipped bytes as place and length into `runs`.
-pub fn salvage(buf: &[u8], out: &mut [u8], runs: &mut [u64]) -> SalvageAnswer
+pub fn salvage(buf: &[u8], out: &mut [u8], runs: &mut [u64]) -> Result<Salvaged, Refusal>
     ensures { Promise tell_salvage (salvage_of buf.now out.old runs.old) result (out.new, runs.new) }
 {
     if !has_room(buf, out, runs) {
-        return SalvageAnswer::Refused(refusal::OUTPUT_SMALL);
+        return Err(Refusal::OutputSmall);
     }
-    let totals = walk(buf, out, runs);
-    SalvageAnswer::Salvaged(totals.kept, totals.long, totals.runs)
+    Ok(walk(buf, out, runs))
 }

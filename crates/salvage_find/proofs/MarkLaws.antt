@@ -8,7 +8,9 @@ use native.Mathlib.Omega.{arith}
 use lib.Dec.{eqb, ltb}
 use lib.ListN.{length, get_or, take, drop, length-drop}
 use lib.Seq.{length-take-le}
-use borrow.Author.Tests.{eq-eqb, ltb-true, ltb-false}
+use borrow.Author.Tests.{eq-eqb, ne_eqb, ltb-true, ltb-false}
+use Rattle.std.specs.Prelude.{Option, None, Some}
+use Rattle.std.specs.Option.{is_some}
 use Rattle.wire.specs.Numbers.{num, fetched}
 use Rattle.wire.specs.Checks.{pick, first}
 use Rattle.wire.proofs.CheckLaws.{never, all_hold, none_broken, by_eq}
@@ -17,30 +19,55 @@ use Rattle.frame.specs.Session.{data_kind, whole_long}
 use Rattle.set_spec.specs.Segment.{own_checks}
 use Rattle.salvage_spec.specs.Walk.{stands}
 use Rattle.salvage_spec.proofs.WalkLaws.{stands_holds, holds_stands, stands-not, kind_none}
+use Rattle.salvage_find.specs.Told.{size_told}
 use Rattle.salvage_find.specs.Steps.{block, beyond, Unmarked, NoneFrom}
 
 -- a check that is broken
 pub broken_none : (rest : List ℕ) (n : ℕ) → first (own_checks rest) ≡ some n → stands rest ≡ false
 broken_none rest n e = stands-not rest (λ s. never (cc (sym (none_broken (own_checks rest) (stands_holds rest s)) ∙ e)))
 
--- what `whole_at` answers where none stands, and where one does
+-- what `whole_at` tells where none stands, and where one does
 module _ (rest : List ℕ) where
-  pub none-whole : stands rest ≡ false → 0 ≡ pick (stands rest) (whole_long rest) 0
-  none-whole e = sym (ap (λ (t : Bool). pick t (whole_long rest) 0) e)
+  abbrev told : Option ℕ
+  told = size_told (pick (stands rest) (whole_long rest) 0)
 
-  pub some-whole : {n : ℕ} → first (own_checks rest) ≡ none → n ≡ whole_long rest → n ≡ pick (stands rest) (whole_long rest) 0
-  some-whole p e = e ∙ sym (ap (λ (t : Bool). pick t (whole_long rest) 0) (holds_stands rest (all_hold (own_checks rest) p)))
+  whole_told : size_told (whole_long rest) ≡ Some (whole_long rest)
+  whole_told = simp (ne_eqb (whole_long rest) 0 (λ e. omega (arith, e)))
+
+  pub none-told : stands rest ≡ false → None ≡ told
+  none-told e = sym (ap (λ (t : Bool). size_told (pick t (whole_long rest) 0)) e)
+
+  pub some-told : {n : ℕ} → first (own_checks rest) ≡ none → n ≡ whole_long rest → Some n ≡ told
+  some-told p e =
+      let t : stands rest ≡ true = holds_stands rest (all_hold (own_checks rest) p) in
+      ap Some e ∙ sym (ap (λ (t : Bool). size_told (pick t (whole_long rest) 0)) t ∙ whole_told)
 
   -- and back
-  pub whole-none : pick (stands rest) (whole_long rest) 0 ≡ 0 → stands rest ≡ false
-  whole-none e = stands-not rest (λ t. absurd (omega (arith, sym (ap (λ (u : Bool). pick u (whole_long rest) 0) t) ∙ e)))
+  pub told-none : told ≡ None → stands rest ≡ false
+  told-none e = stands-not rest
+      (λ t. never (cc (sym whole_told ∙ sym (ap (λ (u : Bool). size_told (pick u (whole_long rest) 0)) t) ∙ e)))
 
-  pub whole-some : {n : ℕ} → n ≡ pick (stands rest) (whole_long rest) 0 → (n ≡ 0 → ⊥) → (stands rest ≡ true) × (n ≡ whole_long rest)
-  whole-some {n} e ne = go (stands rest) refl
+  pub told-some : {n : ℕ} → told ≡ Some n → (stands rest ≡ true) × (n ≡ whole_long rest)
+  told-some {n} e = go (stands rest) refl
     where
       go : (t : Bool) → stands rest ≡ t → (stands rest ≡ true) × (n ≡ whole_long rest)
-      go true q = (q, e ∙ ap (λ (u : Bool). pick u (whole_long rest) 0) q)
-      go false q = absurd (ne (e ∙ ap (λ (u : Bool). pick u (whole_long rest) 0) q))
+      go true q = (q, cc (sym whole_told ∙ sym (ap (λ (u : Bool). size_told (pick u (whole_long rest) 0)) q) ∙ e))
+      go false q = never (cc (sym (ap (λ (u : Bool). size_told (pick u (whole_long rest) 0)) q) ∙ e))
+
+  -- the same by what `is_some` says of it
+  pub told_is : {o : Option ℕ} → o ≡ told → is_some o ≡ true → stands rest ≡ true
+  told_is {o} e t = go o refl
+    where
+      go : (o' : Option ℕ) → o ≡ o' → stands rest ≡ true
+      go None q = never (cc (sym t ∙ ap is_some q))
+      go (Some n) q = (told-some (sym e ∙ q)).0
+
+  pub told_not : {o : Option ℕ} → o ≡ told → is_some o ≡ false → stands rest ≡ false
+  told_not {o} e t = go o refl
+    where
+      go : (o' : Option ℕ) → o ≡ o' → stands rest ≡ false
+      go None q = told-none (sym e ∙ q)
+      go (Some n) q = never (cc (sym t ∙ ap is_some q))
 
 -- ---- a part's places
 -- the last two bytes of a data frame's kind

@@ -3,35 +3,28 @@
 
 ghost use Rattle.std.specs.Prelude.{◌≡◌, false, ◌+◌, ◌≤◌, length};
 ghost use Rattle.salvage_spec.specs.Walk.{whole_at, next_kept};
+ghost use Rattle.salvage_find.specs.Told.{size_told};
 ghost use Rattle.salvage_find.specs.Steps.{block, beyond, Unmarked, NoneFrom, FoundFrom};
 
-use frame::{DATA, FrameAnswer};
+use frame::DATA;
 
 // How many places are tested together, and how many bytes the 32-bit number at the last of them reaches past it.
 const BLOCK: usize = 32;
 
 const BEYOND: usize = 3;
 
-// The size of the frame at a place if it is a data frame with a header that passes, else 0.
-pub fn whole_at(buf: &[u8], place: usize) -> usize
-    ensures { result ≡ whole_at buf.now place }
+// The size of the frame at a place if it is a data frame with a header that passes.
+pub fn whole_at(buf: &[u8], place: usize) -> Option<usize>
+    ensures { result ≡ size_told (whole_at buf.now place) }
 {
-    match frame::frame_at(buf, place) {
-        FrameAnswer::End => 0,
-        FrameAnswer::Refused(_) => 0,
-        FrameAnswer::Read(f) => {
-            if f.kind != DATA {
-                return 0;
-            }
-            let start = f.start;
-            let next = f.next;
-            let message = &buf[start..next];
-            if header::check_header(header::stored_in(message), message.len()) != 0 {
-                return 0;
-            }
-            next - place
-        }
+    let f = frame::frame_at(buf, place).ok()??;
+    if f.kind != DATA {
+        return None;
     }
+    let next = f.next;
+    let message = &buf[f.start..next];
+    header::check_header(header::stored_in(message), message.len()).ok()?;
+    Some(next - place)
 }
 
 // Whether a data frame may begin in the block: a kind of 2 ends in the bytes 0 and 2. There is no branch in the loop, so the compiler
@@ -41,10 +34,8 @@ fn may_begin(part: &[u8]) -> bool
     ensures { result ≡ false → Unmarked block part.now }
 {
     let mut any = false;
-    let mut i: usize = 0;
-    while i < BLOCK {
-        any = any | ((part[i + 2] == 0) & (part[i + 3] == 2));
-        i += 1;
+    for i in 0..BLOCK {
+        any |= (part[i + 2] == 0) & (part[i + 3] == 2);
     }
     any
 }
@@ -54,14 +45,12 @@ fn first_mark(part: &[u8]) -> usize
     requires { length part.now ≡ block + beyond }
     ensures { (result ≤ block) × Unmarked result part.now }
 {
-    let mut i: usize = 0;
-    while i < BLOCK {
+    for i in 0..BLOCK {
         if wire::fetch::<u32>(&part[i..i + 4], 0) == DATA {
             return i;
         }
-        i += 1;
     }
-    i
+    BLOCK
 }
 
 // The next place where a data frame may begin, by its kind: none begins from `from` to before it. Other blocks are skipped whole.
@@ -87,7 +76,7 @@ fn find(buf: &[u8], from: usize) -> usize
 {
     let mut at = from;
     while at < buf.len() {
-        if whole_at(buf, at) != 0 {
+        if whole_at(buf, at).is_some() {
             return at;
         }
         at = next_mark(buf, at + 1);

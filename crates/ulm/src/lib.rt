@@ -43,6 +43,7 @@ pub fn ulm_frame(buf: &[u8], place: usize) -> UlmFrame
     c_frame::frame(buf, place)
 }
 
+#[tactic(auto, using(header::proofs::HeaderLaws::short_read))]
 pub fn ulm_header(msg: &[u8]) -> UlmHeader
     ensures { result ≡ header_face (header_of msg.now) }
 {

@@ -4,5 +4,5 @@
 use std::process::ExitCode;
 
 fn main(rt: HostRuntime) -> ExitCode {
-    ExitCode::from(ulmarzhe_run::ulmarzhe_run(&rt))
+    ExitCode::from(ulmarzhe_run::ulmarzhe_run(&rt).code())
 }

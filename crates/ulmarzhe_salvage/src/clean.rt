@@ -1,226 +1,204 @@
 // The file CLEAN that kept frames are written to. They go to CLEAN.part, which is renamed to CLEAN once it is whole. So a CLEAN with
 // frames is whole, and an older CLEAN stays until then.
 use std::fs::File;
-use std::io::{ErrorKind, Result, Seek, SeekFrom};
+use std::io;
+use std::io::{Error, ErrorKind, Seek, SeekFrom};
 use std::os::fd::AsRawFd;
 use std::os::unix::fs::MetadataExt;
 use std::path::PathBuf;
-use ulmarzhe_text::page::SHEET;
-use ulmarzhe_text::part::{natural, part, wide_signed};
-use ulmarzhe_text::{page, system, words};
+use ulmarzhe_text::page::Page;
+use ulmarzhe_text::system;
+use ulmarzhe_text::system::NAME;
 
-// Whether CLEAN may be written. If not, says why.
-pub fn is_free(
-    rt: &HostRuntime,
-    clean: &[u8],
-    damaged: &File,
-    over: bool,
-    sheet: &mut [u8; SHEET],
-) -> bool {
-    if over {
-        return may_replace(rt, clean, damaged, sheet);
-    }
-    if !make(rt, clean) {
-        return false;
-    }
-    let _ = system::remove(rt, clean);
-    true
+const ENDING: [u8; 5] = *b".part";
+
+// The room for the name CLEAN.part.
+pub const PART: usize = NAME + ENDING.len();
+
+// What becomes of a CLEAN that is there already.
+#[derive(Clone, Copy, PartialEq, Eq)]
+pub enum Older {
+    Stays,
+    IsReplaced,
 }
 
-// Makes an empty CLEAN where nothing has that name, or says why not.
-fn make(rt: &HostRuntime, clean: &[u8]) -> bool {
-    match system::create(rt, clean) {
-        Ok(_) => true,
-        Err(why) => {
-            system::tell(rt, clean, why);
-            false
+// Why CLEAN may not be written.
+#[derive(Clone, Copy)]
+enum Obstacle {
+    System(Error),
+    IsDamaged,
+    IsSpecial,
+}
+
+impl From<Error> for Obstacle {
+    fn from(why: Error) -> Self {
+        Obstacle::System(why)
+    }
+}
+
+// `name` is CLEAN, and `part` is CLEAN.part.
+#[derive(Clone, Copy)]
+pub struct Clean<'a> {
+    name: &'a [u8],
+    part: &'a [u8],
+    older: Older,
+}
+
+impl<'a> Clean<'a> {
+    pub fn new(name: &'a [u8], older: Older, room: &'a mut [u8; PART]) -> Self {
+        for (to, b) in room.iter_mut().zip(name.iter().chain(&ENDING)) {
+            *to = *b;
         }
+        let part = room.get(..name.len() + ENDING.len()).unwrap_or_default();
+        Clean { name, part, older }
     }
-}
 
-fn may_replace(rt: &HostRuntime, clean: &[u8], damaged: &File, sheet: &mut [u8; SHEET]) -> bool {
-    match system::open_update(rt, clean) {
-        Ok(old) => gives_way(rt, clean, &old, damaged, sheet),
-        Err(why) => {
-            if why.kind() == ErrorKind::NotFound {
-                return true;
+    // Whether CLEAN may be written. If not, says why.
+    pub fn is_free(self, rt: &HostRuntime, damaged: &File, page: &mut Page) -> bool {
+        let Err(why) = self.check(rt, damaged, page) else {
+            return true;
+        };
+        match why {
+            Obstacle::System(why) => system::tell(rt, self.name, why),
+            Obstacle::IsDamaged => self.say(rt, b": is the damaged recording\n"),
+            Obstacle::IsSpecial => self.say(rt, b": is not a regular file\n"),
+        }
+        false
+    }
+
+    fn say(self, rt: &HostRuntime, why: &[u8]) {
+        system::say(rt, self.name);
+        system::say(rt, why);
+    }
+
+    fn check(self, rt: &HostRuntime, damaged: &File, page: &mut Page) -> Result<(), Obstacle> {
+        if self.older == Older::IsReplaced {
+            return self.check_older(rt, damaged, page);
+        }
+        self.make(rt)?;
+        let _ = system::remove(rt, self.name);
+        Ok(())
+    }
+
+    // Makes an empty CLEAN where nothing has that name.
+    fn make(self, rt: &HostRuntime) -> io::Result<()> {
+        system::create(rt, self.name)?;
+        Ok(())
+    }
+
+    // CLEAN may be replaced unless it is the damaged recording itself or no regular file, such as a device.
+    fn check_older(
+        self,
+        rt: &HostRuntime,
+        damaged: &File,
+        page: &mut Page,
+    ) -> Result<(), Obstacle> {
+        let older = match system::open_update(rt, self.name) {
+            Ok(older) => older,
+            Err(why) if why.kind() == ErrorKind::NotFound => return Ok(()),
+            Err(why) => return Err(Obstacle::System(why)),
+        };
+        if is_same(rt, &older, damaged, page) {
+            return Err(Obstacle::IsDamaged);
+        }
+        if !is_regular(&older) {
+            return Err(Obstacle::IsSpecial);
+        }
+        Ok(())
+    }
+
+    // Makes CLEAN.part and opens it for writing. If that fails, says why and answers none.
+    pub fn open_part(self, rt: &HostRuntime) -> Option<File> {
+        match system::create(rt, self.part) {
+            Ok(file) => Some(file),
+            Err(why) => {
+                system::tell(rt, self.part, why);
+                None
             }
-            system::tell(rt, clean, why);
-            false
         }
     }
-}
 
-// CLEAN may be replaced unless it is the damaged recording itself or no regular file, such as a device.
-fn gives_way(
-    rt: &HostRuntime,
-    clean: &[u8],
-    old: &File,
-    damaged: &File,
-    sheet: &mut [u8; SHEET],
-) -> bool {
-    if is_same(rt, old, damaged, sheet) {
-        say(rt, clean, b": is the damaged recording\n", sheet);
-        return false;
+    pub fn remove_part(self, rt: &HostRuntime) {
+        let _ = system::remove(rt, self.part);
     }
-    if !is_regular(old) {
-        say(rt, clean, b": is not a regular file\n", sheet);
-        return false;
-    }
-    true
-}
 
-fn say(rt: &HostRuntime, clean: &[u8], why: &[u8], sheet: &mut [u8; SHEET]) {
-    let at = page::put_text(sheet, 0, clean);
-    let at = page::put_text(sheet, at, why);
-    let _ = page::send(&rt.stderr(), sheet, at);
+    // Renames CLEAN.part to CLEAN. If that fails, says why and removes it. Answers whether CLEAN is whole on its device.
+    pub fn take_name(self, rt: &HostRuntime) -> bool {
+        let taken = self.rename(rt);
+        if taken.is_err() {
+            self.remove_part(rt);
+        }
+        match taken.and_then(|()| store_folder(rt, self.name)) {
+            Ok(()) => true,
+            Err(why) => {
+                system::tell(rt, self.name, why);
+                false
+            }
+        }
+    }
+
+    fn rename(self, rt: &HostRuntime) -> io::Result<()> {
+        if self.older == Older::IsReplaced {
+            return system::rename(rt, self.part, self.name);
+        }
+        self.make(rt)?;
+        let renamed = system::rename(rt, self.part, self.name);
+        if renamed.is_err() {
+            let _ = system::remove(rt, self.name);
+        }
+        renamed
+    }
 }
 
 // Only a regular file takes a length. Cutting a file to its present length changes nothing.
 fn is_regular(file: &File) -> bool {
     let mut place = file;
-    match place.seek(SeekFrom::End(0)) {
-        Ok(end) => file.set_len(end).is_ok(),
-        Err(_) => false,
+    place
+        .seek(SeekFrom::End(0))
+        .and_then(|end| file.set_len(end))
+        .is_ok()
+}
+
+// Whether two open files are one. If the system does not tell, they count as one.
+fn is_same(rt: &HostRuntime, a: &File, b: &File, page: &mut Page) -> bool {
+    is_same_name(rt, a, b, page)
+        .or_else(|_| is_same_file(a, b))
+        .unwrap_or(true)
+}
+
+// Whether the system tells the same name of two open files, links followed. If it tells no name of either, they count as the same.
+fn is_same_name(rt: &HostRuntime, a: &File, b: &File, page: &mut Page) -> io::Result<bool> {
+    match (name_of(rt, a, page)?, name_of(rt, b, page)?) {
+        (Some(a), Some(b)) => Ok(a.as_str() == b.as_str()),
+        (None, None) => Ok(true),
+        _ => Ok(false),
     }
 }
 
-// The name that the system tells of an open file. `Unread`: it is no text, or there is no memory for it.
-#[derive(Drop)]
-enum Name {
-    Told(PathBuf),
-    Untold,
-    Unread,
+// Whether two open files are one, under whatever names.
+fn is_same_file(a: &File, b: &File) -> io::Result<bool> {
+    let first = a.metadata()?;
+    let second = b.metadata()?;
+    Ok(first.dev() == second.dev() && first.ino() == second.ino())
 }
 
-// Whether the system tells the same name of two open files, links followed. If it tells no name of either, they count as the same. Where a
-// name cannot be read they are the same if they are one file.
-fn is_same(rt: &HostRuntime, a: &File, b: &File, sheet: &mut [u8; SHEET]) -> bool {
-    match name_of(rt, a, sheet) {
-        Name::Told(first) => match name_of(rt, b, sheet) {
-            Name::Told(second) => is_same_text(&first, &second),
-            Name::Untold => false,
-            Name::Unread => is_same_file(a, b),
-        },
-        Name::Untold => match name_of(rt, b, sheet) {
-            Name::Told(_) => false,
-            Name::Untold => true,
-            Name::Unread => is_same_file(a, b),
-        },
-        Name::Unread => is_same_file(a, b),
-    }
-}
-
-fn is_same_text(a: &PathBuf, b: &PathBuf) -> bool {
-    words::same(a.as_str().as_bytes(), b.as_str().as_bytes())
-}
-
-// Whether two open files are one, under whatever names. If the system does not tell, they count as one.
-fn is_same_file(a: &File, b: &File) -> bool {
-    match a.metadata() {
-        Ok(first) => match b.metadata() {
-            Ok(second) => first.dev() == second.dev() && first.ino() == second.ino(),
-            Err(_) => true,
-        },
-        Err(_) => true,
-    }
-}
-
-fn name_of(rt: &HostRuntime, file: &File, sheet: &mut [u8; SHEET]) -> Name {
-    let fd = natural(wide_signed(file.as_raw_fd()));
-    let at = page::fill_in(sheet, 0, b"/proc/self/fd/#", &[fd]);
-    match system::read_link(rt, part(sheet, 0, at)) {
-        Ok(name) => Name::Told(name),
-        Err(why) => {
-            if why.raw_os_error().is_some() {
-                return Name::Untold;
-            }
-            Name::Unread
-        }
-    }
-}
-
-// Puts the name CLEAN.part on the page and answers where it ends.
-fn name_part(clean: &[u8], sheet: &mut [u8; SHEET]) -> usize {
-    let at = page::put_text(sheet, 0, clean);
-    page::put_text(sheet, at, b".part")
-}
-
-// Makes CLEAN.part and opens it for writing. If that fails, says why and answers none.
-pub fn open_part(rt: &HostRuntime, clean: &[u8], sheet: &mut [u8; SHEET]) -> Option<File> {
-    let at = name_part(clean, sheet);
-    let name = part(sheet, 0, at);
-    match system::create(rt, name) {
-        Ok(file) => Some(file),
-        Err(why) => {
-            system::tell(rt, name, why);
-            None
-        }
-    }
-}
-
-// Stores a file on its device.
-pub fn is_stored(file: &File) -> Result<()> {
-    file.sync_all()
-}
-
-pub fn remove_part(rt: &HostRuntime, clean: &[u8], sheet: &mut [u8; SHEET]) {
-    let at = name_part(clean, sheet);
-    let _ = system::remove(rt, part(sheet, 0, at));
-}
-
-// Renames CLEAN.part to CLEAN. If that fails, says why and removes it. Answers whether CLEAN is whole on its device.
-pub fn take_name(rt: &HostRuntime, clean: &[u8], over: bool, sheet: &mut [u8; SHEET]) -> bool {
-    if !over && !make(rt, clean) {
-        remove_part(rt, clean, sheet);
-        return false;
-    }
-    let at = name_part(clean, sheet);
-    match system::rename(rt, part(sheet, 0, at), clean) {
-        Ok(()) => store_name(rt, clean),
-        Err(why) => {
-            system::tell(rt, clean, why);
-            remove_part(rt, clean, sheet);
-            if !over {
-                let _ = system::remove(rt, clean);
-            }
-            false
-        }
+// The name that the system tells of an open file, if it tells one. It is refused where it is no text, or there is no memory for it.
+fn name_of(rt: &HostRuntime, file: &File, page: &mut Page) -> io::Result<Option<PathBuf>> {
+    write!(page, "/proc/self/fd/{}", file.as_raw_fd());
+    let name = system::read_link(rt, page.text());
+    page.clear();
+    match name {
+        Ok(name) => Ok(Some(name)),
+        Err(why) if why.raw_os_error().is_some() => Ok(None),
+        Err(why) => Err(why),
     }
 }
 
 // A file's name is stored by storing its folder.
-fn store_name(rt: &HostRuntime, clean: &[u8]) -> bool {
-    match store_folder(rt, clean) {
-        Ok(()) => true,
-        Err(why) => {
-            system::tell(rt, clean, why);
-            false
-        }
-    }
-}
-
-fn store_folder(rt: &HostRuntime, clean: &[u8]) -> Result<()> {
-    let folder = open_folder(rt, clean)?;
+fn store_folder(rt: &HostRuntime, clean: &[u8]) -> io::Result<()> {
+    let folder = match clean.iter().rposition(|b| *b == b'/') {
+        Some(last) => system::open_read(rt, &clean[..=last])?,
+        None => system::open_read(rt, b".")?,
+    };
     folder.sync_all()
-}
-
-fn open_folder(rt: &HostRuntime, clean: &[u8]) -> Result<File> {
-    let end = folder_end(clean);
-    if end == 0 {
-        return system::open_read(rt, b".");
-    }
-    system::open_read(rt, part(clean, 0, end))
-}
-
-// Where the last `/` ends, or 0 where there is none.
-fn folder_end(clean: &[u8]) -> usize {
-    let mut end = clean.len();
-    while 0 < end {
-        if clean[end - 1] == b'/' {
-            return end;
-        }
-        end -= 1;
-    }
-    0
 }

@@ -1,53 +1,44 @@
-// A damaged recording salvaged: the command reads the words after it and answers how it ended. It is lent the program's window and sheet.
+// A damaged recording salvaged: the command reads the words after it and answers how it ended. It is lent the program's window and output.
 #![tactic(auto)]
 
 mod clean;
 mod damaged;
 
+use clean::{Clean, Older, PART};
 use std::env::Env;
 use std::fs::File;
 use ulmarzhe_text::output::Output;
-use ulmarzhe_text::page::SHEET;
-use ulmarzhe_text::status::{DONE, NOT_DONE, WRONG_WORDS};
+use ulmarzhe_text::status::Status;
 use ulmarzhe_text::window::WINDOW;
-use ulmarzhe_text::{files, output, status, system, words};
+use ulmarzhe_text::{files, system};
 
-pub fn salvage_recording(
-    rt: &HostRuntime,
-    window: &mut [u8; WINDOW],
-    sheet: &mut [u8; SHEET],
-) -> u8 {
-    let over = system::count_words(rt) == 5;
-    if over && !says_over(rt) {
-        return WRONG_WORDS;
-    }
-    match files::open_named(rt, 2) {
-        Some(damaged) => salvage_named(rt, damaged, over, window, sheet),
-        None => NOT_DONE,
-    }
-}
-
-// Whether the word after CLEAN says that a file may be written over.
-fn says_over(rt: &impl Env) -> bool {
-    let mut word = [0u8; 32];
-    let length = system::word_or_none(rt, 4, &mut word);
-    words::same(&word[..length], b"over")
-}
-
-fn salvage_named(
-    rt: &HostRuntime,
-    damaged: File,
-    over: bool,
-    window: &mut [u8; WINDOW],
-    sheet: &mut [u8; SHEET],
-) -> u8 {
-    let mut clean = [0u8; system::NAME];
-    match system::word(rt, 3, &mut clean) {
-        Ok(length) => salvage_to(rt, damaged, &clean[..length], over, window, sheet),
+pub fn salvage_recording(rt: &HostRuntime, window: &mut [u8; WINDOW], out: &mut Output) -> Status {
+    let Some(older) = read_older(rt) else {
+        return Status::WrongWords;
+    };
+    let Some(damaged) = files::open_named(rt, 2) else {
+        return Status::NotDone;
+    };
+    let mut name = [0u8; system::NAME];
+    let mut part = [0u8; PART];
+    match system::word(rt, 3, &mut name) {
+        Ok(name) => salvage_to(rt, damaged, Clean::new(name, older, &mut part), window, out),
         Err(why) => {
             system::tell(rt, b"file name", why);
-            NOT_DONE
+            Status::NotDone
         }
+    }
+}
+
+// What the word after CLEAN says, if it is one that the command takes.
+fn read_older(rt: &impl Env) -> Option<Older> {
+    if system::count_words(rt) < 5 {
+        return Some(Older::Stays);
+    }
+    let mut buffer = [0u8; 32];
+    match system::word(rt, 4, &mut buffer) {
+        Ok(b"over") => Some(Older::IsReplaced),
+        _ => None,
     }
 }
 
@@ -55,45 +46,29 @@ fn salvage_named(
 fn salvage_to(
     rt: &HostRuntime,
     damaged: File,
-    clean: &[u8],
-    over: bool,
+    clean: Clean<'_>,
     window: &mut [u8; WINDOW],
-    sheet: &mut [u8; SHEET],
-) -> u8 {
-    if !clean::is_free(rt, clean, &damaged, over, sheet) {
-        return NOT_DONE;
+    out: &mut Output,
+) -> Status {
+    if !clean.is_free(rt, &damaged, &mut out.page) {
+        return Status::NotDone;
     }
-    match clean::open_part(rt, clean, sheet) {
-        Some(file) => {
-            let out = keep_frames(rt, damaged, file, window, sheet);
-            end(rt, out, clean, over, sheet)
-        }
-        None => NOT_DONE,
-    }
-}
-
-// Both files are closed when it is done.
-fn keep_frames(
-    rt: &HostRuntime,
-    damaged: File,
-    file: File,
-    window: &mut [u8; WINDOW],
-    sheet: &mut [u8; SHEET],
-) -> Output {
-    let s = damaged::walk(rt, damaged::begin(rt, &damaged, &file), window, sheet);
-    let s = damaged::store(rt, s);
-    damaged::add_totals(s, sheet)
+    let Some(file) = clean.open_part(rt) else {
+        return Status::NotDone;
+    };
+    damaged::keep_frames(rt, damaged, file, window, out);
+    end(rt, clean, out)
 }
 
 // Writes the account, and gives CLEAN its name.
-fn end(rt: &HostRuntime, out: Output, clean: &[u8], over: bool, sheet: &mut [u8; SHEET]) -> u8 {
-    let status = output::end(rt, out, sheet);
-    if status != DONE {
-        clean::remove_part(rt, clean, sheet);
-        return status::worse(status, NOT_DONE);
+fn end(rt: &HostRuntime, clean: Clean<'_>, out: &mut Output) -> Status {
+    let status = out.end(rt);
+    if status != Status::Done {
+        clean.remove_part(rt);
+        return status.max(Status::NotDone);
     }
-    if clean::take_name(rt, clean, over, sheet) {
-        return DONE;
+    if clean.take_name(rt) {
+        return Status::Done;
     }
-    NOT_DONE
+    Status::NotDone
 }

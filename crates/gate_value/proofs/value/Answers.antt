@@ -3,7 +3,6 @@ use mathlib.Core.Path.{◌≡◌, sym, ap, ◌∙◌}
 use Rattle.wire.specs.Checks.{some_broken}
 use Rattle.wire.specs.Answers.{given}
 use Rattle.gate_value.specs.Value.{value_checks}
-use Rattle.gate_value.proofs.FloatLaws.{both_finite}
 use Rattle.gate_value.proofs.ValueLaws.{value-refused, value-given}
 use Rattle.gate_value.proofs.value.Goals as goal
 
@@ -11,19 +10,6 @@ pub returns-then-breaks_value : goal.returns-then-breaks_value
 returns-then-breaks_value c =
     let a = c.args in
     value-refused a.code a.scale a.offset (sym c.breaks_value.ensures ∙ c.if-breaks_value.true)
-
-pub finite_of-requires : goal.finite_of-requires
-finite_of-requires c =
-    let passed : some_broken (value_checks c.args.scale c.args.offset) ≡ false =
-    sym c.breaks_value.ensures ∙ c.if-breaks_value.false in
-    let args = c.args in
-    (both_finite args.scale args.offset (passed)).0
-
-pub finite_of-requires-2 : goal.finite_of-requires-2
-finite_of-requires-2 c =
-    let passed : some_broken (value_checks c.args.scale c.args.offset) ≡ false =
-    sym c.breaks_value.ensures ∙ c.if-breaks_value.false in
-    let a = c.args in (both_finite a.scale a.offset (passed)).1
 
 pub returns : goal.returns
 returns c =

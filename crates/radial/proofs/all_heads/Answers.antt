@@ -8,9 +8,8 @@ use Rattle.wire.proofs.NumberLaws.{number_is}
 use Rattle.radial_spec.specs.Description.{most_moments, moment_pointer}
 use Rattle.radial_spec.specs.Refusal.{pointer, description, radial_of}
 use Rattle.radial_spec.proofs.Held.{held}
-use Rattle.radial.specs.Told.{no_head}
 use Rattle.radial.specs.Steps.{head_at}
-use Rattle.radial.proofs.HeadLaws.{fill_begins, fill-turns, fill_ends}
+use Rattle.radial.proofs.HeadLaws.{fill-turns, fill_ends}
 use Rattle.radial.proofs.all_heads.Goals as goal
 
 -- the place that was fetched is where the pointer of moment i points
@@ -18,29 +17,6 @@ pointed : (b : List ℕ) (n i p : ℕ) → radial_of b ≡ given (description b)
     → p ≡ fetched 4 b (moment_pointer + 4 * i) → pointer b (moment_pointer + 4 * i) ≡ p
 pointed b n i p accepted more few e =
     number_is 4 b _ p e (omega (arith, (held b (description b) accepted).start.long, more, few))
-
-pub loop-i-init : goal.loop-i-init
-loop-i-init c =
-    let z = c.default-none.ensures in
-    let zeros : c.default-none.result ≡ no_head =
-    λ i.
-    record {
-      name = z.0 i;
-      place = z.1.0 i;
-      reserved = z.1.1.0 i;
-      gates = z.1.1.1.0 i;
-      first = z.1.1.1.1.0 i;
-      interval = z.1.1.1.1.1.0 i;
-      overlay = z.1.1.1.1.1.1.0 i;
-      noise = z.1.1.1.1.1.1.1.0 i;
-      flags = z.1.1.1.1.1.1.1.1.0 i;
-      word = z.1.1.1.1.1.1.1.1.1.0 i;
-      scale = z.1.1.1.1.1.1.1.1.1.1.0 i;
-      offset = z.1.1.1.1.1.1.1.1.1.1.1.0 i;
-      scale_bits = z.1.1.1.1.1.1.1.1.1.1.1.1.0 i;
-      offset_bits = z.1.1.1.1.1.1.1.1.1.1.1.1.1 i;
-    } in
-    rw zeros (fill_begins c.args.body.now c.args.count c.requires.2)
 
 pub head_at-head-requires : goal.head_at-head-requires
 head_at-head-requires c =

@@ -1,6 +1,5 @@
 use Prim.Native.Nat.{ℕ, ◌/◌, ◌+◌, ◌*◌}
 use native.Mathlib.Nat.{mul-one}
-use native.Mathlib.Omega.{arith}
 use mathlib.Core.Logic.{⊎_elim}
 use mathlib.Core.Path.{◌≡◌, refl, ap, sym}
 use Rattle.radial_spec.specs.Description.{Member, word_sizes}
@@ -15,19 +14,12 @@ two_bytes w e = ap (λ (x : ℕ). x / 8) e
 one_byte : (w : ℕ) → Member w word_sizes → (w ≡ 16 → ⊥) → w / 8 ≡ 1
 one_byte w m narrow = ap (λ (x : ℕ). x / 8) (⊎_elim (λ p. p) (λ p. ⊎_elim (λ q. absurd (narrow q)) (λ q. absurd q) p) m)
 
-pub slice_bounds-fetch-end : goal.slice_bounds-fetch-end
-slice_bounds-fetch-end c = omega (arith, rw (two_bytes _ c.if-word-eq-WIDE_WORD.true) at c.requires.within)
-
 pub returns-then-word-eq-WIDE_WORD : goal.returns-then-word-eq-WIDE_WORD
 returns-then-word-eq-WIDE_WORD c =
     let a = c.args in
     let e = two_bytes a.word c.if-word-eq-WIDE_WORD.true in
     fetched-code 2 a.body.now a.place a.word a.gate (a.place + (28 + a.gate * 2)) _ e refl (rw e at c.requires.within)
     c.fetch.ensures
-
-pub slice_bounds-fetch-end-2 : goal.slice_bounds-fetch-end-2
-slice_bounds-fetch-end-2 c =
-    omega (arith, rw (one_byte _ c.requires.sized c.if-word-eq-WIDE_WORD.false) at c.requires.within)
 
 pub returns : goal.returns
 returns c =

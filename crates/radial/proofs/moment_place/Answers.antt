@@ -7,7 +7,7 @@ use Rattle.radial_spec.specs.Description.{first_pointer}
 use Rattle.radial_spec.specs.Refusal.{pointer}
 use Rattle.radial_spec.proofs.Held.{held}
 use Rattle.radial_head.proofs.PartLaws.{there, pointer_there}
-use Rattle.radial.proofs.StepLaws.{Searching, search_begins, pointer-inside, block_held, search-found, search-on, search_ends}
+use Rattle.radial.proofs.StepLaws.{Searching, search_begins, pointer-inside, block_held, search-found, search-on}
 use Rattle.radial.proofs.moment_place.Goals as goal
 
 -- the place that was fetched is where the pointer of block k points
@@ -27,9 +27,6 @@ pub loop-k-preserved : goal.loop-k-preserved
 loop-k-preserved c =
     let points = pointed _ _ _ _ _ c.loop-k.invariant c.loop-k-test.true c.fetch-place.ensures in
     search-on _ _ _ _ c.loop-k.invariant c.loop-k-test.true _ _ points c.fetch.ensures c.if-fetch-name.false
-
-pub returns : goal.returns
-returns c = search_ends _ _ _ _ c.loop-k.invariant c.loop-k-test.false
 
 pub slice_bounds-fetch-end-in-loop-k : goal.slice_bounds-fetch-end-in-loop-k
 slice_bounds-fetch-end-in-loop-k c =

@@ -1,27 +1,21 @@
 use Prim.Native.Nat.{ℕ, ◌-◌}
 use native.Mathlib.Omega.{arith}
-use mathlib.Core.Path.{◌≡◌, sym, ap, ◌∙◌}
+use mathlib.Core.Path.{◌≡◌, ap, ◌∙◌}
 use mathlib.Core.List.{List}
 use Rattle.wire.specs.Answers.{given}
-use Rattle.wire.proofs.ExitLaws.{exits}
-use Rattle.wire.proofs.OnwardLaws.{shows_refused}
 use Rattle.radial_spec.specs.Description.{constants, moment_pointer}
 use Rattle.radial_spec.specs.Refusal.{moments_at, description, radial_of}
 use Rattle.radial_spec.proofs.Held.{Held, held}
 use Rattle.radial_heading.specs.declared.Heading.{Heading}
-use Rattle.radial_heading.specs.Told.{heading_of, heading_shown}
+use Rattle.radial_heading.specs.Told.{heading_shown}
 use Rattle.radial_heading.proofs.HeadingLaws.{heading_given, count_is}
-use Rattle.radial.specs.Told.{heads_of, shown}
+use Rattle.radial.specs.Told.{heads_of}
 use Rattle.radial.proofs.HeadLaws.{read}
 use Rattle.radial.proofs.read_radial.Goals as goal
 
 -- what the checks of a body with a heading leave known
 all : (b : List ℕ) (h : Heading) → given h ≡ heading_shown (radial_of b) → Held b
 all b h e = held b (description b) (heading_given b h e)
-
-pub returns-in_err-read : goal.returns-in_err-read
-returns-in_err-read c =
-    rw (exits _ _ c.from_residual.ensures) (sym (ap shown (shows_refused _ heading_of _ c.in_err-read.ensures)))
 
 pub span_of-volume-requires : goal.span_of-volume-requires
 span_of-volume-requires c =
@@ -37,11 +31,6 @@ pub span_of-radial-requires : goal.span_of-radial-requires
 span_of-radial-requires c =
     let h = all _ _ c.in_ok-read.ensures in
     (omega (arith, h.start.long), h.radial.inside)
-
-pub overflow_sub-read : goal.overflow_sub-read
-overflow_sub-read c =
-    let e = c.in_ok-read.ensures in
-    omega (arith, count_is _ _ e, (all _ _ e).start.some)
 
 pub all_heads-heads-requires : goal.all_heads-heads-requires
 all_heads-heads-requires c =

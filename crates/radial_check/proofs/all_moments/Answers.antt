@@ -1,9 +1,6 @@
 use Rattle.wire.proofs.ExitLaws.{exits}
-use Rattle.radial_check.proofs.LoopLaws.{begins, refuses, turns, ends}
+use Rattle.radial_check.proofs.LoopLaws.{refuses, turns}
 use Rattle.radial_check.proofs.all_moments.Goals as goal
-
-pub loop-i-init : goal.loop-i-init
-loop-i-init c = begins _ _ _ _ c.requires.2
 
 pub returns-in_err-found : goal.returns-in_err-found
 returns-in_err-found c =
@@ -11,6 +8,3 @@ returns-in_err-found c =
 
 pub loop-i-preserved : goal.loop-i-preserved
 loop-i-preserved c = turns _ _ _ _ _ _ _ c.loop-i.invariant c.loop-i-test.true _ _ c.in_ok-found.ensures
-
-pub returns : goal.returns
-returns c = ends _ _ _ _ _ _ _ c.loop-i.invariant c.loop-i-test.false

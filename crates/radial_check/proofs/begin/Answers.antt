@@ -1,8 +1,5 @@
-use Rattle.radial_check.proofs.StepLaws.{short_body, compressed, short-radial, long-radial, few-blocks, many-blocks, good_start}
+use Rattle.radial_check.proofs.StepLaws.{compressed, short-radial, long-radial, few-blocks, many-blocks, good_start}
 use Rattle.radial_check.proofs.begin.Goals as goal
-
-pub returns-then-body-lt-HEADER_SIZE : goal.returns-then-body-lt-HEADER_SIZE
-returns-then-body-lt-HEADER_SIZE c = short_body c.args.body.now c.if-body-lt-HEADER_SIZE.true
 
 pub returns-then-fetch-ne0 : goal.returns-then-fetch-ne0
 returns-then-fetch-ne0 c =

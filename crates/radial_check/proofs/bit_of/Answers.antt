@@ -2,7 +2,7 @@ use native.Mathlib.Omega.{arith}
 use mathlib.Core.Path.{refl}
 use Rattle.wire.specs.Numbers.{num, fetched}
 use Rattle.radial_check.specs.Steps.{bit_of}
-use Rattle.radial_check.proofs.BitLaws.{seek_found, seek-on, seek-fits, seek_ends}
+use Rattle.radial_check.proofs.BitLaws.{seek_found, seek-on}
 use Rattle.radial_check.proofs.bit_of.Goals as goal
 
 pub loop-known-init : goal.loop-known-init
@@ -13,12 +13,6 @@ pub returns-then-fetch-name : goal.returns-then-fetch-name
 returns-then-fetch-name c =
     seek_found _ _ _ _ c.loop-known.invariant _ c.loop-known-test.true c.fetch.ensures c.if-fetch-name.true
 
-pub overflow_mul-bit : goal.overflow_mul-bit
-overflow_mul-bit c = record { fits = seek-fits _ _ _ _ c.loop-known.invariant c.loop-known-test.true }
-
 pub loop-known-preserved : goal.loop-known-preserved
 loop-known-preserved c =
     seek-on _ _ _ _ c.loop-known.invariant _ c.loop-known-test.true c.fetch.ensures c.if-fetch-name.false
-
-pub returns : goal.returns
-returns c = seek_ends _ _ _ _ c.loop-known.invariant c.loop-known-test.false

@@ -1,21 +1,6 @@
-use native.Mathlib.Omega.{arith}
 use Rattle.wire.proofs.ExitLaws.{exits}
-use Rattle.radial_check.proofs.WholeLaws.{started, no_start, no-constants, the-moments}
+use Rattle.radial_check.proofs.WholeLaws.{no_start, no-constants, the-moments}
 use Rattle.radial_check.proofs.check_radial.Goals as goal
-
-pub all_constants-requires : goal.all_constants-requires
-all_constants-requires c =
-    let begun = started c.args.body.now _ _ c.in_ok-start.ensures in
-    (begun.long, begun.inside, begun.size)
-
-pub overflow_sub-start : goal.overflow_sub-start
-overflow_sub-start c =
-    omega (arith, (started c.args.body.now _ _ c.in_ok-start.ensures).some)
-
-pub all_moments-requires : goal.all_moments-requires
-all_moments-requires c =
-    let begun = started c.args.body.now _ _ c.in_ok-start.ensures in
-    (begun.long, begun.inside, omega (arith, begun.few))
 
 pub returns-in_err-start : goal.returns-in_err-start
 returns-in_err-start c = rw (exits _ _ c.from_residual.ensures) (no_start c.args.body.now _ c.in_err-start.ensures)

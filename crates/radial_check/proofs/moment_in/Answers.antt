@@ -2,7 +2,7 @@ use Prim.Native.Nat.{ℕ}
 use mathlib.Core.Path.{◌≡◌, sym, ap, ◌∙◌}
 use Rattle.radial_head.specs.declared.Key.{Key}
 use Rattle.radial_check.specs.Steps.{moment_in}
-use Rattle.radial_check.proofs.StepLaws.{unknown_name, repeated-name, many-gates, odd-word, past-radial, good-moment}
+use Rattle.radial_check.proofs.StepLaws.{unknown_name, many-gates, odd-word, past-radial, good-moment}
 use Rattle.radial_check.proofs.moment_in.Goals as goal
 
 -- what is answered by the key that was read is what is answered by the head's
@@ -13,12 +13,6 @@ pub returns-then-bit-eq0 : goal.returns-then-bit-eq0
 returns-then-bit-eq0 c =
     let a = c.args in
     unknown_name a.size a.place c.key_of-key.result a.seen _ c.bit_of-bit.ensures c.if-bit-eq0.true ∙ read _ _ _ _ _ c.key_of-key.ensures
-
-pub returns-then-seen-bit-ne0 : goal.returns-then-seen-bit-ne0
-returns-then-seen-bit-ne0 c =
-    let a = c.args in
-    repeated-name a.size a.place c.key_of-key.result a.seen _ c.bit_of-bit.ensures c.if-bit-eq0.false c.if-seen-bit-ne0.true
-    ∙ read _ _ _ _ _ c.key_of-key.ensures
 
 pub returns-then-key-gt-MOST_GATES : goal.returns-then-key-gt-MOST_GATES
 returns-then-key-gt-MOST_GATES c =

@@ -3,9 +3,6 @@ use native.Mathlib.Omega.{arith}
 use Rattle.radial_gates.proofs.GatesLaws.{located-part, refused-part}
 use Rattle.radial_gates.proofs.gates.Goals as goal
 
-pub part-requires : goal.part-requires
-part-requires c = c.in-Ok.ensures.inside
-
 pub returns-in-Ok : goal.returns-in-Ok
 returns-in-Ok c = rw (← (located-part _ _ c.in-Ok.found c.in-Ok.ensures.is).2) c.part.ensures
 

@@ -11,7 +11,7 @@ use Rattle.salvage.proofs.has_room.Goals as goal
 
 pub returns-then-buf-out : goal.returns-then-buf-out
 returns-then-buf-out c = let a = c.args in
-    (any_room a.buf.now a.out.now a.runs.now c.if-buf-out.true, refl, refl)
+    (any_room a.buf.now a.out.now a.runs.now _ c.div_ceil.ensures c.if-buf-out.true, refl, refl)
 
 pub overflow_mul-result : goal.overflow_mul-result
 overflow_mul-result c =
@@ -25,7 +25,7 @@ returns c =
     let w = c.walk-totals in
     let o = none-put a.out.now w.new.out w.auto.out in
     let r = none-put a.runs.now w.new.runs w.auto.runs in (
-      (λ i. leb w.result.long (length (o i)) && leb (2 * w.result.runs) (length (r i)))
+      (λ i. leb w.result.length (length (o i)) && leb (2 * w.result.runs) (length (r i)))
           ∙ counted_room a.buf.now a.out.now a.runs.now _ _ _ _ w.result w.ensures,
       o,
       r,

@@ -13,5 +13,5 @@ pub returns : goal.returns
 returns c =
     let a = c.args in
     let room = c.has_room.ensures in
-    with_room a.buf.now a.out.now a.runs.now c.walk-totals.result _ _ _ _ room.1 room.2
-    (sym room.0 ∙ c.if-not-has_room.false) c.walk-totals.ensures
+    with_room a.buf.now a.out.now a.runs.now c.walk.result _ _ _ _ room.1 room.2
+    (sym room.0 ∙ c.if-not-has_room.false) c.walk.ensures

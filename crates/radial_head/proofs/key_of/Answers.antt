@@ -1,4 +1,0 @@
-use Rattle.radial_head.proofs.key_of.Goals as goal
-
-pub returns : goal.returns
-returns c = cc
