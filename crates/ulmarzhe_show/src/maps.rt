@@ -115,12 +115,12 @@ impl fmt::Display for Difference {
 
 const CODES: u16 = 3;
 
-// A table has a row for each pair of an old and a new code, and one for all of them.
+// A table has a row for each pair of an old and a new code, and behind them one for all.
 const ALL: u16 = CODES * CODES;
 
 const ROWS: usize = ALL as usize + 1;
 
-// And it has a column for all elevation segments, and one for each.
+// It has a column for all elevation segments, and behind it one for each.
 const COLUMNS: usize = 6;
 
 // Kilometres changed.
@@ -138,6 +138,7 @@ impl Table {
         }
     }
 
+    // No difference has another code or elevation segment than those of the table.
     fn add(&mut self, row: usize, column: usize, n: u64) {
         let cell = self
             .rows

@@ -10,7 +10,7 @@ use ulmarzhe_text::page::Page;
 use wire::refusal::Refusal;
 
 // The largest code of a picture. A code takes a byte, or two.
-#[derive(Clone, Copy, PartialEq, Eq, PartialOrd, Ord)]
+#[derive(Clone, Copy, PartialEq, Eq)]
 enum Largest {
     Narrow = 255,
     Wide = 65535,

@@ -50,6 +50,7 @@ pub enum Fault {
     NotRead(Error),
 }
 
+// A walk through a recording.
 #[derive(Drop)]
 pub struct Walk<'a> {
     reading: Reading<'a>,
@@ -104,6 +105,7 @@ impl<'a> Walk<'a> {
         }
     }
 
+    // Hands each frame to the task, until the recording ends or is damaged, or something cannot be read or written.
     pub fn follow<T: Task>(&mut self, rt: &HostRuntime, task: &mut T, out: &mut Output) {
         for _ in 0..u64::MAX {
             let Some(frame) = self.next(rt, task, out) else {
@@ -118,6 +120,7 @@ impl<'a> Walk<'a> {
         }
     }
 
+    // The frame that is looked at. Where a fault ends the walk, it has been told.
     fn next<T: Task>(&mut self, rt: &HostRuntime, task: &T, out: &mut Output) -> Option<Frame> {
         match self.find() {
             Ok(frame) => frame,
