@@ -3,51 +3,49 @@
 
 mod args;
 mod cases;
-mod entries;
 mod lines;
 mod lists;
+mod question;
 mod readers;
 mod sink;
 mod told;
 mod writers;
 
-use ulmarzhe_text::page::SHEET;
-use ulmarzhe_text::status::{DONE, NOT_DONE};
+use ulmarzhe_text::output::Output;
+use ulmarzhe_text::status::Status;
 use ulmarzhe_text::window::WINDOW;
-use ulmarzhe_text::{files, status, system};
+use ulmarzhe_text::{files, system};
+
+// The room that the library is lent: the longest answer is a frame of the longest radial.
+const ROOM: usize = frame::LONGEST;
 
 // Nothing is run unless every file can be read.
-pub fn run(rt: &HostRuntime, window: &mut [u8; WINDOW], sheet: &mut [u8; SHEET]) -> u8 {
+pub fn run(rt: &HostRuntime, window: &mut [u8; WINDOW], out: &mut Output) -> Status {
     let count = system::count_words(rt);
-    if !can_open_all(rt, count) {
-        return NOT_DONE;
-    }
-    let mut status = DONE;
-    let mut i = 2;
-    while i < count {
-        status = status::worse(status, run_file(rt, i, window, sheet));
-        if NOT_DONE <= status {
-            return status;
-        }
-        i += 1;
-    }
-    status
-}
-
-fn can_open_all(rt: &HostRuntime, count: usize) -> bool {
-    let mut i = 2;
-    while i < count {
+    for i in 2..count {
         if files::open_named(rt, i).is_none() {
-            return false;
+            return Status::NotDone;
         }
-        i += 1;
     }
-    true
+    let mut room = [0u8; ROOM];
+    for i in 2..count {
+        run_file(rt, i, window, &mut room, out);
+        if out.has_failed() {
+            break;
+        }
+    }
+    out.end(rt)
 }
 
-fn run_file(rt: &HostRuntime, i: usize, window: &mut [u8; WINDOW], sheet: &mut [u8; SHEET]) -> u8 {
+fn run_file(
+    rt: &HostRuntime,
+    i: usize,
+    window: &mut [u8; WINDOW],
+    room: &mut [u8; ROOM],
+    out: &mut Output,
+) {
     match files::open_named(rt, i) {
-        Some(file) => cases::run_lines(rt, &file, window, sheet),
-        None => NOT_DONE,
+        Some(file) => cases::run_lines(rt, &file, window, room, out),
+        None => out.fail(),
     }
 }

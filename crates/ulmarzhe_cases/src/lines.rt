@@ -1,105 +1,87 @@
 // The lines of a file: the next one is looked for in the window, and more is read until it is there.
 use std::fs::File;
-use ulmarzhe_text::part::{part, sum};
+use std::io::Error;
 use ulmarzhe_text::window::{Reading, WINDOW};
-use ulmarzhe_text::{window, words};
+use ulmarzhe_text::words;
 
-// A line that is `found` begins where the reading looks and ends at `end`. `skips`: it is too long for the window, and its rest is
-// skipped. `done`: no line is left.
-#[derive(Clone, Copy)]
-pub struct Line<'a> {
-    pub reading: Reading<'a>,
-    pub end: usize,
-    pub found: bool,
-    pub skips: bool,
-    pub done: bool,
+#[derive(Drop)]
+pub enum Line<'a> {
+    Whole(&'a mut [u8]),
+    // The beginning of a line that is too long for the window.
+    TooLong(&'a mut [u8]),
 }
 
-fn line_at(r: Reading<'_>, end: usize, found: bool, skips: bool, done: bool) -> Line<'_> {
-    Line {
-        reading: r,
-        end,
-        found,
-        skips,
-        done,
-    }
+// `is_within`: the reading looks at the rest of a line that was too long.
+#[derive(Drop)]
+pub struct Lines<'a> {
+    reading: Reading<'a>,
+    is_within: bool,
 }
 
-// The first line of a file that is open.
-pub fn first<'a>(file: &'a File, window: &mut [u8; WINDOW]) -> Line<'a> {
-    let none = line_at(window::begin(file, 0), 0, false, false, false);
-    seek(none, window)
-}
-
-// The line after one that was found.
-pub fn next<'a>(l: Line<'a>, window: &mut [u8; WINDOW]) -> Line<'a> {
-    let r = l.reading;
-    let from = if l.skips { l.end } else { sum(l.end, 1) };
-    let none = line_at(window::look_at(r, from), from, false, l.skips, false);
-    seek(none, window)
-}
-
-// Reads until a line is found or the file is at its end. Of a line that is too long for the window the beginning is found.
-fn seek<'a>(l: Line<'a>, window: &mut [u8; WINDOW]) -> Line<'a> {
-    let mut l = look(l, window);
-    let mut turns = u64::MAX;
-    while 0 < turns {
-        if l.found {
-            return l;
+impl<'a> Lines<'a> {
+    // The lines of a file that is open.
+    pub fn new(file: &'a File, window: &'a mut [u8; WINDOW]) -> Self {
+        Lines {
+            reading: Reading::new(file, window, 0),
+            is_within: false,
         }
-        if l.done {
-            return l;
+    }
+
+    pub fn next_line(&mut self) -> Option<Line<'_>> {
+        if self.is_within {
+            self.skip_rest();
         }
-        l = look(read_more(l, window), window);
-        turns -= 1;
-    }
-    l
-}
-
-fn read_more<'a>(l: Line<'a>, window: &mut [u8; WINDOW]) -> Line<'a> {
-    let r = l.reading;
-    line_at(
-        window::read_more(r, window),
-        l.end,
-        l.found,
-        l.skips,
-        l.done,
-    )
-}
-
-fn look<'a>(l: Line<'a>, window: &[u8; WINDOW]) -> Line<'a> {
-    let r = l.reading;
-    judge(
-        r,
-        l.skips,
-        words::until(part(window, 0, r.fill), r.from, b'\n'),
-    )
-}
-
-// Decides by the place where a line ends: the line is found, nothing is left, or more must be read.
-fn judge(r: Reading<'_>, skips: bool, end: usize) -> Line<'_> {
-    if end < r.fill {
-        if skips {
-            return line_at(window::look_at(r, sum(end, 1)), end, false, false, false);
+        let end = self.find_end();
+        let start = self.reading.start();
+        let has_end = end < self.reading.bytes().len();
+        if !has_end && start == end {
+            return None;
         }
-        return line_at(r, end, true, false, false);
+        self.is_within = !has_end && !self.reading.ended;
+        let is_within = self.is_within;
+        self.reading.look_at(end.saturating_add(1));
+        let text = self.reading.bytes_mut().get_mut(start..end)?;
+        if is_within {
+            return Some(Line::TooLong(text));
+        }
+        Some(Line::Whole(text))
     }
-    if r.ended {
-        let last = r.from < r.fill && !skips;
-        return line_at(r, end, last, skips, !last);
-    }
-    if !is_full(r) {
-        return line_at(r, end, false, skips, false);
-    }
-    if skips {
-        return line_at(window::look_at(r, end), end, false, true, false);
-    }
-    line_at(r, end, true, true, false)
-}
 
-fn is_full(r: Reading<'_>) -> bool {
-    if r.from != 0 {
-        return false;
+    // Why the file could not be read to its end.
+    pub fn failed(&self) -> Option<Error> {
+        self.reading.failed
     }
-    WINDOW <= r.fill
+
+    // Where the line that is looked at ends in the window, read as far as the window holds it.
+    fn find_end(&mut self) -> usize {
+        let mut end = self.line_end();
+        for _ in 0..u64::MAX {
+            let found = end < self.reading.bytes().len();
+            if found || self.reading.ended || self.reading.is_full() {
+                return end;
+            }
+            self.reading.read_more();
+            end = self.line_end();
+        }
+        end
+    }
+
+    // Looks behind the rest of a line.
+    fn skip_rest(&mut self) {
+        for _ in 0..u64::MAX {
+            let end = self.line_end();
+            let found = end < self.reading.bytes().len();
+            self.reading.look_at(end.saturating_add(1));
+            if found || self.reading.ended {
+                return;
+            }
+            self.reading.read_more();
+        }
+    }
+
+    // The place of the line's end in the window, or the end of what the window holds.
+    fn line_end(&self) -> usize {
+        let start = self.reading.start();
+        words::until(self.reading.bytes(), start, b'\n')
+    }
 }
