@@ -1,4 +1,4 @@
--- Laws of the header's rules: what the code's tests come to. Assumes nothing.
+-- Laws of the header's rules: the number reported, a radial's segment, and the checks of the size by the form. Assumes nothing.
 use Prim.Native.Nat.{ℕ, ◌%◌, ◌≤◌}
 use mathlib.Core.Path.{◌≡◌, refl, ◌∙◌}
 use mathlib.Core.Bool.{Bool, true, false, not}
