@@ -54,6 +54,7 @@ fn first_mark(part: &[u8]) -> usize
 }
 
 // The next place where a data frame may begin, by its kind: none begins from `from` to before it. Other blocks are skipped whole.
+// The blocks overlap by BEYOND bytes and what is left at the end is told too, so this is plainer than an iterator over parts.
 fn next_mark(buf: &[u8], from: usize) -> usize
     requires { from ≤ length buf.now }
     ensures { NoneFrom buf.now from result }
