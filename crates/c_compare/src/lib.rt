@@ -6,10 +6,8 @@ ghost use Rattle.compare_spec.specs.Comparing.{comparison_of};
 ghost use Rattle.c_lent.specs.Face.{Leaves};
 ghost use Rattle.c_compare.specs.Face.{comparison_face};
 
-use compare::CompareAnswer;
-
 #[repr(C)]
-#[derive(Clone, Copy)]
+#[derive(Clone, Copy, Default)]
 pub struct UlmComparison {
     pub refusal: u32,
     pub old_elevations: u32,
@@ -21,18 +19,15 @@ pub fn compare_maps(old: &[u8], new: &[u8], out: &mut [u16]) -> UlmComparison
     ensures { Leaves comparison_face (comparison_of old.now new.now out.old) result out.new }
 {
     match compare::compare(old, new, out) {
-        CompareAnswer::Compared(older, newer, count) => comparison_with(0, older, newer, count),
-        CompareAnswer::Refused(number) => comparison_with(number, 0, 0, 0),
-    }
-}
-
-fn comparison_with(refusal: u8, older: u16, newer: u16, count: u32) -> UlmComparison
-    ensures { result ≡ record { refusal = refusal; old_elevations = older; new_elevations = newer; differences = count } }
-{
-    UlmComparison {
-        refusal: refusal as u32,
-        old_elevations: older as u32,
-        new_elevations: newer as u32,
-        differences: count,
+        Ok(compared) => UlmComparison {
+            refusal: 0,
+            old_elevations: compared.old_elevations as u32,
+            new_elevations: compared.new_elevations as u32,
+            differences: compared.differences,
+        },
+        Err(refusal) => UlmComparison {
+            refusal: refusal.number() as u32,
+            ..UlmComparison::default()
+        },
     }
 }

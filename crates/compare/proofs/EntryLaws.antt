@@ -2,9 +2,12 @@
 use Prim.Native.Nat.{ℕ, ◌*◌, ◌≤◌, ◌<◌}
 use native.Mathlib.Nat.{zero-add}
 use native.Mathlib.Omega.{arith}
-use mathlib.Core.Path.{◌≡◌, sym, ap, ◌∙◌}
+use mathlib.Core.Path.{◌≡◌, refl, sym, ap, ◌∙◌}
 use mathlib.Core.List.{List, map}
+use mathlib.Core.Bool.{Bool, true, false}
+use Rattle.std.specs.Prelude.{min}
 use lib.Dec.{ltb}
+use borrow.Author.Tests.{ltb-true, ltb-false}
 use lib.ListN.{length, drop}
 use Rattle.wire.specs.Numbers.{Octets}
 use Rattle.wire.specs.Checks.{pick, AllHold}
@@ -30,13 +33,19 @@ use Rattle.compare.specs.Steps.{listing, list_of, Counts, Checked}
 segments_are : (b : List ℕ) → length (map_in b).elevations ≡ segments_in b
 segments_are b = run-count elevation_part (segments_in b) (drop head_size b)
 
+lesser : (a b : ℕ) → min a b ≡ pick (ltb a b) a b
+lesser a b = go (ltb a b) refl
+  where
+    go : (t : Bool) → ltb a b ≡ t → min a b ≡ pick t a b
+    go true e = omega (arith, ltb-true a b e)
+    go false e = omega (arith, ltb-false a b e)
+
 pub present_is : (older newer : ℕ) (old new : List ℕ) → older ≡ segments_in old → newer ≡ segments_in new
-    → pick (ltb older newer) older newer ≡ present_in_both (map_in old) (map_in new)
+    → min older newer ≡ present_in_both (map_in old) (map_in new)
 present_is older newer old new e f =
     let p = e ∙ sym (segments_are old) in
     let q = f ∙ sym (segments_are new) in
-    ap (λ (k : ℕ). pick (ltb k newer) k newer) p
-    ∙ ap (λ (k : ℕ). pick (ltb (length (map_in old).elevations) k) (length (map_in old).elevations) k) q
+    (λ i. min (p i) (q i)) ∙ lesser (length (map_in old).elevations) (length (map_in new).elevations)
 
 module _ {elevations : ℕ} {old new : List ℕ} (c : Checked elevations old new) where
   -- no more of them than either has
@@ -69,11 +78,9 @@ module _ (old new : List ℕ) (count : ℕ) (before after : List ℕ)
 map-refused : (b : List ℕ) (n : ℕ) → refused n ≡ summary_of b → map_of b ≡ refused n
 map-refused b n e = decide-some (map_checks b) refused (given (map_in b)) n (rule_refused (map_checks b) (summary (map_in b)) n (sym e))
 
-pub map-counts : (b : List ℕ) (date minutes elevations : ℕ)
-    → given (record { date = date; minutes = minutes; elevations = elevations }) ≡ summary_of b
-    → Counts elevations b
-map-counts b date minutes elevations e =
-    let p = rule_given (map_checks b) (summary (map_in b)) (record { date = date; minutes = minutes; elevations = elevations }) (sym e) in
+pub map-counts : (b : List ℕ) (s : Summary) → given s ≡ summary_of b → Counts s.elevations b
+map-counts b s e =
+    let p = rule_given (map_checks b) (summary (map_in b)) s (sym e) in
     record { checked = all_hold (map_checks b) p.0; all = sym (ap (λ (s : Summary). s.elevations) p.1) ∙ segments_are b }
 
 pub first-refused : (old new out : List ℕ) (n : ℕ) → refused n ≡ summary_of old → comparison_of old new out ≡ refusal out n

@@ -4,7 +4,8 @@ use native.Mathlib.Omega.{arith}
 use mathlib.Core.Path.{◌≡◌, refl, sym, ap, ◌∙◌, subst}
 use mathlib.Core.Bool.{Bool, true, false, not, ◌&&◌, ◌||◌}
 use mathlib.Core.List.{List, [], ◌∷◌}
-use lib.Dec.{ltb, eqb}
+use Rattle.std.specs.Prelude.{min}
+use lib.Dec.{eqb}
 use lib.ListN.{length}
 use borrow.Author.Tests.{eqb-true, eqb-false, not-true}
 use Rattle.wire.specs.Checks.{pick, both, AllHold}
@@ -16,7 +17,6 @@ use Rattle.map_spec.specs.Places.{zone_at}
 use Rattle.map_spec.proofs.ZoneWalk.{Facing, facing_first, facing-low, facing-high, facing-code, facing-stays, facing-next}
 use Rattle.compare_spec.specs.Differences.{Difference, stay, stretch, stretches}
 use Rattle.compare_spec.specs.Comparing.{difference_size}
-use Rattle.compare_spec.proofs.Maps.{lesser_both, both_lesser}
 use Rattle.compare_spec.proofs.Most.{stretch_few}
 use Rattle.compare.specs.Steps.{listing, one_if, zones_differences}
 use Rattle.compare.proofs.SheetLaws.{listing-append, listing-long}
@@ -178,19 +178,17 @@ module _ {old new : List ℕ} (checkedOld : AllHold (azimuth_part.checks old)) (
             omega (arith, c, begun-before s, w.few, stretch_few elevation azimuth (λ k. was) (λ k. is) first next)
 
         -- the end of the zone that ends first, and what stands after it
-        module _ {p q end i' j' : ℕ} (pIs : p ≡ (zone_at old i).end) (qIs : q ≡ (zone_at new j).end) (endIs : end ≡ pick (ltb p q) p q)
+        module _ {p q end i' j' : ℕ} (pIs : p ≡ (zone_at old i).end) (qIs : q ≡ (zone_at new j).end) (endIs : end ≡ min p q)
             (iIs : i' ≡ pick (eqb p end) (i + zone_size) i) (jIs : j' ≡ pick (eqb q end) (j + zone_size) j)
           where
             end_low : next ≤ end
             end_low =
                 let l = facing-low old checkedOld i next w.left_old w.at_old near in
                 let m = facing-low new checkedNew j next w.left_new w.at_new near in
-                omega (arith, endIs, both_lesser p q next (omega (arith, pIs, l)) (omega (arith, qIs, m)))
+                omega (arith, endIs, pIs, l, qIs, m)
 
             end-both : (end ≤ (zone_at old i).end) × (end ≤ (zone_at new j).end)
-            end-both =
-                let e = lesser_both p q (pick (ltb p q) p q) (omega arith) in
-                (omega (arith, pIs, endIs, e.0), omega (arith, qIs, endIs, e.1))
+            end-both = (omega (arith, pIs, endIs), omega (arith, qIs, endIs))
 
             end-high : end ≤ last_kilometre
             end-high = omega (arith, end-both.0, facing-high old checkedOld i next w.left_old w.at_old near)

@@ -2,23 +2,20 @@
 -- of one call meet it. Assumes nothing.
 use mathlib.Core.Path.{◌≡◌}
 use Rattle.wire.proofs.AnswerLaws.{only}
-use Rattle.wire.proofs.CheckLaws.{never}
+use Rattle.wire.proofs.RefusalLaws.{tell_apart}
+use Rattle.std.specs.Prelude.{Result}
+use Rattle.wire.specs.declared.refusal.Refusal.{Refusal}
 use Rattle.wire.specs.Answers.{Promise}
-use Rattle.compare_spec.specs.Comparing.{comparison_of, Comparison}
+use Rattle.compare_spec.specs.Comparing.{comparison_of}
 use Rattle.compare.specs.Told.{tell_compare}
-use Rattle.compare.specs.declared.CompareAnswer.{CompareAnswer}
-use Rattle.compare.specs.declared.CompareAnswer.TheVariants.{Compared, Refused}
+use Rattle.compare.specs.declared.Comparison.{Comparison as Compared}
 use Rattle.compare.proofs.compare.Reads as compare
 
-pub compare_apart : (a b : CompareAnswer) → tell_compare a ≡ tell_compare b → a ≡ b
-compare_apart (Compared o n d) (Compared o' n' d') e =
-    let s : ◌≡◌ {A = Comparison} (record { old_elevations = o; new_elevations = n; differences = d })
-    (record { old_elevations = o'; new_elevations = n'; differences = d' })
-    = cc e in
-    λ i. Compared (s i).old_elevations (s i).new_elevations (s i).differences
-compare_apart (Compared o n d) (Refused k) e = never (cc e)
-compare_apart (Refused k) (Compared o n d) e = never (cc e)
-compare_apart (Refused k) (Refused k') e = cc e
+pub compare_apart : (a b : Result Compared Refusal) → tell_compare a ≡ tell_compare b → a ≡ b
+compare_apart =
+    tell_apart
+    (λ c. record { old_elevations = c.old_elevations; new_elevations = c.new_elevations; differences = c.differences })
+    (λ x y e. λ i. record { old_elevations = (e i).old_elevations; new_elevations = (e i).new_elevations; differences = (e i).differences })
 
 pub compare-says : (κs old new out r old' new' out' : _) → compare.Learnt κs (old, (new, (out, tt))) r (old', (new', (out', tt)))
     → Promise tell_compare (comparison_of old.now new.now out.now) r out'.now

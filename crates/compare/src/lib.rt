@@ -1,7 +1,7 @@
 // Two clutter filter maps compared: both are checked, their differences counted and, where the output has room for all of them, listed.
 #![tactic(auto)]
 
-ghost use Rattle.std.specs.Prelude.{◌≡◌, ◌+◌, ◌*◌, ◌≤◌, true, [], ◌∷◌, ltb, leb, eqb, length};
+ghost use Rattle.std.specs.Prelude.{◌≡◌, ◌+◌, ◌-◌, ◌*◌, ◌≤◌, true, [], ◌∷◌, ltb, leb, eqb, length};
 ghost use Rattle.form_spec.specs.Parts.{run_size};
 ghost use Rattle.wire.specs.Answers.{Promise};
 ghost use Rattle.wire.specs.Numbers.{num};
@@ -14,10 +14,10 @@ ghost use Rattle.compare_spec.specs.Comparing.{difference_size, comparison_of};
 ghost use Rattle.compare.specs.Told.{tell_compare};
 ghost use Rattle.compare.specs.Steps.{most_counted, listing, one_if, zones_differences, size_fetched, list_of, Same, Counts, Checked};
 
-use map::{AZIMUTHS, HEAD_SIZE, MOST_ELEVATIONS, MapAnswer};
+use map::{AZIMUTHS, HEAD_SIZE, MOST_ELEVATIONS};
 use map_check::{FIELD_SIZE, LAST_KILOMETRE, MOST_ZONES, ZONE_SIZE};
 use map_zone::{code_of, end_of};
-use wire::refusal;
+use wire::refusal::Refusal;
 
 // The halfwords that a difference takes.
 const DIFFERENCE_SIZE: usize = 6;
@@ -28,11 +28,12 @@ const MOST_RUNS: usize = 2 * MOST_ZONES - 1;
 // Room in halfwords for the most differences that two maps can have.
 pub const MOST: usize = DIFFERENCE_SIZE * (MOST_ELEVATIONS * (AZIMUTHS * MOST_RUNS));
 
-// The elevation segments of the old and of the new map and the number of differences, or the number of refusal.
+// Two maps compared: the elevation segments of either, and the number of differences.
 #[derive(Clone, Copy)]
-pub enum CompareAnswer {
-    Compared(u16, u16, u32),
-    Refused(u8),
+pub struct Comparison {
+    pub old_elevations: u16,
+    pub new_elevations: u16,
+    pub differences: u32,
 }
 
 // Azimuths in a row: how many, and how many bytes they take.
@@ -42,13 +43,20 @@ struct Run {
     bytes: usize,
 }
 
-fn least(a: u16, b: u16) -> u16
-    ensures { result ≡ pick (ltb a b) a b }
-{
-    if a < b {
-        return a;
-    }
-    b
+// An azimuth of both maps: its elevation segment, counted from 1, and its number there.
+#[derive(Clone, Copy)]
+struct Place {
+    elevation: u16,
+    azimuth: u16,
+}
+
+// The kilometres from `first` to before `next`, at which the codes of both maps stay the same.
+#[derive(Clone, Copy)]
+struct Stretch {
+    first: u16,
+    next: u16,
+    old: u16,
+    new: u16,
 }
 
 // The place of the zone that covers the next kilometre: the same place, or the next zone's if this zone ends here.
@@ -72,34 +80,24 @@ fn begun(ends: bool, first: u16, next: u16) -> u16
     first
 }
 
-// A difference, stored in six halfwords.
-fn put(out: &mut [u16], elevation: u16, azimuth: u16, first: u16, last: u16, old: u16, new: u16)
-    requires { length out.old ≡ difference_size }
-    ensures { out.new ≡ elevation ∷ azimuth ∷ first ∷ last ∷ old ∷ new ∷ [] }
+// A stretch as a difference, stored in six halfwords. `copy_from_slice` of an array would store them twice, in the array first.
+fn put(out: &mut [u16], place: Place, stretch: Stretch)
+    requires { (length out.old ≡ difference_size) × (1 ≤ stretch.next) }
+    ensures { out.new ≡ place.elevation ∷ place.azimuth ∷ stretch.first ∷ (stretch.next - 1) ∷ stretch.old ∷ stretch.new ∷ [] }
 {
-    out[0] = elevation;
-    out[1] = azimuth;
-    out[2] = first;
-    out[3] = last;
-    out[4] = old;
-    out[5] = new;
+    out[0] = place.elevation;
+    out[1] = place.azimuth;
+    out[2] = stretch.first;
+    out[3] = stretch.next - 1;
+    out[4] = stretch.old;
+    out[5] = stretch.new;
 }
 
-// Counts the stretch of kilometres from `first` to before `next` if `lists` is true, and lists it where there is room.
+// Counts a stretch if `lists` is true, and lists it where there is room, in six halfwords.
 // Room is tested first: while differences are counted there is none, and so no branch on `lists`.
-fn list(
-    out: &mut [u16],
-    count: usize,
-    lists: bool,
-    elevation: u16,
-    azimuth: u16,
-    first: u16,
-    next: u16,
-    old: u16,
-    new: u16,
-) -> usize
-    requires { (count ≤ most_counted) × (lists ≡ true → 1 ≤ next) }
-    ensures { sheet (difference_size * result) out.new ≡ listing (one_if lists elevation azimuth first next old new) (sheet (difference_size * count) out.old) }
+fn list(out: &mut [u16], count: usize, lists: bool, place: Place, stretch: Stretch) -> usize
+    requires { (count ≤ most_counted) × (lists ≡ true → 1 ≤ stretch.next) }
+    ensures { sheet (difference_size * result) out.new ≡ listing (one_if lists place.elevation place.azimuth stretch.first stretch.next stretch.old stretch.new) (sheet (difference_size * count) out.old) }
 {
     let at = DIFFERENCE_SIZE * count;
     let end = at + DIFFERENCE_SIZE;
@@ -109,8 +107,7 @@ fn list(
     if !lists {
         return count;
     }
-    let last = next - 1;
-    put(&mut out[at..end], elevation, azimuth, first, last, old, new);
+    put(&mut out[at..end], place, stretch);
     count + 1
 }
 
@@ -125,44 +122,41 @@ fn four_at(part: &[u8], at: usize) -> u32
 
 // Compares the azimuth at the start of both parts. The zones of both are walked together, from one end to the next end of either.
 // Branches on which end comes first and where a stretch ends would mispredict: the only one is in `list`, where there is room.
-fn compare_zones(
-    old: &[u8],
-    new: &[u8],
-    elevation: u16,
-    azimuth: u16,
-    out: &mut [u16],
-    count: usize,
-) -> usize
+fn compare_zones(old: &[u8], new: &[u8], place: Place, out: &mut [u16], count: usize) -> usize
     requires { AllHold (azimuth_part.checks old.now) × AllHold (azimuth_part.checks new.now) × (count + kilometres ≤ most_counted) }
-    ensures { sheet (difference_size * result) out.new ≡ listing (zones_differences elevation azimuth old.now new.now) (sheet (difference_size * count) out.old) }
+    ensures { sheet (difference_size * result) out.new ≡ listing (zones_differences place.elevation place.azimuth old.now new.now) (sheet (difference_size * count) out.old) }
 {
     let mut i = FIELD_SIZE;
     let mut j = FIELD_SIZE;
-    let mut next: u16 = 0;
-    let mut first: u16 = 0;
-    let mut was = code_of(four_at(old, i));
-    let mut is = code_of(four_at(new, j));
+    let mut open = Stretch {
+        first: 0,
+        next: 0,
+        old: code_of(four_at(old, i)),
+        new: code_of(four_at(new, j)),
+    };
     let mut listed = count;
-    while next as usize <= LAST_KILOMETRE {
+    while open.next as usize <= LAST_KILOMETRE {
         let zone_old = four_at(old, i);
         let zone_new = four_at(new, j);
         let code = code_of(zone_old);
         let other = code_of(zone_new);
-        let ends = (was != code) | (is != other);
-        let lists = ends & (was != is);
-        listed = list(out, listed, lists, elevation, azimuth, first, next, was, is);
-        first = begun(ends, first, next);
-        was = code;
-        is = other;
+        let ends = (open.old != code) | (open.new != other);
+        let lists = ends & (open.old != open.new);
+        listed = list(out, listed, lists, place, open);
         let end_old = end_of(zone_old);
         let end_new = end_of(zone_new);
-        let end = least(end_old, end_new);
+        let end = end_old.min(end_new);
         i = past(i, end_old, end);
         j = past(j, end_new, end);
-        next = end + 1;
+        open = Stretch {
+            first: begun(ends, open.first, open.next),
+            next: end + 1,
+            old: code,
+            new: other,
+        };
     }
-    let lists = was != is;
-    list(out, listed, lists, elevation, azimuth, first, next, was, is)
+    let lists = open.old != open.new;
+    list(out, listed, lists, place, open)
 }
 
 // The size in bytes of the azimuth that a part begins with.
@@ -172,22 +166,13 @@ fn size_of(part: &[u8]) -> usize
     FIELD_SIZE + ZONE_SIZE * wire::fetch::<u16>(part, 0) as usize
 }
 
-fn shorter(old: &[u8], new: &[u8]) -> usize
-    ensures { (result ≤ length old.now) × (result ≤ length new.now) }
-{
-    if old.len() < new.len() {
-        return old.len();
-    }
-    new.len()
-}
-
 // How many bytes at the start of two parts are the same, in steps of four. Up to seven bytes at the end may not be compared.
 fn same_bytes(old: &[u8], new: &[u8]) -> usize
     ensures { (result ≤ length old.now) × (result ≤ length new.now) × Same result old.now new.now }
 {
-    let end = shorter(old, new);
-    let mut at: usize = 0;
-    while at + 2 * ZONE_SIZE <= end {
+    let turns = old.len().min(new.len()) / (2 * ZONE_SIZE);
+    for turn in 0..turns {
+        let at = 2 * ZONE_SIZE * turn;
         if four_at(old, at) != four_at(new, at) {
             return at;
         }
@@ -195,9 +180,8 @@ fn same_bytes(old: &[u8], new: &[u8]) -> usize
         if four_at(old, next) != four_at(new, next) {
             return next;
         }
-        at = next + ZONE_SIZE;
     }
-    at
+    2 * ZONE_SIZE * turns
 }
 
 // The azimuths that lie wholly in the first `same` bytes of a part, at most `most` of them, and the bytes that they take.
@@ -206,8 +190,7 @@ fn pass(part: &[u8], same: usize, most: usize) -> Run
     ensures { (result.azimuths ≤ most) × (result.bytes ≤ same) × (result.bytes ≡ run_size azimuth_part result.azimuths part.now) }
 {
     let mut at: usize = 0;
-    let mut count: usize = 0;
-    while count < most {
+    for count in 0..most {
         let size = size_of(&part[at..]);
         if same - at < size {
             return Run {
@@ -216,10 +199,9 @@ fn pass(part: &[u8], same: usize, most: usize) -> Run
             };
         }
         at += size;
-        count += 1;
     }
     Run {
-        azimuths: count,
+        azimuths: most,
         bytes: at,
     }
 }
@@ -242,9 +224,11 @@ fn compare_azimuths(old: &[u8], new: &[u8], elevations: u16, out: &mut [u16]) ->
         j += run.bytes;
         index += run.azimuths;
         if index < total {
-            let elevation = (1 + index / AZIMUTHS) as u16;
-            let azimuth = (index % AZIMUTHS) as u16;
-            count = compare_zones(&old[i..], &new[j..], elevation, azimuth, out, count);
+            let place = Place {
+                elevation: (1 + index / AZIMUTHS) as u16,
+                azimuth: (index % AZIMUTHS) as u16,
+            };
+            count = compare_zones(&old[i..], &new[j..], place, out, count);
             i += size_of(&old[i..]);
             j += size_of(&new[j..]);
             index += 1;
@@ -266,27 +250,33 @@ fn has_room(old: &[u8], new: &[u8], elevations: u16, out: &mut [u16]) -> bool
 }
 
 // Compares two checked bodies with these numbers of elevation segments.
-fn compare_checked(old: &[u8], new: &[u8], older: u16, newer: u16, out: &mut [u16]) -> CompareAnswer
+fn compare_checked(
+    old: &[u8],
+    new: &[u8],
+    older: u16,
+    newer: u16,
+    out: &mut [u16],
+) -> Result<Comparison, Refusal>
     requires { Counts older old.now × Counts newer new.now }
     ensures { Promise tell_compare (comparison_of old.now new.now out.old) result out.new }
 {
-    let elevations = least(older, newer);
+    let elevations = older.min(newer);
     if !has_room(old, new, elevations, out) {
-        return CompareAnswer::Refused(refusal::OUTPUT_SMALL);
+        return Err(Refusal::OutputSmall);
     }
     let count = compare_azimuths(old, new, elevations, out);
-    CompareAnswer::Compared(older, newer, count as u32)
+    Ok(Comparison {
+        old_elevations: older,
+        new_elevations: newer,
+        differences: count as u32,
+    })
 }
 
 // Compares two bodies 15: reports their elevation segments and the number of differences, and lists each as six halfwords.
-pub fn compare(old: &[u8], new: &[u8], out: &mut [u16]) -> CompareAnswer
+pub fn compare(old: &[u8], new: &[u8], out: &mut [u16]) -> Result<Comparison, Refusal>
     ensures { Promise tell_compare (comparison_of old.now new.now out.old) result out.new }
 {
-    match map::check_map(old) {
-        MapAnswer::Refused(number) => CompareAnswer::Refused(number),
-        MapAnswer::Map(_, _, older) => match map::check_map(new) {
-            MapAnswer::Refused(number) => CompareAnswer::Refused(number),
-            MapAnswer::Map(_, _, newer) => { compare_checked(old, new, older, newer, out) }
-        },
-    }
+    let older = map::check_map(old)?.elevations;
+    let newer = map::check_map(new)?.elevations;
+    compare_checked(old, new, older, newer, out)
 }

@@ -3,7 +3,8 @@ use native.Mathlib.Omega.{arith}
 use mathlib.Core.Path.{◌≡◌, refl, ◌∙◌}
 use mathlib.Core.Bool.{true, not, ◌&&◌, ◌||◌}
 use mathlib.Core.List.{List}
-use lib.Dec.{eqb, ltb}
+use Rattle.std.specs.Prelude.{min}
+use lib.Dec.{eqb}
 use lib.ListN.{length}
 use Rattle.wire.specs.Numbers.{Octets, num}
 use Rattle.wire.specs.Checks.{AllHold, pick}
@@ -40,7 +41,7 @@ module _ {old new : List ℕ} (old_octets : Octets old) (new_octets : Octets new
 
     -- the ends are taken from them too, and the rest is as the loop has it
     turned : {p q end i' j' first' listed' : ℕ} {out' : List ℕ} → p ≡ zone_old % halfword_numbers → q ≡ zone_new % halfword_numbers
-        → end ≡ pick (ltb p q) p q → i' ≡ pick (eqb p end) (i + zone_size) i → j' ≡ pick (eqb q end) (j + zone_size) j
+        → end ≡ min p q → i' ≡ pick (eqb p end) (i + zone_size) i → j' ≡ pick (eqb q end) (j + zone_size) j
         → first' ≡ pick (not (eqb was code) || not (eqb is other)) next first
         → sheet (difference_size * listed') out'
         ≡ listing (one_if ((not (eqb was code) || not (eqb is other)) && not (eqb was is)) elevation azimuth first next was is)
@@ -57,69 +58,69 @@ four_at-requires c = first_there c.args.old.now c.requires.0
 pub four_at-requires-2 : goal.four_at-requires-2
 four_at-requires-2 c = first_there c.args.new.now c.requires.1
 
-pub loop-next-init : goal.loop-next-init
-loop-next-init c =
-    let old_octets : Octets c.args.old.now = λ k. (c.shared_slice_known-1.given k).fits in
-    let new_octets : Octets c.args.new.now = λ k. (c.shared_slice_known-2-1.given k).fits in (
+pub loop-open-init : goal.loop-open-init
+loop-open-init c =
+    let old_octets : Octets c.args.old.now = λ k. (c.type_inv.old k).fits in
+    let new_octets : Octets c.args.new.now = λ k. (c.type_inv.new k).fits in (
       omega arith,
       omega arith,
       omega arith,
       refl,
       walking_start c.requires.0 c.requires.1
-          (c.code_of-was.ensures ∙ code_half c.args.old.now old_octets field_size c.four_at.result c.four_at.ensures)
-          (c.code_of-is.ensures ∙ code_half c.args.new.now new_octets field_size c.four_at-2.result c.four_at-2.ensures),
+          (c.code_of.ensures ∙ code_half c.args.old.now old_octets field_size c.four_at.result c.four_at.ensures)
+          (c.code_of-2.ensures ∙ code_half c.args.new.now new_octets field_size c.four_at-2.result c.four_at-2.ensures),
     )
 
 pub four_at-zone_old-requires : goal.four_at-zone_old-requires
 four_at-zone_old-requires c =
-    let l = c.loop-next in
+    let l = c.loop-open in
     let w = l.invariant.4 in
-    facing-there c.args.old.now c.requires.0 l.i l.next w.left_old w.at_old c.loop-next-test.true
+    facing-there c.args.old.now c.requires.0 l.i l.open.next w.left_old w.at_old c.loop-open-test.true
 
 pub four_at-zone_new-requires : goal.four_at-zone_new-requires
 four_at-zone_new-requires c =
-    let l = c.loop-next in
+    let l = c.loop-open in
     let w = l.invariant.4 in
-    facing-there c.args.new.now c.requires.1 l.j l.next w.left_new w.at_new c.loop-next-test.true
+    facing-there c.args.new.now c.requires.1 l.j l.open.next w.left_new w.at_new c.loop-open-test.true
 
 pub list-listed-requires : goal.list-listed-requires
 list-listed-requires c =
-    let l = c.loop-next in (
+    let l = c.loop-open in (
       omega arith,
-      low (λ k. (c.shared_slice_known-1.given k).fits) (λ k. (c.shared_slice_known-2-1.given k).fits) c.requires.0 c.requires.1
-          l.invariant.4 c.loop-next-test.true c.four_at-zone_old.ensures c.four_at-zone_new.ensures c.code_of-code.ensures c.code_of-other.ensures,
+      low (λ k. (c.type_inv.old k).fits) (λ k. (c.type_inv.new k).fits) c.requires.0 c.requires.1
+          l.invariant.4 c.loop-open-test.true c.four_at-zone_old.ensures c.four_at-zone_new.ensures c.code_of-code.ensures c.code_of-other.ensures,
     )
 
-pub overflow_add-next : goal.overflow_add-next
-overflow_add-next c =
-    let l = c.loop-next in
+pub overflow_add-open : goal.overflow_add-open
+overflow_add-open c =
+    let l = c.loop-open in
     let t =
-    turned (λ k. (c.shared_slice_known-1.given k).fits) (λ k. (c.shared_slice_known-2-1.given k).fits) c.requires.0 c.requires.1
-    l.invariant.4 c.loop-next-test.true c.four_at-zone_old.ensures c.four_at-zone_new.ensures c.code_of-code.ensures c.code_of-other.ensures
-    c.end_of-end_old.ensures c.end_of-end_new.ensures c.least-end.ensures c.past-i.ensures c.past-j.ensures c.begun-first.ensures
+    turned (λ k. (c.type_inv.old k).fits) (λ k. (c.type_inv.new k).fits) c.requires.0 c.requires.1
+    l.invariant.4 c.loop-open-test.true c.four_at-zone_old.ensures c.four_at-zone_new.ensures c.code_of-code.ensures c.code_of-other.ensures
+    c.end_of-end_old.ensures c.end_of-end_new.ensures c.min-end.ensures c.past-i.ensures c.past-j.ensures c.begun.ensures
     c.list-listed.ensures in
     record { fits = omega (arith, t.1) }
 
-pub loop-next-smaller : goal.loop-next-smaller
-loop-next-smaller c =
-    let l = c.loop-next in
+pub loop-open-smaller : goal.loop-open-smaller
+loop-open-smaller c =
+    let l = c.loop-open in
     let t =
-    turned (λ k. (c.shared_slice_known-1.given k).fits) (λ k. (c.shared_slice_known-2-1.given k).fits) c.requires.0 c.requires.1
-    l.invariant.4 c.loop-next-test.true c.four_at-zone_old.ensures c.four_at-zone_new.ensures c.code_of-code.ensures c.code_of-other.ensures
-    c.end_of-end_old.ensures c.end_of-end_new.ensures c.least-end.ensures c.past-i.ensures c.past-j.ensures c.begun-first.ensures
+    turned (λ k. (c.type_inv.old k).fits) (λ k. (c.type_inv.new k).fits) c.requires.0 c.requires.1
+    l.invariant.4 c.loop-open-test.true c.four_at-zone_old.ensures c.four_at-zone_new.ensures c.code_of-code.ensures c.code_of-other.ensures
+    c.end_of-end_old.ensures c.end_of-end_new.ensures c.min-end.ensures c.past-i.ensures c.past-j.ensures c.begun.ensures
     c.list-listed.ensures in
     omega (arith, t.0)
 
-pub loop-next-preserved : goal.loop-next-preserved
-loop-next-preserved c =
-    let l = c.loop-next in
+pub loop-open-preserved : goal.loop-open-preserved
+loop-open-preserved c =
+    let l = c.loop-open in
     let t =
-    turned (λ k. (c.shared_slice_known-1.given k).fits) (λ k. (c.shared_slice_known-2-1.given k).fits) c.requires.0 c.requires.1
-    l.invariant.4 c.loop-next-test.true c.four_at-zone_old.ensures c.four_at-zone_new.ensures c.code_of-code.ensures c.code_of-other.ensures
-    c.end_of-end_old.ensures c.end_of-end_new.ensures c.least-end.ensures c.past-i.ensures c.past-j.ensures c.begun-first.ensures
+    turned (λ k. (c.type_inv.old k).fits) (λ k. (c.type_inv.new k).fits) c.requires.0 c.requires.1
+    l.invariant.4 c.loop-open-test.true c.four_at-zone_old.ensures c.four_at-zone_new.ensures c.code_of-code.ensures c.code_of-other.ensures
+    c.end_of-end_old.ensures c.end_of-end_new.ensures c.min-end.ensures c.past-i.ensures c.past-j.ensures c.begun.ensures
     c.list-listed.ensures in
     let w = t.2 in
-    let end = c.least-end.result in (
+    let end = c.min-end.result in (
       facing-place c.args.old.now c.requires.0 c.past-i.result (end + 1) w.left_old w.at_old,
       facing-place c.args.new.now c.requires.1 c.past-j.result (end + 1) w.left_new w.at_new,
       omega (arith, t.1),
@@ -128,4 +129,4 @@ loop-next-preserved c =
     )
 
 pub returns : goal.returns
-returns c = c.list.ensures ∙ walking-done c.requires.0 c.requires.1 c.loop-next.invariant.4 c.loop-next-test.false
+returns c = c.list.ensures ∙ walking-done c.requires.0 c.requires.1 c.loop-open.invariant.4 c.loop-open-test.false

@@ -15,14 +15,14 @@ pub returns-then-out-ge-MOST : goal.returns-then-out-ge-MOST
 returns-then-out-ge-MOST c =
     let old = c.args.old.now in
     let new = c.args.new.now in
-    let most = room_most c.requires (λ i. (c.shared_slice_known-1.given i).fits) (λ i. (c.shared_slice_known-2-1.given i).fits) in
+    let most = room_most c.requires (λ i. (c.type_inv.old i).fits) (λ i. (c.type_inv.new i).fits) in
     (sym (le-leb (length (list_of old new)) (length c.args.out.now) (omega (arith, most))), refl)
 
 pub overflow_mul-result : goal.overflow_mul-result
 overflow_mul-result c =
     let old = c.args.old.now in
     let new = c.args.new.now in
-    let most = room_most c.requires (λ i. (c.shared_slice_known-1.given i).fits) (λ i. (c.shared_slice_known-2-1.given i).fits) in
+    let most = room_most c.requires (λ i. (c.type_inv.old i).fits) (λ i. (c.type_inv.new i).fits) in
     let w = c.compare_azimuths-count in
     let all : difference_size * w.result ≡ length (list_of old new) = counted old new w.result _ _ w.ensures in
     record { fits = omega (arith, most, all) }

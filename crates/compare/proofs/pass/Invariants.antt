@@ -1,4 +1,4 @@
-use Prim.Native.Nat.{◌-◌, ◌≤◌}
+use Prim.Native.Nat.{◌≤◌}
 use mathlib.Core.Path.{◌≡◌}
 use lib.ListN.{length}
 use Rattle.map_spec.specs.Reading.{azimuth_part}
@@ -6,7 +6,4 @@ use Rattle.form_spec.specs.Parts.{run_size}
 use Rattle.compare.proofs.pass.Given as goal
 
 abbrev pub invariant-loop-count : goal.invariant-loop-count
-invariant-loop-count l = (l.same ≤ length l.part) × (l.at ≤ l.same) × (l.count ≤ l.most) × (l.at ≡ run_size azimuth_part l.count l.part)
-
-abbrev pub decreases-loop-count : goal.decreases-loop-count
-decreases-loop-count l = l.most - l.count
+invariant-loop-count l = (l.same ≤ length l.part) × (l.at ≤ l.same) × (l.at ≡ run_size azimuth_part l.count l.part)

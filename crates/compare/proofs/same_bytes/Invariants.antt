@@ -1,10 +1,7 @@
-use Prim.Native.Nat.{◌-◌, ◌≤◌}
-use lib.ListN.{length}
+use Prim.Native.Nat.{◌*◌}
+use Rattle.map_spec.specs.Map.{zone_size}
 use Rattle.compare.specs.Steps.{Same}
 use Rattle.compare.proofs.same_bytes.Given as goal
 
-abbrev pub invariant-loop-at : goal.invariant-loop-at
-invariant-loop-at l = (l.end ≤ length l.old) × (l.end ≤ length l.new) × (l.at ≤ l.end) × Same l.at l.old l.new
-
-abbrev pub decreases-loop-at : goal.decreases-loop-at
-decreases-loop-at l = l.end - l.at
+abbrev pub invariant-loop-turn : goal.invariant-loop-turn
+invariant-loop-turn l = Same (2 * zone_size * l.turn) l.old l.new
