@@ -1,5 +1,5 @@
 -- What the private functions promise each other. No public promise cites this file.
-use Rattle.std.specs.Prelude.{ℕ, zero, suc, ◌+◌, ◌-◌, ◌*◌, ◌/◌, ◌^◌, ◌≤◌, ◌<◌, List, leb, eqb, length, drop, Result, Option, None, Some}
+use Rattle.std.specs.Prelude.{ℕ, zero, suc, ◌+◌, ◌-◌, ◌*◌, ◌/◌, ◌^◌, ◌≤◌, ◌<◌, List, leb, eqb, length, drop, Result, Option as Maybe, None, Some}
 use Rattle.std.proofs.Math.Option.{none, some}
 use Rattle.wire.specs.Numbers.{num}
 use Rattle.wire.specs.Checks.{pick}
@@ -23,12 +23,12 @@ head_at b p = head_of (moment_at p (drop p b))
 
 -- ---- where a moment begins, by its name
 -- the first of the n pointers from byte q on whose block has this name
-abbrev pub place_from : List ℕ → ℕ → ℕ → ℕ → Option ℕ
+abbrev pub place_from : List ℕ → ℕ → ℕ → ℕ → Maybe ℕ
 place_from b name q zero = None
 place_from b name q (suc n) = pick (eqb (name_in (part b q)) name) (Some (pointer b q)) (place_from b name (q + 4) n)
 
 -- the same for all pointers to moments of an accepted radial
-abbrev pub place_in : List ℕ → ℕ → Option ℕ
+abbrev pub place_in : List ℕ → ℕ → Maybe ℕ
 place_in b name = place_from b name moment_pointer (count_in b - constants)
 
 abbrev pub tell_place : Result ℕ Refusal → Answer ℕ
@@ -38,7 +38,7 @@ abbrev pub place_shown : Answer Moment → Answer ℕ
 place_shown a = onward a (λ m. given m.place)
 
 -- 21: no moment has the name asked for
-abbrev pub place_asked : Option ℕ → Answer ℕ
+abbrev pub place_asked : Maybe ℕ → Answer ℕ
 place_asked None = refused 21
 place_asked (Some place) = given place
 

@@ -3,7 +3,7 @@ use native.Mathlib.Omega.{arith}
 use mathlib.Core.Path.{◌≡◌, refl, ap, ◌∙◌}
 use mathlib.Core.List.{List}
 use lib.ListN.{length}
-use Rattle.std.specs.Prelude.{Option, None, Some}
+use Rattle.std.specs.Prelude.{Option as Maybe, None, Some}
 use Rattle.std.specs.Option.{ok_or}
 use borrow.Author.Rules.{rules}
 use Rattle.wire.specs.declared.refusal.Refusal.TheVariants.{AskedFor}
@@ -20,7 +20,7 @@ asked : (name : List ℕ) (r : ℕ) → length name ≡ 4 → r ≡ fetched 4 na
 asked name r four e = e ∙ fetched-whole 4 name 0 (omega (arith, four))
 
 -- 21 where no place was found
-found : (o : Option ℕ) → tell_place (ok_or o AskedFor) ≡ place_asked o
+found : (o : Maybe ℕ) → tell_place (ok_or o AskedFor) ≡ place_asked o
 found None = refl
 found (Some p) = refl
 
