@@ -107,7 +107,7 @@ beyond body body' d o long e same = demand3.unnamed body body' d (record { octet
         go false q = absurd (never_named body.now d i o e (ltb-false i most_said q) n)
 
 -- 6 and 7 as refusals
-type_or_segment : (b : Bool) → refused {A = Header} (pick b 6 7) ≡ tell_header (Err (pick b «Type» Segment))
+type_or_segment : (b : Bool) → refused (pick b 6 7) ≡ tell_header (Err (pick b «Type» Segment))
 type_or_segment true = refl
 type_or_segment false = refl
 
