@@ -1,4 +1,5 @@
 // The words of a question behind its name: an entry's word, and what it is asked with.
+use radial::Name;
 use ulmarzhe_text::words;
 
 // What is left of the question. It begins with the space before the next word.
@@ -47,11 +48,8 @@ impl<'a> Args<'a> {
     }
 
     // The four bytes of a moment's name.
-    pub fn name(&mut self) -> Option<[u8; 4]> {
-        let [a, b, c, d] = self.bytes()? else {
-            return None;
-        };
-        Some([*a, *b, *c, *d])
+    pub fn name(&mut self) -> Option<Name> {
+        self.bytes()?.try_into().ok()
     }
 
     // An `x` and digits, which are turned into bytes in place.

@@ -37,14 +37,14 @@ impl<'a> Lines<'a> {
         if !has_end && start == end {
             return None;
         }
-        self.is_within = !has_end && !self.reading.ended;
-        let is_within = self.is_within;
+        let is_whole = has_end || self.reading.ended;
+        self.is_within = !is_whole;
         self.reading.look_at(end.saturating_add(1));
         let text = self.reading.bytes_mut().get_mut(start..end)?;
-        if is_within {
-            return Some(Line::TooLong(text));
+        if is_whole {
+            return Some(Line::Whole(text));
         }
-        Some(Line::Whole(text))
+        Some(Line::TooLong(text))
     }
 
     // Why the file could not be read to its end.
@@ -66,7 +66,7 @@ impl<'a> Lines<'a> {
         end
     }
 
-    // Looks behind the rest of a line.
+    // Looks behind the rest of a line that was too long.
     fn skip_rest(&mut self) {
         for _ in 0..u64::MAX {
             let end = self.line_end();

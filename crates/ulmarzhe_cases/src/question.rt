@@ -1,5 +1,6 @@
 // The questions that a case can ask, one for each entry of the library.
 use crate::args::Args;
+use radial::Name;
 use writer_head::Given;
 
 // `most`: how many bytes, or of a comparison how many halfwords, the library is lent; `most_runs`: room for how many runs.
@@ -21,11 +22,11 @@ pub enum Question<'a> {
     },
     Radial(&'a [u8]),
     Gates {
-        name: [u8; 4],
+        name: Name,
         body: &'a [u8],
     },
     Gate {
-        name: [u8; 4],
+        name: Name,
         gate: usize,
         body: &'a [u8],
     },
