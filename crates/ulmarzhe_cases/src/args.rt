@@ -1,4 +1,6 @@
 // The words of a question behind its name: an entry's word, and what it is asked with.
+ghost use Rattle.std.specs.Prelude.{◌≤◌};
+
 use radial::Name;
 use ulmarzhe_text::words;
 
@@ -47,9 +49,25 @@ impl<'a> Args<'a> {
         u32::try_from(self.number()?).ok()
     }
 
-    // The four bytes of a moment's name.
+    // The four bytes of a moment's name. A pair that is no digits counts as 256 and reads as 0, and the name is refused only where the four
+    // come to more than four bytes can.
     pub fn name(&mut self) -> Option<Name> {
-        self.bytes()?.try_into().ok()
+        let [b'x', a, b, c, d, e, f, g, h] = self.word()? else {
+            return None;
+        };
+        let first = words::octet(*a, *b);
+        let second = words::octet(*c, *d);
+        let third = words::octet(*e, *f);
+        let fourth = words::octet(*g, *h);
+        if 1020 < worth(first) + worth(second) + worth(third) + worth(fourth) {
+            return None;
+        }
+        Some([
+            first.unwrap_or(0),
+            second.unwrap_or(0),
+            third.unwrap_or(0),
+            fourth.unwrap_or(0),
+        ])
     }
 
     // An `x` and digits, which are turned into bytes in place.
@@ -72,5 +90,14 @@ impl<'a> Args<'a> {
             return None;
         }
         Some(bytes)
+    }
+}
+
+fn worth(pair: Option<u8>) -> u16
+    ensures { result ≤ 256 }
+{
+    match pair {
+        Some(byte) => u16::from(byte),
+        None => 256,
     }
 }
