@@ -129,29 +129,26 @@ module _ {A : Type 0} (part : Part A) where
       let s = part.size d in
       part_stops (part.checks d) (run_checks part l (drop s d)) s (given (at + (s + run_size part l (drop s d)))) k e
 
-  pub walk_turn : (count done at : ℕ) (b : List ℕ) (m : ℕ) → done < count → given m ≡ part_step part (drop at b)
-      → walk part (count - (done + 1)) (at + m) b ≡ walk part (count - done) at b
-  walk_turn count done at b m h e =
-      let l : count - done ≡ suc (count - (done + 1)) = omega arith in
-      sym (ap (λ (k : ℕ). walk part k at b) l ∙ walk_turn' (count - (done + 1)) at b m (sym e))
+  pub walk_turn : (left at : ℕ) (b : List ℕ) (m : ℕ) → 0 < left → given m ≡ part_step part (drop at b)
+      → walk part (left - 1) (at + m) b ≡ walk part left at b
+  walk_turn left at b m h e =
+      let l : left ≡ suc (left - 1) = omega arith in
+      sym (ap (λ (k : ℕ). walk part k at b) l ∙ walk_turn' (left - 1) at b m (sym e))
 
-  pub walk-stop : (count done at : ℕ) (b : List ℕ) (k : ℕ) → done < count → refused k ≡ part_step part (drop at b)
-      → refused k ≡ walk part (count - done) at b
-  walk-stop count done at b k h e =
-      let l : count - done ≡ suc (count - (done + 1)) = omega arith in
-      sym (ap (λ (k : ℕ). walk part k at b) l ∙ walk-stop' (count - (done + 1)) at b k (sym e))
+  pub walk-stop : (left at : ℕ) (b : List ℕ) (k : ℕ) → 0 < left → refused k ≡ part_step part (drop at b) → refused k ≡ walk part left at b
+  walk-stop left at b k h e =
+      let l : left ≡ suc (left - 1) = omega arith in
+      sym (ap (λ (k : ℕ). walk part k at b) l ∙ walk-stop' (left - 1) at b k (sym e))
 
-  pub walk_done : (count done at : ℕ) (b : List ℕ) → count ≤ done → given at ≡ walk part (count - done) at b
+  pub walk_done : (left at : ℕ) (b : List ℕ) → left ≤ 0 → given at ≡ walk part left at b
   unfolding run_checks run_size
-  walk_done count done at b h =
-      let l : count - done ≡ 0 = omega arith in
+  walk_done left at b h =
+      let l : left ≡ 0 = omega arith in
       let none : walk part 0 at b ≡ given at = ap given (add-zero at) in
       sym (ap (λ (k : ℕ). walk part k at b) l ∙ none)
 
-  pub walk_start : (count : ℕ) (b : List ℕ) → walk part (count - 0) 0 b ≡ run_step part count b
-  walk_start count b =
-      let l : count - 0 ≡ count = omega arith in
-      ap (λ (k : ℕ). walk part k 0 b) l ∙ ap (λ (k : ℕ). rule (run_checks part count b) k) (zero-add (run_size part count b))
+  pub walk_start : (left : ℕ) (b : List ℕ) → walk part left 0 b ≡ run_step part left b
+  walk_start left b = ap (λ (k : ℕ). rule (run_checks part left b) k) (zero-add (run_size part left b))
 
   -- a part that passes lies within the bytes
   pub part-fits : ((b : List ℕ) → AllHold (part.checks b) → part.size b ≤ length b) → (at : ℕ) (b : List ℕ) (m : ℕ) → at ≤ length b

@@ -31,7 +31,7 @@ returns-in_err-at c =
     let p = err_from_is_err_and c.from_residual.result c.from_residual.ensures.1 in
     let l = c.loop in
     rw (p.1, p.2)
-    (walk-stop azimuth_part c.args.count l.counter l.at c.args.part.now _ c.loop-test.true
+    (walk-stop azimuth_part l.counter l.at c.args.part.now _ c.loop-test.true
     (first_left l.at c.args.part.now c.in_err-at.ensures) ∙ l.invariant.1)
 
 pub overflow_add-at : goal.overflow_add-at
@@ -43,11 +43,11 @@ pub loop-preserved : goal.loop-preserved
 loop-preserved c =
     let l = c.loop in (
       inside l.at c.args.part.now l.invariant.0 c.in_ok-at.ensures,
-      walk_turn azimuth_part c.args.count l.counter l.at c.args.part.now _ c.loop-test.true
+      walk_turn azimuth_part l.counter l.at c.args.part.now _ c.loop-test.true
           (first_left l.at c.args.part.now c.in_ok-at.ensures) ∙ l.invariant.1,
     )
 
 pub returns : goal.returns
 returns c =
     let l = c.loop in
-    walk_done azimuth_part c.args.count l.counter l.at c.args.part.now c.loop-test.false ∙ l.invariant.1
+    walk_done azimuth_part l.counter l.at c.args.part.now c.loop-test.false ∙ l.invariant.1
