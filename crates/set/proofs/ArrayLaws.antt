@@ -15,7 +15,7 @@ use Rattle.header_rule.specs.Rules.{most_segments}
 use Rattle.wire.proofs.CheckLaws.{by_eq}
 use Rattle.copy.proofs.CopyLaws.{copied-same}
 use Rattle.set.specs.declared.Gathered.{Gathered}
-use Rattle.set.specs.Steps.{Parts, Within, all_set, parts_long, parts, Joinable}
+use Rattle.set.specs.Steps.{start_of, end_of, Parts, Within, all_set, parts_long, parts, Joinable}
 
 -- ---- the flags
 both_is : (a b : Bool) → (a && b) ≡ both a b
@@ -32,7 +32,7 @@ set_all flags (suc n) l =
 
 -- ---- the parts
 module _ (m : Gathered) where
-  pub long_more : (k : ℕ) → parts_long m (k + 1) ≡ parts_long m k + (get_or m.ends k 0 - get_or m.starts k 0)
+  pub long_more : (k : ℕ) → parts_long m (k + 1) ≡ parts_long m k + (end_of m k - start_of m k)
   unfolding parts_long
   long_more k = rw add-one
 
@@ -43,25 +43,25 @@ module _ (m : Gathered) where
       by_eq k (suc n) (λ q. rw q (omega arith)) (λ ne. let below = long-least k n (omega (arith, ne)) in omega arith)
 
   -- the next part has room where all of them have
-  pub long-next : (k n : ℕ) → k < n → parts_long m k + (get_or m.ends k 0 - get_or m.starts k 0) ≤ parts_long m n
+  pub long-next : (k n : ℕ) → k < n → parts_long m k + (end_of m k - start_of m k) ≤ parts_long m n
   long-next k n l = let below : parts_long m (k + 1) ≤ parts_long m n = long-least (k + 1) n (omega arith) in
       omega (arith, long_more k)
 
 module _ (s : List ℕ) (m : Gathered) where
-  pub parts_more : (k : ℕ) → parts s m (k + 1) ≡ parts s m k ++ take (get_or m.ends k 0 - get_or m.starts k 0)
-      (drop (get_or m.starts k 0) s)
+  pub parts_more : (k : ℕ) → parts s m (k + 1) ≡ parts s m k ++ take (end_of m k - start_of m k)
+      (drop (start_of m k) s)
   unfolding parts
   parts_more k = rw add-one
 
-  part-long : (k : ℕ) → get_or m.starts k 0 ≤ get_or m.ends k 0 → get_or m.ends k 0 ≤ length s
-      → length (take (get_or m.ends k 0 - get_or m.starts k 0) (drop (get_or m.starts k 0) s)) ≡ get_or m.ends k 0 - get_or m.starts k 0
-  part-long k a b = length-take-le (get_or m.ends k 0 - get_or m.starts k 0) (drop (get_or m.starts k 0) s) (rw length-drop (omega arith))
+  part-long : (k : ℕ) → start_of m k ≤ end_of m k → end_of m k ≤ length s
+      → length (take (end_of m k - start_of m k) (drop (start_of m k) s)) ≡ end_of m k - start_of m k
+  part-long k a b = length-take-le (end_of m k - start_of m k) (drop (start_of m k) s) (rw length-drop (omega arith))
 
   pub parts_long_lem : Parts m → Within s m → (n : ℕ) → n ≤ most_segments → length (parts s m n) ≡ parts_long m n
   unfolding parts parts_long
   parts_long_lem p w zero l = refl
   parts_long_lem p w (suc n) l =
-      length-append (parts s m n) (take (get_or m.ends n 0 - get_or m.starts n 0) (drop (get_or m.starts n 0) s))
+      length-append (parts s m n) (take (end_of m n - start_of m n) (drop (start_of m n) s))
       ∙ rw (parts_long_lem p w n (omega arith), part-long n (p n (omega arith)).0 (w n (omega arith)))
 
 -- ---- the parts joined in an output: it holds the first k of them and then what it held before
@@ -73,11 +73,11 @@ pub record Joining (s : List ℕ) (m : Gathered) (n : ℕ) (out₀ out : List �
 
 -- the next part, as it stands in the buffer, and that there is room for it
 abbrev pub next_part : List ℕ → Gathered → ℕ → List ℕ
-next_part s m k = take (get_or m.ends k 0 - get_or m.starts k 0) (drop (get_or m.starts k 0) s)
+next_part s m k = take (end_of m k - start_of m k) (drop (start_of m k) s)
 
 pub record NextFits (s : List ℕ) (m : Gathered) (out : List ℕ) (place k : ℕ) : Type 0 where
-  pub order : get_or m.starts k 0 ≤ get_or m.ends k 0
-  pub within : get_or m.ends k 0 ≤ length s
+  pub order : start_of m k ≤ end_of m k
+  pub within : end_of m k ≤ length s
   pub room : place + length (next_part s m k) ≤ length out
 
 module _ {s : List ℕ} {m : Gathered} {n : ℕ} {out₀ : List ℕ} (j : Joinable s m n out₀) {out : List ℕ} {place k : ℕ}
@@ -90,7 +90,7 @@ module _ {s : List ℕ} {m : Gathered} {n : ℕ} {out₀ : List ℕ} (j : Joinab
     abbrev part : List ℕ
     part = next_part s m k
 
-    is_long : length part ≡ get_or m.ends k 0 - get_or m.starts k 0
+    is_long : length part ≡ end_of m k - start_of m k
     is_long = part-long s m k (j.lie k (omega arith)).0 (j.within k (omega arith))
 
     pub next_fits : NextFits s m out place k

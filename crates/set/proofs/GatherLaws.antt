@@ -18,29 +18,29 @@ use Rattle.header_rule.specs.Rules.{most_segments}
 use Rattle.header.specs.Header.{stored_in, header_in}
 use Rattle.set_spec.specs.Segment.{Segment, segment_in, numbered}
 use Rattle.set_spec.specs.Walk.{each_frame, walk}
+use Rattle.set.specs.declared.Part.{Part}
 use Rattle.set.specs.declared.Gathered.{Gathered}
-use Rattle.set.specs.Steps.{Tells, GoesOn, Turned, TurnTaken, Blank, Met}
+use Rattle.set.specs.Steps.{nowhere, start_of, end_of, Tells, GoesOn, Turned, TurnTaken, Blank, Met}
 
 pub record Going (s : List ℕ) (at : ℕ) (m : Gathered) : Type 0 where
   pub gs : List Segment
   pub tells : Tells s at m gs
   pub same : walk gs (drop at s) ≡ walk [] s
 
-blank : (l : List ℕ) → l ≡ replicate most_segments 0 → (k : ℕ) → k < most_segments → ◌≡◌ {A = ℕ} (get_or l k 0) 0
-blank l e k low = ap (λ (x : List ℕ). get_or x k 0) e ∙ get_or-replicate most_segments k 0 0 low
+blank : (l : List Part) → l ≡ replicate most_segments nowhere → (k : ℕ) → k < most_segments → get_or l k nowhere ≡ nowhere
+blank l e k low = ap (λ (x : List Part). get_or x k nowhere) e ∙ get_or-replicate most_segments k nowhere nowhere low
 
 nothing_met : (s : List ℕ) (m : Gathered) → Blank m → Tells s 0 m []
 unfolding numbered header_in stored_in num
 nothing_met s m b =
-    let x = blank m.starts b.starts_blank in
-    let y = blank m.ends b.ends_blank in
+    let x : (k : ℕ) → k < most_segments → start_of m k ≡ 0 = λ k l. ap (λ (p : Part). p.start) (blank m.parts b.parts_blank k l) in
+    let y : (k : ℕ) → k < most_segments → end_of m k ≡ 0 = λ k l. ap (λ (p : Part). p.end) (blank m.parts b.parts_blank k l) in
     record {
       flags_long = ap length b.flags_blank ∙ length-replicate {A = Bool} most_segments false;
-      starts_long = ap length b.starts_blank ∙ length-replicate {A = ℕ} most_segments 0;
-      ends_long = ap length b.ends_blank ∙ length-replicate {A = ℕ} most_segments 0;
+      parts_long = ap length b.parts_blank ∙ length-replicate {A = Part} most_segments nowhere;
       flag = λ k l. ap (λ (x : List Bool). get_or x k false) b.flags_blank ∙ get_or-replicate most_segments k false false l;
       part = λ k l. rw (x k l, y k l);
-      after = λ k l. omega (arith, x k l);
+      after = λ k l. omega (arith, x k l, y k l);
       within = λ k l. omega (arith, y k l);
       small = λ k l. omega (arith, y k l);
       first = λ h. refl;

@@ -23,8 +23,9 @@ use Rattle.set_spec.specs.Walk.{first_or, seen, met_checks, turn_checks}
 use Rattle.set_spec.proofs.FrameFacts.{HeaderFits, header-fits}
 use Rattle.set_spec.proofs.PrefixLaws.{own_parts}
 use Rattle.set_spec.proofs.NumberedLaws.{not_found, numbered-same, numbered_other, first_more}
+use Rattle.set.specs.declared.Part.{Part}
 use Rattle.set.specs.declared.Gathered.{Gathered}
-use Rattle.set.specs.Steps.{SegmentLies, Tells, GoesOn, TurnTaken}
+use Rattle.set.specs.Steps.{nowhere, SegmentLies, Tells, GoesOn, TurnTaken}
 
 abbrev header : Option Segment → Header
 header o = (or_nothing o).header
@@ -109,24 +110,20 @@ module _ {s : List ℕ} {at : ℕ} {h : Header} {start next : ℕ} (read : Segme
       is-there : (j : ℕ) → (j ≡ k → ⊥) → numbered (gs ++ (g ∷ [])) (suc j) ≡ numbered gs (suc j)
       is-there j ne = numbered_other gs g (suc j) (λ e. ne (omega (arith, numbers, e)))
 
-      -- what the three arrays hold at a place: at k the new, elsewhere what they held
-      at_place : (P : ℕ → Bool → ℕ → ℕ → Type 0) → P k true start next
-          → ((j : ℕ) → j < most_segments → (j ≡ k → ⊥) → P j (get_or m.flags j false) (get_or m.starts j 0) (get_or m.ends j 0))
-          → (j : ℕ) → j < most_segments → P j (get_or (set m.flags k true) j false) (get_or (set m.starts k start) j 0) (get_or (set m.ends k next) j 0)
+      abbrev pub new_part : Part
+      new_part = record { start = start; end = next }
+
+      -- what the two arrays hold at a place: at k the new, elsewhere what they held
+      at_place : (P : ℕ → Bool → Part → Type 0) → P k true new_part
+          → ((j : ℕ) → j < most_segments → (j ≡ k → ⊥) → P j (get_or m.flags j false) (get_or m.parts j nowhere))
+          → (j : ℕ) → j < most_segments → P j (get_or (set m.flags k true) j false) (get_or (set m.parts k new_part) j nowhere)
       at_place P here there j low =
           let f : k < length m.flags = omega (arith, number_high, t.flags_long) in
-          let x : k < length m.starts = omega (arith, number_high, t.starts_long) in
-          let y : k < length m.ends = omega (arith, number_high, t.ends_long) in
+          let x : k < length m.parts = omega (arith, number_high, t.parts_long) in
           by_eq j k
-          (λ e. subst (λ (i : ℕ). P i (get_or (set m.flags k true) i false) (get_or (set m.starts k start) i 0)
-          (get_or (set m.ends k next) i 0)) (sym e)
-          (rw (get_or-set_same m.flags k true false f, get_or-set_same m.starts k start 0 x, get_or-set_same m.ends k next 0 y) here))
-          (λ ne. rw (
-            get_or-set_other m.flags k j true false ne,
-            get_or-set_other m.starts k j start 0 ne,
-            get_or-set_other m.ends k j next 0
-                ne,
-          ) (there j low ne))
+          (λ e. subst (λ (i : ℕ). P i (get_or (set m.flags k true) i false) (get_or (set m.parts k new_part) i nowhere)) (sym e)
+          (rw (get_or-set_same m.flags k true false f, get_or-set_same m.parts k new_part nowhere x) here))
+          (λ ne. rw (get_or-set_other m.flags k j true false ne, get_or-set_other m.parts k j new_part nowhere ne) (there j low ne))
 
       is-first : (x : Header) → first_or (gs ++ (g ∷ [])) x ≡ lead
       is-first x = first_more gs g x ∙ ap (λ (y : Header). first_or gs y) read.header ∙ leads
@@ -142,23 +139,22 @@ module _ {s : List ℕ} {at : ℕ} {h : Header} {start next : ℕ} (read : Segme
 
       -- what is noted then
       abbrev pub noted : Gathered
-      noted = record { first = lead; one = one; flags = set m.flags k true; starts = set m.starts k start; ends = set m.ends k next }
+      noted = record { first = lead; one = one; flags = set m.flags k true; parts = set m.parts k new_part }
 
       pub tells-put : Tells s next noted (gs ++ (g ∷ []))
       tells-put = record {
         flags_long = length-set m.flags k true ∙ t.flags_long;
-        starts_long = length-set m.starts k start ∙ t.starts_long;
-        ends_long = length-set m.ends k next ∙ t.ends_long;
+        parts_long = length-set m.parts k new_part ∙ t.parts_long;
         flag =
-            at_place (λ j b x y. b ≡ found (numbered (gs ++ (g ∷ [])) (suc j))) (sym (ap found is-here))
+            at_place (λ j b x. b ≡ found (numbered (gs ++ (g ∷ [])) (suc j))) (sym (ap found is-here))
             (λ j low ne. t.flag j low ∙ sym (ap found (is-there j ne)));
         part =
-            at_place (λ j b x y. take (y - x) (drop x s) ≡ data_numbered (gs ++ (g ∷ [])) (suc j))
+            at_place (λ j b x. take (x.end - x.start) (drop x.start s) ≡ data_numbered (gs ++ (g ∷ [])) (suc j))
             (read.content ∙ sym (ap content is-here))
             (λ j low ne. t.part j low ∙ sym (ap content (is-there j ne)));
-        after = at_place (λ j b x y. x ≤ y) read.order (λ j low ne. t.after j low);
-        within = at_place (λ j b x y. y ≤ length s) read.within (λ j low ne. t.within j low);
-        small = at_place (λ j b x y. y ≤ x + session_limit.0) read.small (λ j low ne. t.small j low);
+        after = at_place (λ j b x. x.start ≤ x.end) read.order (λ j low ne. t.after j low);
+        within = at_place (λ j b x. x.end ≤ length s) read.within (λ j low ne. t.within j low);
+        small = at_place (λ j b x. x.end ≤ x.start + session_limit.0) read.small (λ j low ne. t.small j low);
         first = λ x. is-first x ∙ simp (ne_eqb next 0 (λ e. omega (arith, read.forward, read.order, e)));
         one = has ∙ is_one (eqb h.number 1) refl;
         count = ap (λ (x : Header). x.segments) (is-first (segment_in []).header);
@@ -181,10 +177,10 @@ module _ {s : List ℕ} {at : ℕ} {h : Header} {start next : ℕ} (read : Segme
 
 -- ---- the turn as the code takes it: first the header of the first frame is noted
 abbrev pub led : ℕ → Header → Gathered → Gathered
-led at h m = record { first = pick (eqb at 0) h m.first; one = m.one; flags = m.flags; starts = m.starts; ends = m.ends }
+led at h m = record { first = pick (eqb at 0) h m.first; one = m.one; flags = m.flags; parts = m.parts }
 
 pub led_start : (at : ℕ) (h : Header) (m m₁ : Gathered) → at ≡ 0
-    → m₁ ≡ record { first = h; one = m.one; flags = m.flags; starts = m.starts; ends = m.ends } → m₁ ≡ led at h m
+    → m₁ ≡ record { first = h; one = m.one; flags = m.flags; parts = m.parts } → m₁ ≡ led at h m
 led_start at h m m₁ z e = e ∙ simp (eq-eqb at 0 z)
 
 pub led_on : (at : ℕ) (h : Header) (m m₁ : Gathered) → (at ≡ 0 → ⊥) → m₁ ≡ m → m₁ ≡ led at h m
@@ -208,8 +204,7 @@ module _ {s : List ℕ} {at : ℕ} {h : Header} {start next : ℕ} (read : Segme
           first = m₁.first;
           one = one;
           flags = set m₁.flags (h.number - 1) true;
-          starts = set m₁.starts (h.number - 1) start;
-          ends = set m₁.ends (h.number - 1) next;
+          parts = set m₁.parts (h.number - 1) (record { start = start; end = next });
         }) (Ok next)
     taken-on f one has =
         let same : one ≡ pick (eqb h.number 1) h m.one = has ∙ ap (λ (x : Gathered). pick (eqb h.number 1) h x.one) e in

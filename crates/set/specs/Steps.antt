@@ -10,7 +10,18 @@ use Rattle.header.specs.declared.Header.{Header}
 use Rattle.header_rule.specs.Rules.{most_segments}
 use Rattle.set_spec.specs.Segment.{Segment, segment_in, own_checks, numbered, found, header_numbered, data_numbered}
 use Rattle.set_spec.specs.Walk.{first_or, turn_checks, walk, count}
+use Rattle.set.specs.declared.Part.{Part}
 use Rattle.set.specs.declared.Gathered.{Gathered}
+
+-- where the data of segment k + 1 begins and ends, as noted: at first nowhere
+abbrev pub nowhere : Part
+nowhere = record { start = 0; end = 0 }
+
+abbrev pub start_of : Gathered → ℕ → ℕ
+start_of m k = (get_or m.parts k nowhere).start
+
+abbrev pub end_of : Gathered → ℕ → ℕ
+end_of m k = (get_or m.parts k nowhere).end
 
 -- a segment at a place: its frame passes its own checks, and its data stands from `start` to the frame's end, `next`
 pub record SegmentLies (s : List ℕ) (at : ℕ) (h : Header) (start next : ℕ) : Type 0 where
@@ -26,13 +37,12 @@ pub record SegmentLies (s : List ℕ) (at : ℕ) (h : Header) (start next : ℕ)
 -- what was noted describes the segments met: segment k + 1 is at index k
 pub record Tells (s : List ℕ) (at : ℕ) (m : Gathered) (gs : List Segment) : Type 0 where
   pub flags_long : length m.flags ≡ most_segments
-  pub starts_long : length m.starts ≡ most_segments
-  pub ends_long : length m.ends ≡ most_segments
+  pub parts_long : length m.parts ≡ most_segments
   pub flag : (k : ℕ) → k < most_segments → get_or m.flags k false ≡ found (numbered gs (suc k))
-  pub part : (k : ℕ) → k < most_segments → take (get_or m.ends k 0 - get_or m.starts k 0) (drop (get_or m.starts k 0) s) ≡ data_numbered gs (suc k)
-  pub after : (k : ℕ) → k < most_segments → get_or m.starts k 0 ≤ get_or m.ends k 0
-  pub within : (k : ℕ) → k < most_segments → get_or m.ends k 0 ≤ length s
-  pub small : (k : ℕ) → k < most_segments → get_or m.ends k 0 ≤ get_or m.starts k 0 + session_limit.0
+  pub part : (k : ℕ) → k < most_segments → take (end_of m k - start_of m k) (drop (start_of m k) s) ≡ data_numbered gs (suc k)
+  pub after : (k : ℕ) → k < most_segments → start_of m k ≤ end_of m k
+  pub within : (k : ℕ) → k < most_segments → end_of m k ≤ length s
+  pub small : (k : ℕ) → k < most_segments → end_of m k ≤ start_of m k + session_limit.0
   pub first : (h : Header) → first_or gs h ≡ pick (eqb at 0) h m.first
   pub one : m.one ≡ header_numbered gs 1
   pub count : count gs ≡ m.first.segments
@@ -59,8 +69,7 @@ pub record Blank (m : Gathered) : Type 0 where
   pub first_blank : m.first ≡ (segment_in []).header
   pub one_blank : m.one ≡ (segment_in []).header
   pub flags_blank : m.flags ≡ replicate most_segments false
-  pub starts_blank : m.starts ≡ replicate most_segments 0
-  pub ends_blank : m.ends ≡ replicate most_segments 0
+  pub parts_blank : m.parts ≡ replicate most_segments nowhere
 
 -- the state after the first pass
 pub record Met (s : List ℕ) (m : Gathered) : Type 0 where
@@ -79,10 +88,10 @@ pub record Gathers (s : List ℕ) (m : Gathered) (r : Result (Unit {0}) Refusal)
 -- each part of the buffer ends at or after its start, and is no longer than a frame's body; it ends within the buffer
 abbrev pub Parts : Gathered → Type 0
 Parts m =
-    (k : ℕ) → k < most_segments → (get_or m.starts k 0 ≤ get_or m.ends k 0) × (get_or m.ends k 0 ≤ get_or m.starts k 0 + session_limit.0)
+    (k : ℕ) → k < most_segments → (start_of m k ≤ end_of m k) × (end_of m k ≤ start_of m k + session_limit.0)
 
 abbrev pub Within : List ℕ → Gathered → Type 0
-Within s m = (k : ℕ) → k < most_segments → get_or m.ends k 0 ≤ length s
+Within s m = (k : ℕ) → k < most_segments → end_of m k ≤ length s
 
 -- from what was noted alone: whether the first n flags are set, the length of the first n parts, and these parts joined
 unfoldable pub all_set : List Bool → ℕ → Bool
@@ -91,11 +100,11 @@ all_set flags (suc n) = both (all_set flags n) (get_or flags n false)
 
 unfoldable pub parts_long : Gathered → ℕ → ℕ
 parts_long m zero = 0
-parts_long m (suc n) = parts_long m n + (get_or m.ends n 0 - get_or m.starts n 0)
+parts_long m (suc n) = parts_long m n + (end_of m n - start_of m n)
 
 unfoldable pub parts : List ℕ → Gathered → ℕ → List ℕ
 parts s m zero = []
-parts s m (suc n) = parts s m n ++ take (get_or m.ends n 0 - get_or m.starts n 0) (drop (get_or m.starts n 0) s)
+parts s m (suc n) = parts s m n ++ take (end_of m n - start_of m n) (drop (start_of m n) s)
 
 -- the first n parts lie in the buffer and have room in an output
 pub record Joinable (s : List ℕ) (m : Gathered) (n : ℕ) (out : List ℕ) : Type 0 where

@@ -26,15 +26,21 @@ pub struct Set {
 
 const MOST_SEGMENTS: usize = header_rule::MOST_SEGMENTS as usize;
 
+// Where the data of a segment begins and ends in the buffer.
+#[derive(Clone, Copy, Default)]
+struct Part {
+    start: usize,
+    end: usize,
+}
+
 // What the first pass notes: the header of the first frame and that of segment 1, which numbers were seen, and where the data of each
-// segment begins and ends. Segment k + 1 is at index k.
+// segment lies. Segment k + 1 is at index k. The flags are an array of 128 of their own, as the customer names that form.
 #[derive(Drop)]
 struct Gathered {
     first: Header,
     one: Header,
     flags: [bool; MOST_SEGMENTS],
-    starts: [usize; MOST_SEGMENTS],
-    ends: [usize; MOST_SEGMENTS],
+    parts: [Part; MOST_SEGMENTS],
 }
 
 // Whether a header disagrees with the first one.
@@ -57,8 +63,7 @@ impl Gathered {
             first: header::no_header(),
             one: header::no_header(),
             flags: [false; MOST_SEGMENTS],
-            starts: [0; MOST_SEGMENTS],
-            ends: [0; MOST_SEGMENTS],
+            parts: [Part::default(); MOST_SEGMENTS],
         }
     }
 
@@ -80,8 +85,10 @@ impl Gathered {
             return Err(Refusal::AlreadySeen);
         }
         self.flags[k] = true;
-        self.starts[k] = segment.start;
-        self.ends[k] = segment.next;
+        self.parts[k] = Part {
+            start: segment.start,
+            end: segment.next,
+        };
         if h.number == 1 {
             self.one = h;
         }
@@ -115,7 +122,7 @@ impl Gathered {
     {
         let mut sum = 0;
         for j in 0..n {
-            sum += self.ends[j] - self.starts[j];
+            sum += self.parts[j].end - self.parts[j].start;
         }
         sum
     }
@@ -127,7 +134,7 @@ impl Gathered {
     {
         let mut place = 0;
         for k in 0..n {
-            let part = &frames[self.starts[k]..self.ends[k]];
+            let part = &frames[self.parts[k].start..self.parts[k].end];
             let next = place + part.len();
             copy::copy(part, &mut out[place..next]);
             place = next;

@@ -37,9 +37,6 @@ bounds-self-k-2 c = number_high (segment_lies _ _ _ _ _ c.in_ok-segment.ensures)
 pub bounds-self-k-3 : goal.bounds-self-k-3
 bounds-self-k-3 c = number_high (segment_lies _ _ _ _ _ c.in_ok-segment.ensures)
 
-pub bounds-self-k-4 : goal.bounds-self-k-4
-bounds-self-k-4 c = number_high (segment_lies _ _ _ _ _ c.in_ok-segment.ensures)
-
 pub returns-then-h-eq1 : goal.returns-then-h-eq1
 returns-then-h-eq1 c =
     let read = segment_lies _ _ _ _ _ c.in_ok-segment.ensures in
