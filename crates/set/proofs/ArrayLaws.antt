@@ -1,6 +1,6 @@
 -- Laws of the arrays alone: flags all set, the length of the parts, and the parts joined. Assumes nothing.
 use Prim.Native.Nat.{ℕ, zero, suc, ◌+◌, ◌-◌, ◌≤◌, ◌<◌}
-use mathlib.Core.Path.{◌≡◌, refl, sym, ap, ◌∙◌}
+use mathlib.Core.Path.{◌≡◌, refl, sym, ap, subst, ◌∙◌}
 use mathlib.Core.Bool.{Bool, true, false, ◌&&◌}
 use mathlib.Core.List.{List, ◌++◌, append_assoc}
 use native.Mathlib.Omega.{arith}
@@ -14,8 +14,9 @@ use Rattle.copy.specs.Copying.{copied}
 use Rattle.header_rule.specs.Rules.{most_segments}
 use Rattle.wire.proofs.CheckLaws.{by_eq}
 use Rattle.copy.proofs.CopyLaws.{copied-same}
+use Rattle.set.specs.declared.Part.{Part}
 use Rattle.set.specs.declared.Gathered.{Gathered}
-use Rattle.set.specs.Steps.{start_of, end_of, Parts, Within, all_set, parts_long, parts, Joinable}
+use Rattle.set.specs.Steps.{nowhere, start_of, end_of, Parts, Within, all_set, parts_long, parts, Joinable}
 
 -- ---- the flags
 both_is : (a b : Bool) → (a && b) ≡ both a b
@@ -71,14 +72,14 @@ pub record Joining (s : List ℕ) (m : Gathered) (n : ℕ) (out₀ out : List �
   pub long : length out ≡ length out₀
   pub holds : out ≡ parts s m k ++ drop place out₀
 
--- the next part, as it stands in the buffer, and that there is room for it
-abbrev pub next_part : List ℕ → Gathered → ℕ → List ℕ
-next_part s m k = take (end_of m k - start_of m k) (drop (start_of m k) s)
+-- the data of a part, as it stands in the buffer, and that there is room for it
+abbrev pub data_of : List ℕ → Part → List ℕ
+data_of s p = take (p.end - p.start) (drop p.start s)
 
-pub record NextFits (s : List ℕ) (m : Gathered) (out : List ℕ) (place k : ℕ) : Type 0 where
-  pub order : start_of m k ≤ end_of m k
-  pub within : end_of m k ≤ length s
-  pub room : place + length (next_part s m k) ≤ length out
+pub record NextFits (s out : List ℕ) (place : ℕ) (p : Part) : Type 0 where
+  pub order : p.start ≤ p.end
+  pub within : p.end ≤ length s
+  pub room : place + length (data_of s p) ≤ length out
 
 module _ {s : List ℕ} {m : Gathered} {n : ℕ} {out₀ : List ℕ} (j : Joinable s m n out₀) {out : List ℕ} {place k : ℕ}
     (g : Joining s m n out₀ out place k) where
@@ -88,13 +89,13 @@ module _ {s : List ℕ} {m : Gathered} {n : ℕ} {out₀ : List ℕ} (j : Joinab
   -- one part more
   module _ (low : k < n) where
     abbrev part : List ℕ
-    part = next_part s m k
+    part = data_of s (get_or m.parts k nowhere)
 
     is_long : length part ≡ end_of m k - start_of m k
     is_long = part-long s m k (j.lie k (omega arith)).0 (j.within k (omega arith))
 
-    pub next_fits : NextFits s m out place k
-    next_fits = record {
+    fits : NextFits s out place (get_or m.parts k nowhere)
+    fits = record {
       order = (j.lie k (omega arith)).0;
       within = j.within k (omega arith);
       room = omega (arith, is_long, long-next m k n low);
@@ -108,13 +109,13 @@ module _ {s : List ℕ} {m : Gathered} {n : ℕ} {out₀ : List ℕ} (j : Joinab
     copied-part ys e =
         let d = length-drop place out in
         let room : length (take (place + length part - place) (drop place out)) ≡ length part =
-        length-take-le (place + length part - place) (drop place out) (omega (arith, next_fits)) ∙ back in
+        length-take-le (place + length part - place) (drop place out) (omega (arith, fits)) ∙ back in
         e ∙ copied-same part (take (place + length part - place) (drop place out)) (sym room)
 
-    pub join_more : {ys : List ℕ} → ys ≡ copied part (take (place + length part - place) (drop place out))
+    joined-more : (ys : List ℕ) → ys ≡ copied part (take (place + length part - place) (drop place out))
         → Joining s m n out₀ (take place out ++ (ys ++ drop (place + length part - place) (drop place out))) (place + length part) (k + 1)
-    join_more {ys} e =
-        let f = next_fits in
+    joined-more ys e =
+        let f = fits in
         let a : take place out ≡ parts s m k = ap (λ (x : List ℕ). take place x) g.holds
         ∙ take_at (parts s m k) (drop place out₀) place filled-long in
         let b : drop place out ≡ drop place out₀ = ap (λ (x : List ℕ). drop place x) g.holds
@@ -131,3 +132,16 @@ module _ {s : List ℕ} {m : Gathered} {n : ℕ} {out₀ : List ℕ} (j : Joinab
               ∙ omega (arith, is_long, long_more m k);
           holds = written;
         }
+
+    -- the same of the part that the loop takes
+    module _ {p : Part} (is : p ≡ get_or m.parts k nowhere) where
+      pub next_fits : NextFits s out place p
+      next_fits = subst (λ (q : Part). NextFits s out place q) (sym is) fits
+
+      abbrev longer : Part → ℕ
+      longer q = place + length (data_of s q)
+
+      pub join_more : {ys : List ℕ} → ys ≡ copied (data_of s p) (take (longer p - place) (drop place out))
+          → Joining s m n out₀ (take place out ++ (ys ++ drop (longer p - place) (drop place out))) (longer p) (k + 1)
+      join_more {ys} = subst (λ (q : Part). ys ≡ copied (data_of s q) (take (longer q - place) (drop place out))
+          → Joining s m n out₀ (take place out ++ (ys ++ drop (longer q - place) (drop place out))) (longer q) (k + 1)) (sym is) (joined-more ys)

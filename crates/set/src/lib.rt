@@ -121,8 +121,8 @@ impl Gathered {
         ensures { (result ≡ parts_long self.now n) × (result ≤ n * session_limit.0) }
     {
         let mut sum = 0;
-        for j in 0..n {
-            sum += self.parts[j].end - self.parts[j].start;
+        for part in &self.parts[..n] {
+            sum += part.end - part.start;
         }
         sum
     }
@@ -133,10 +133,10 @@ impl Gathered {
         ensures { out.new ≡ filled (parts frames.now self.now n) out.old }
     {
         let mut place = 0;
-        for k in 0..n {
-            let part = &frames[self.parts[k].start..self.parts[k].end];
-            let next = place + part.len();
-            copy::copy(part, &mut out[place..next]);
+        for part in &self.parts[..n] {
+            let data = &frames[part.start..part.end];
+            let next = place + data.len();
+            copy::copy(data, &mut out[place..next]);
             place = next;
         }
     }

@@ -4,5 +4,5 @@ use Rattle.frame.specs.Session.{session_limit}
 use Rattle.set.specs.Steps.{parts_long}
 use Rattle.set.proofs.Gathered.joined_length.Given as goal
 
-abbrev pub invariant-loop-j : goal.invariant-loop-j
-invariant-loop-j l = (l.sum ≡ parts_long l.self l.j) × (l.sum ≤ l.j * session_limit.0)
+abbrev pub invariant-loop-part : goal.invariant-loop-part
+invariant-loop-part l = (l.sum ≡ parts_long l.self l.part-index) × (l.sum ≤ l.part-index * session_limit.0)
