@@ -6,7 +6,7 @@ ghost use Rattle.salvage_spec.specs.Salvage.{salvage_of};
 ghost use Rattle.c_salvage.specs.Face.{salvage_face};
 
 #[repr(C)]
-#[derive(Clone, Copy)]
+#[derive(Clone, Copy, Default)]
 pub struct UlmSalvage {
     pub refusal: u32,
     pub kept: u64,
@@ -26,9 +26,7 @@ pub fn salvage(buf: &[u8], out: &mut [u8], runs: &mut [u64]) -> UlmSalvage
         },
         Err(refusal) => UlmSalvage {
             refusal: refusal.number() as u32,
-            kept: 0,
-            length: 0,
-            runs: 0,
+            ..UlmSalvage::default()
         },
     }
 }

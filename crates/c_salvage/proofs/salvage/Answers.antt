@@ -7,4 +7,6 @@ pub returns-in-Ok : goal.returns-in-Ok
 returns-in-Ok c = leaves_of tell_salvage salvage_face _ _ _ _ c.salvage.ensures (simp c.in-Ok.is)
 
 pub returns-in-Err : goal.returns-in-Err
-returns-in-Err c = leaves_of tell_salvage salvage_face _ _ _ _ c.salvage.ensures (simp (c.number.ensures, c.in-Err.is))
+returns-in-Err c =
+    let d = c.default.ensures.1 in
+    leaves_of tell_salvage salvage_face _ _ _ _ c.salvage.ensures (simp (c.number.ensures, d.0, d.1.0, d.1.1, c.in-Err.is))
