@@ -45,7 +45,8 @@ fn follow(buf: &[u8], place: usize) -> Stretch
     Stretch { next, frames }
 }
 
-// Lists the bytes from `first` to before `next`, if any, as a run after `count` others where there is room. Returns the new count.
+// Lists the bytes from `first` to before `next`, if any, as a run after `count` others where there is room. Returns the new count. The
+// count stands beside the buffer and is no part of it, as what has no room is counted too: it may pass the buffer's.
 fn list(runs: &mut [u64], count: usize, first: usize, next: usize) -> usize
     requires { (first ≤ next) × (count ≤ first) × (first + 1 < 2 ^ 63) }
     ensures { sheet (2 * result) runs.new ≡ onto (map two_of (run first next)) (sheet (2 * count) runs.old) }
@@ -62,7 +63,8 @@ fn list(runs: &mut [u64], count: usize, first: usize, next: usize) -> usize
     count + 1
 }
 
-// Copies the bytes to place `long` of the output if there is room. Returns the new length, also where there was none.
+// Copies the bytes to place `long` of the output if there is room. Returns the new length, also where there was none: as the count above,
+// it may pass the output's.
 fn put(bytes: &[u8], out: &mut [u8], long: usize) -> usize
     requires { long + length bytes.now < 2 ^ 63 }
     ensures { sheet result out.new ≡ lay bytes.now (sheet long out.old) }

@@ -34,7 +34,8 @@ struct Part {
 }
 
 // What the first pass notes: the header of the first frame and that of segment 1, which numbers were seen, and where the data of each
-// segment lies. Segment k + 1 is at index k. The flags are an array of 128 of their own, as the customer names that form.
+// segment lies. Segment k + 1 is at index k. Both headers are zeros until they are met, as neither is read before. The flags are an array
+// of 128 of their own, as the customer names that form.
 #[derive(Drop)]
 struct Gathered {
     first: Header,
