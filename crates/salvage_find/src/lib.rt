@@ -40,7 +40,8 @@ fn may_begin(part: &[u8]) -> bool
     any
 }
 
-// The first place in the block that holds a data frame's kind, or the block's end.
+// The first place in the block that holds a data frame's kind, or the block's end. An index, as the library has no lemma for what
+// `windows(4)` yields to `position`.
 fn first_mark(part: &[u8]) -> usize
     requires { length part.now ≡ block + beyond }
     ensures { (result ≤ block) × Unmarked result part.now }
