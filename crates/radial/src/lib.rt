@@ -1,9 +1,10 @@
 // What an accepted body of message 31 says, by value: its blocks, a moment by its name, and a gate's code.
 #![tactic(auto)]
 
-ghost use Rattle.std.specs.Prelude.{◌≡◌, ◌+◌, ◌-◌, ◌≤◌, length};
+ghost use Rattle.std.specs.Prelude.{◌≡◌, ◌+◌, ◌-◌, ◌≤◌, length, IfOk};
 ghost use Rattle.wire.specs.Numbers.{num, fetched};
-ghost use Rattle.wire.specs.Answers.{given};
+ghost use Rattle.wire.specs.Answers.{given, number_of};
+ghost use Rattle.wire.specs.Refusals.{number_in};
 ghost use Rattle.radial_spec.specs.Description.{constants, most_moments, constant_head, moment_head, moment_pointer};
 ghost use Rattle.radial_spec.specs.Refusal.{count_in, pointer, moments_at, description, radial_of};
 ghost use Rattle.radial_spec.specs.Lookups.{moment_of, coded_of, block_of};
@@ -66,23 +67,77 @@ pub enum RadialBlock {
     Moment(Lying, MomentHead),
 }
 
-// Where the first moment with a name begins, by the pointers of an accepted radial.
-fn moment_place(body: &[u8], name: u32) -> Option<u32>
-    requires { radial_of body.now ≡ given (description body.now) }
-    ensures { result ≡ place_in body.now name }
+// A body that was accepted.
+#[derive(Clone, Copy)]
+struct Accepted<'a> {
+    body: &'a [u8],
+    ghost accepted: { radial_of body.now ≡ given (description body.now) },
+}
+
+// Checks a body.
+fn accept(body: &[u8]) -> Result<Accepted<'_>, Refusal>
+    ensures number { number_in result ≡ number_of (radial_of body.now) }
+    ensures same { IfOk result (λ a. a.body.now ≡ body.now) }
 {
-    let count = wire::fetch::<u16>(body, COUNT_PLACE) as u32;
-    for k in CONSTANTS as u32..count {
-        let at = (FIRST_POINTER + 4 * k) as usize;
-        let next = at + 4;
-        let place = wire::fetch::<u32>(&body[at..next], 0);
-        let begin = place as usize;
-        let after = begin + 4;
-        if wire::fetch::<u32>(&body[begin..after], 0) == name {
-            return Some(place);
+    radial_check::check_radial(body)?;
+    Ok(Accepted { body: body })
+}
+
+impl<'a> Accepted<'a> {
+    // Where the first moment with a name begins, by the pointers.
+    fn moment_place(self, name: u32) -> Option<u32>
+        ensures { result ≡ place_in self.entry.body.now name }
+    {
+        let body = self.body;
+        let count = wire::fetch::<u16>(body, COUNT_PLACE) as u32;
+        for k in CONSTANTS as u32..count {
+            let at = (FIRST_POINTER + 4 * k) as usize;
+            let next = at + 4;
+            let place = wire::fetch::<u32>(&body[at..next], 0);
+            let begin = place as usize;
+            let after = begin + 4;
+            if wire::fetch::<u32>(&body[begin..after], 0) == name {
+                return Some(place);
+            }
+        }
+        None
+    }
+
+    // The moments' heads.
+    fn all_heads(self, count: u32) -> [MomentHead; ROOM]
+        requires { (count ≡ count_in self.body.now - constants) × (count ≤ most_moments) }
+        ensures { result ≡ heads_of (moments_at self.entry.body.now moment_pointer count) }
+    {
+        let body = self.body;
+        let none = MomentHead::default();
+        let mut heads = [none; ROOM];
+        for i in 0..count {
+            let head = head_at(body, wire::fetch::<u32>(body, MOMENT_POINTER + 4 * i));
+            heads[i as usize] = head;
+        }
+        heads
+    }
+
+    // Block k in pointer order, from 1.
+    fn block(self, k: u32) -> Option<RadialBlock>
+        ensures { given (if_any result) ≡ block_shown (block_of self.entry.body.now k) }
+    {
+        let body = self.body;
+        let count = wire::fetch::<u16>(body, COUNT_PLACE) as u32;
+        if count < k {
+            return None;
+        }
+        match k {
+            0 => None,
+            1 => Some(constant(body, b"RVOL", VOLUME_POINTER)),
+            2 => Some(constant(body, b"RELV", ELEVATION_POINTER)),
+            3 => Some(constant(body, b"RRAD", RADIAL_POINTER)),
+            _ => {
+                let place = wire::fetch::<u32>(body, FIRST_POINTER + 4 * (k - 1));
+                Some(moment_block(head_at(body, place)))
+            }
         }
     }
-    None
 }
 
 // The head of the moment at a place of the body.
@@ -93,20 +148,6 @@ fn head_at(body: &[u8], place: u32) -> MomentHead
     let begin = place as usize;
     let end = begin + MOMENT_HEAD;
     radial_head::head_of(&body[begin..end], place)
-}
-
-// The moments' heads of an accepted radial.
-fn all_heads(body: &[u8], count: u32) -> [MomentHead; ROOM]
-    requires { (radial_of body.now ≡ given (description body.now)) × (count ≡ count_in body.now - constants) × (count ≤ most_moments) }
-    ensures { result ≡ heads_of (moments_at body.now moment_pointer count) }
-{
-    let none = MomentHead::default();
-    let mut heads = [none; ROOM];
-    for i in 0..count {
-        let head = head_at(body, wire::fetch::<u32>(body, MOMENT_POINTER + 4 * i));
-        heads[i as usize] = head;
-    }
-    heads
 }
 
 // Where the constant block of an accepted radial lies, by its pointer.
@@ -131,7 +172,7 @@ pub fn read_radial(body: &[u8]) -> Result<Radial, Refusal>
     let volume = span_of(body, VOLUME_POINTER);
     let elevation = span_of(body, ELEVATION_POINTER);
     let radial = span_of(body, RADIAL_POINTER);
-    let heads = all_heads(body, (read.count - CONSTANTS) as u32);
+    let heads = Accepted { body: body }.all_heads((read.count - CONSTANTS) as u32);
     Ok(Radial {
         count: read.count,
         header: read.header,
@@ -146,8 +187,8 @@ pub fn read_radial(body: &[u8]) -> Result<Radial, Refusal>
 fn place(body: &[u8], name: Name) -> Result<u32, Refusal>
     ensures { tell_place result ≡ place_shown (moment_of body.now (num 4 name 0)) }
 {
-    radial_check::check_radial(body)?;
-    moment_place(body, wire::fetch::<u32>(&name, 0)).ok_or(Refusal::AskedFor)
+    let accepted = accept(body)?;
+    accepted.moment_place(wire::fetch::<u32>(&name, 0)).ok_or(Refusal::AskedFor)
 }
 
 // The head of the moment with a name.
@@ -212,29 +253,7 @@ fn constant(body: &[u8], name: &[u8], at: u32) -> RadialBlock
 pub fn block(body: &[u8], k: u32) -> Result<Option<RadialBlock>, Refusal>
     ensures { tell_block result ≡ block_shown (block_of body.now k) }
 {
-    radial_check::check_radial(body)?;
-    Ok(block_in(body, k))
-}
-
-// The same for a radial that was accepted.
-fn block_in(body: &[u8], k: u32) -> Option<RadialBlock>
-    requires { radial_of body.now ≡ given (description body.now) }
-    ensures { given (if_any result) ≡ block_shown (block_of body.now k) }
-{
-    let count = wire::fetch::<u16>(body, COUNT_PLACE) as u32;
-    if count < k {
-        return None;
-    }
-    match k {
-        0 => None,
-        1 => Some(constant(body, b"RVOL", VOLUME_POINTER)),
-        2 => Some(constant(body, b"RELV", ELEVATION_POINTER)),
-        3 => Some(constant(body, b"RRAD", RADIAL_POINTER)),
-        _ => {
-            let place = wire::fetch::<u32>(body, FIRST_POINTER + 4 * (k - 1));
-            Some(moment_block(head_at(body, place)))
-        }
-    }
+    Ok(accept(body)?.block(k))
 }
 
 fn moment_block(head: MomentHead) -> RadialBlock

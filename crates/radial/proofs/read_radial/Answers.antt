@@ -32,11 +32,14 @@ span_of-radial-requires c =
     let h = all _ _ c.in_ok-read.ensures in
     (omega (arith, h.start.long), h.radial.inside)
 
+pub invariant_of-all_heads : goal.invariant_of-all_heads
+invariant_of-all_heads c = record { accepted = heading_given _ _ c.in_ok-read.ensures }
+
 pub all_heads-heads-requires : goal.all_heads-heads-requires
 all_heads-heads-requires c =
     let e = c.in_ok-read.ensures in
     let same = count_is _ _ e in
-    (heading_given _ _ e, ap (λ (n : ℕ). n - constants) same, omega (arith, same, (all _ _ e).start.few))
+    (ap (λ (n : ℕ). n - constants) same, omega (arith, same, (all _ _ e).start.few))
 
 pub returns : goal.returns
 returns c =

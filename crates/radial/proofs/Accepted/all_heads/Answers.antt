@@ -10,7 +10,7 @@ use Rattle.radial_spec.specs.Refusal.{pointer, description, radial_of}
 use Rattle.radial_spec.proofs.Held.{held}
 use Rattle.radial.specs.Steps.{head_at}
 use Rattle.radial.proofs.HeadLaws.{fill-turns, fill_ends}
-use Rattle.radial.proofs.all_heads.Goals as goal
+use Rattle.radial.proofs.Accepted.all_heads.Goals as goal
 
 -- the place that was fetched is where the pointer of moment i points
 pointed : (b : List ℕ) (n i p : ℕ) → radial_of b ≡ given (description b) → i < n → n ≤ most_moments
@@ -20,15 +20,15 @@ pointed b n i p accepted more few e =
 
 pub head_at-head-requires : goal.head_at-head-requires
 head_at-head-requires c =
-    let points = pointed _ _ _ _ c.requires.0 c.loop-i-test.true c.requires.2 c.fetch.ensures in
-    let m = (held _ _ c.requires.0).moment c.loop-i.i (rw (← c.requires.1) c.loop-i-test.true) in
+    let points = pointed _ _ _ _ c.args.self.accepted c.loop-i-test.true c.requires.1 c.fetch.ensures in
+    let m = (held _ _ c.args.self.accepted).moment c.loop-i.i (rw (← c.requires.0) c.loop-i-test.true) in
     omega (arith, m.inside, points)
 
 pub loop-i-preserved : goal.loop-i-preserved
 loop-i-preserved c =
-    let points = pointed _ _ _ _ c.requires.0 c.loop-i-test.true c.requires.2 c.fetch.ensures in
+    let points = pointed _ _ _ _ c.args.self.accepted c.loop-i-test.true c.requires.1 c.fetch.ensures in
     let l = c.loop-i in
-    let b = c.args.body.now in
+    let b = c.args.self.body.now in
     fill-turns b _ l.heads l.i l.invariant c.head_at-head.result c.loop-i-test.true
     (c.head_at-head.ensures ∙ ap (λ (k : ℕ). head_at b k) (sym points))
 
