@@ -10,7 +10,6 @@ use Rattle.wire.specs.declared.refusal.Refusal.TheVariants.{AskedFor}
 use Rattle.wire.specs.Numbers.{num, fetched}
 use Rattle.wire.proofs.ExitLaws.{exits}
 use Rattle.wire.proofs.NumberLaws.{fetched-whole}
-use Rattle.radial_spec.proofs.Held.{number_given}
 use Rattle.radial.specs.Steps.{tell_place, place_in, place_asked}
 use Rattle.radial.proofs.FindLaws.{placed, place_refused}
 use Rattle.radial.proofs.place.Goals as goal

@@ -16,7 +16,7 @@ pointed : (b : List ℕ) (name n k p : ℕ) → Searching b name n k → k < n �
 pointed b name n k p s more e = pointer_there b (first_pointer + 4 * k) p (pointer-inside b name n k s more) e
 
 pub loop-k-init : goal.loop-k-init
-loop-k-init c = search_begins c.args.self.body.now c.args.name _ (held _ _ c.args.self.accepted) c.fetch-count.ensures
+loop-k-init c = search_begins c.args.self.body.now c.args.name _ (held _ _ c.args.self.accepted) c.count-count.ensures.is
 
 pub returns-then-fetch-name : goal.returns-then-fetch-name
 returns-then-fetch-name c =
