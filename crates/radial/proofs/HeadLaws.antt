@@ -89,11 +89,12 @@ span_is b q h =
     (arith, nums-length 1 l constant_head (block_says l - constant_head), h.says) in
     λ i. record { place = pointer b q; length = e i }
 
--- the three constant blocks, by their pointers
+-- a pointer to a constant block stands in the body, and the block's head too
 pub record Constant (b : List ℕ) (q : ℕ) : Type 0 where
   pub points : q + 4 ≤ length b
   pub held : BlockHeld b q
 
+-- the three that an accepted radial has
 pub constant_held : (b : List ℕ) (q : ℕ) → Held b → Member q constant_pointers → Constant b q
 constant_held b q h =
     ⊎_elim (at volume_pointer (omega arith) h.volume)
@@ -102,6 +103,7 @@ constant_held b q h =
     at : (k : ℕ) → k + 4 ≤ header_size → BlockHeld b k → q ≡ k → Constant b q
     at k l g e = subst (Constant b) (sym e) (record { points = omega (arith, l, h.start.long); held = g })
 
+-- what the reader gives
 module _ (b : List ℕ) (accepted : radial_of b ≡ given (description b)) where
   abbrev all : Held b
   all = held b (description b) accepted

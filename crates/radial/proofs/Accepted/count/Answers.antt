@@ -1,13 +1,12 @@
 use Prim.Native.Nat.{ℕ}
 use native.Mathlib.Omega.{arith}
-use Rattle.radial_spec.proofs.Held.{held}
-use Rattle.wire.proofs.NumberLaws.{fetched-whole}
 use mathlib.Core.Path.{◌≡◌, ◌∙◌}
 use mathlib.Core.List.{List}
 use Rattle.wire.specs.Numbers.{fetched}
+use Rattle.wire.proofs.NumberLaws.{fetched-whole}
 use Rattle.radial_spec.specs.Description.{count_place}
 use Rattle.radial_spec.specs.Refusal.{count_in}
-use Rattle.radial_spec.proofs.Held.{Held}
+use Rattle.radial_spec.proofs.Held.{Held, held}
 use Rattle.radial.proofs.Accepted.count.Goals as goal
 
 -- the count that was fetched is the body's
