@@ -94,11 +94,11 @@ fn begin(body: &[u8]) -> Result<Start, Refusal>
     if wire::fetch::<u8>(body, COMPRESSION_PLACE) != 0 {
         return Err(Refusal::Compression);
     }
-    let length = wire::fetch::<u16>(body, SIZE_PLACE);
-    if (length as usize) < HEADER_SIZE {
+    let size = wire::fetch::<u16>(body, SIZE_PLACE) as usize;
+    if size < HEADER_SIZE {
         return Err(Refusal::RadialLength);
     }
-    if body.len() < length as usize {
+    if body.len() < size {
         return Err(Refusal::RadialLength);
     }
     let count = wire::fetch::<u16>(body, COUNT_PLACE);
@@ -108,10 +108,7 @@ fn begin(body: &[u8]) -> Result<Start, Refusal>
     if MOST_BLOCKS < count {
         return Err(Refusal::BlockCount);
     }
-    Ok(Start {
-        size: length as usize,
-        count: count,
-    })
+    Ok(Start { size, count })
 }
 
 // Checks a constant block at `place` in a radial of `size` bytes, by the block's first six bytes.
@@ -181,7 +178,7 @@ fn bit_of(name: u32) -> u32
         if wire::fetch::<u32>(known, 0) == name {
             return bit;
         }
-        bit = bit * 2;
+        bit *= 2;
     }
     0
 }
@@ -214,7 +211,7 @@ fn moment_in(part: &[u8], size: usize, place: u32, seen: u32) -> Result<Got, Ref
     if size < end {
         return Err(Refusal::Block);
     }
-    Ok(Got { bit: bit, end: end })
+    Ok(Got { bit, end })
 }
 
 // The fetch is from a slice of four bytes, so the compiler drops its test although it knows no bound of `at`.
@@ -245,7 +242,7 @@ fn all_moments(body: &[u8], size: usize, first: usize, count: u32) -> Result<(),
     let mut from = first;
     for i in 0..count {
         let found = moment_at(body, size, from, MOMENT_POINTER + 4 * i, seen)?;
-        seen = seen | found.bit;
+        seen |= found.bit;
         from = found.end;
     }
     Ok(())
