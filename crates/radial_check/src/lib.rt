@@ -9,7 +9,7 @@ ghost use Rattle.wire.specs.Refusals.{number_in};
 ghost use Rattle.radial_spec.specs.Description.{header_size, most_moments, word_sizes};
 ghost use Rattle.radial_spec.specs.Refusal.{size_in, radial_of};
 ghost use Rattle.radial_head.specs.Told.{fetched_head, key_of};
-ghost use Rattle.radial_check.specs.Steps.{tell_start, tell_found, tell_got, bit_of, start_of, constant_by, constant_at};
+ghost use Rattle.radial_check.specs.Steps.{tell_start, tell_found, tell_got, bit_of, if_set, start_of, constant_by, constant_at};
 ghost use Rattle.radial_check.specs.Steps.{constants_of, moment_in, moment_next, moments_of};
 
 use radial_head::MOMENT_HEAD;
@@ -169,18 +169,18 @@ fn all_constants(body: &[u8], size: usize, first: usize) -> Result<usize, Refusa
     constant_at(body, size, elevation, RADIAL_POINTER, b"RRAD", RADIAL_LEAST)
 }
 
-// The bit of a name: 2 to the power of its index in PERMITTED, or 0 for a name that is not permitted.
-fn bit_of(name: u32) -> u32
-    ensures { result ≡ bit_of name }
+// The bit of a permitted name: 2 to the power of its index in PERMITTED.
+fn bit_of(name: u32) -> Option<u32>
+    ensures { result ≡ if_set (bit_of name) }
 {
     let mut bit: u32 = 1;
     for known in &PERMITTED {
         if wire::fetch::<u32>(known, 0) == name {
-            return bit;
+            return Some(bit);
         }
         bit *= 2;
     }
-    0
+    None
 }
 
 fn sized(word: u8) -> bool
@@ -194,10 +194,7 @@ fn moment_in(part: &[u8], size: usize, place: u32, seen: u32) -> Result<Got, Ref
     ensures { tell_got result ≡ moment_in size place (key_of (fetched_head part.now)) seen }
 {
     let key = radial_head::key_of(part);
-    let bit = bit_of(key.name);
-    if bit == 0 {
-        return Err(Refusal::Name);
-    }
+    let bit = bit_of(key.name).ok_or(Refusal::Name)?;
     if seen & bit != 0 {
         return Err(Refusal::Name);
     }
