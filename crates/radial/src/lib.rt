@@ -31,7 +31,8 @@ pub struct Span {
     pub length: u16,
 }
 
-// What an accepted body says. The places of `moments` after the last moment hold heads of zeros.
+// What an accepted body says. The library has no heap and a caller in C gets every place, so `moments` has a fixed size: `count` says how
+// many are there (it counts the constant blocks too), and the places after the last moment hold heads of zeros.
 #[derive(Clone, Copy)]
 pub struct Radial {
     pub count: u16,
@@ -80,7 +81,7 @@ fn accept(body: &[u8]) -> Result<Accepted<'_>, Refusal>
     ensures same { IfOk result (λ a. a.body.now ≡ body.now) }
 {
     radial_check::check_radial(body)?;
-    Ok(Accepted { body: body })
+    Ok(Accepted { body })
 }
 
 impl<'a> Accepted<'a> {
@@ -136,7 +137,7 @@ impl<'a> Accepted<'a> {
         let begin = place as usize;
         let end = begin + CONSTANT_HEAD;
         Span {
-            place: place,
+            place,
             length: wire::fetch::<u16>(&body[begin..end], LENGTH_PLACE),
         }
     }
@@ -162,6 +163,7 @@ impl<'a> Accepted<'a> {
         if count < k {
             return None;
         }
+        // The match is on k itself, since k is what is asked.
         match k {
             0 => None,
             1 => Some(self.constant(b"RVOL", VOLUME_POINTER)),
@@ -190,7 +192,7 @@ pub fn read_radial(body: &[u8]) -> Result<Radial, Refusal>
     ensures { tell_radial result ≡ shown (radial_of body.now) }
 {
     let read = radial_heading::read_heading(body)?;
-    let accepted = Accepted { body: body };
+    let accepted = Accepted { body };
     let volume = accepted.span_of(VOLUME_POINTER);
     let elevation = accepted.span_of(ELEVATION_POINTER);
     let radial = accepted.span_of(RADIAL_POINTER);
@@ -198,9 +200,9 @@ pub fn read_radial(body: &[u8]) -> Result<Radial, Refusal>
     Ok(Radial {
         count: read.count,
         header: read.header,
-        volume: volume,
-        elevation: elevation,
-        radial: radial,
+        volume,
+        elevation,
+        radial,
         moments: heads,
     })
 }
@@ -248,7 +250,7 @@ fn coded_by(body: &[u8], head: MomentHead, gate: usize) -> Result<Coded, Refusal
     }
     Ok(Coded {
         code: code_in(body, head.place as usize, head.word, gate),
-        head: head,
+        head,
     })
 }
 

@@ -130,6 +130,8 @@ fn constant(head: &[u8], size: usize, place: u32, name: &[u8], least: u16) -> Re
 }
 
 // 18 for a pointer that is too early or too near the end of the radial. For any other pointer the block's first bytes are in the radial.
+// `size ≤ length body` stays a clause, here and of the three functions below that pass `size` on: the rule reads the body, and it reads
+// the same in `&body[..size]` only after 18 is tested, so passing that part would need a proof of its own, block by block.
 fn constant_at(
     body: &[u8],
     size: usize,
