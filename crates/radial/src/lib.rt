@@ -120,6 +120,7 @@ impl<'a> Accepted<'a> {
         let none = MomentHead::default();
         let mut heads = [none; ROOM];
         let count = self.count() - CONSTANTS as u32;
+        // By the index, which the pointer's place needs too: the array is then whole at each turn, as the loop's invariant has it.
         for i in 0..count {
             let head = head_at(body, wire::fetch::<u32>(body, MOMENT_POINTER + 4 * i));
             heads[i as usize] = head;
