@@ -38,6 +38,7 @@ fn breaks_value(scale: u32, offset: u32) -> bool
 fn worth(code: u16, scale: f32, offset: f32) -> Gate
     ensures { meaning result ≡ worth_by code scale offset }
 {
+    // Most codes have a value, so that is tested first.
     if 1 < code {
         return Gate::Value((code as f32 - offset) / scale);
     }

@@ -11,7 +11,7 @@ use Rattle.wire.specs.Answers.{refused, given, number_of}
 use Rattle.wire.specs.Refusals.{number}
 use Rattle.wire.specs.declared.refusal.Refusal.{Refusal}
 use Rattle.wire.proofs.NumberLaws.{fetched-whole}
-use Rattle.radial_spec.specs.Description.{RVOL, RELV, RRAD, constants, Moment, Description, count_place, first_pointer, volume_pointer}
+use Rattle.radial_spec.specs.Description.{RVOL, RELV, RRAD, constants, Moment, Description, first_pointer, volume_pointer}
 use Rattle.radial_spec.specs.Description.{elevation_pointer, radial_pointer, moment_pointer, moment_head}
 use Rattle.radial_spec.specs.Refusal.{count_in, pointer, part, moment_at, moments_at, description, radial_of}
 use Rattle.radial_spec.specs.Lookups.{moment_of, moment_lying, blocks, Asked, no_such, lies, block_of}
@@ -50,9 +50,6 @@ module _ (b : List ℕ) (accepted : radial_of b ≡ given (description b)) where
 
   pub all_held : Held b
   all_held = held b d accepted
-
-  pub counted : (n : ℕ) → n ≡ fetched 2 b count_place → n ≡ count_in b
-  counted n e = e ∙ fetched-whole 2 b count_place (omega (arith, all_held.start.long))
 
   abbrev asked : ℕ → Asked
   asked k = get_or (no_such ∷ map lies (blocks d)) k no_such

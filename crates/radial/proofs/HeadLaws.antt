@@ -3,7 +3,8 @@ use Prim.Native.Nat.{ℕ, zero, suc, ◌+◌, ◌-◌, ◌*◌, ◌≤◌, ◌<�
 use native.Mathlib.Nat.{add-zero}
 use native.Mathlib.Omega.{arith}
 use native.Mathlib.Numerals.{add-one}
-use mathlib.Core.Path.{◌≡◌, refl, sym, ap, ◌∙◌}
+use mathlib.Core.Logic.{⊎_elim}
+use mathlib.Core.Path.{◌≡◌, refl, sym, ap, subst, ◌∙◌}
 use mathlib.Core.List.{List, [], ◌∷◌, ◌++◌, map, append_assoc}
 use lib.ListN.{length, set, replicate}
 use lib.Seq.{set_at}
@@ -11,7 +12,7 @@ use Rattle.wire.specs.Numbers.{nums}
 use Rattle.wire.specs.Answers.{given}
 use Rattle.wire.proofs.NumberLaws.{nums-length}
 use Rattle.radial_spec.specs.Description.{constants, Moment, most_moments, volume_pointer, elevation_pointer, radial_pointer, moment_pointer}
-use Rattle.radial_spec.specs.Description.{constant_head}
+use Rattle.radial_spec.specs.Description.{constant_head, header_size, Member}
 use Rattle.radial_spec.specs.Refusal.{count_in, pointer, part, block_says, block_at, moment_at, moments_at, description, radial_of}
 use Rattle.radial_spec.proofs.Accepted.{moments_length}
 use Rattle.radial_heading.specs.declared.Heading.{Heading}
@@ -19,7 +20,7 @@ use Rattle.radial.specs.declared.Span.{Span}
 use Rattle.radial_head.specs.declared.MomentHead.{MomentHead}
 use Rattle.radial.specs.Told.{span_of, head_of, no_head, heads_of, shown}
 use Rattle.radial_heading.specs.Told.{heading_of, heading_shown}
-use Rattle.radial.specs.Steps.{span_at}
+use Rattle.radial.specs.Steps.{constant_pointers, span_at}
 use Rattle.radial_spec.proofs.Held.{BlockHeld, Held, held}
 
 -- ---- the heads in their places
@@ -88,6 +89,21 @@ span_is b q h =
     (arith, nums-length 1 l constant_head (block_says l - constant_head), h.says) in
     λ i. record { place = pointer b q; length = e i }
 
+-- a pointer to a constant block stands in the body, and the block's head too
+pub record Constant (b : List ℕ) (q : ℕ) : Type 0 where
+  pub points : q + 4 ≤ length b
+  pub held : BlockHeld b q
+
+-- the three that an accepted radial has
+pub constant_held : (b : List ℕ) (q : ℕ) → Held b → Member q constant_pointers → Constant b q
+constant_held b q h =
+    ⊎_elim (at volume_pointer (omega arith) h.volume)
+    (⊎_elim (at elevation_pointer (omega arith) h.elevation) (⊎_elim (at radial_pointer (omega arith) h.radial) (λ e. absurd e)))
+  where
+    at : (k : ℕ) → k + 4 ≤ header_size → BlockHeld b k → q ≡ k → Constant b q
+    at k l g e = subst (Constant b) (sym e) (record { points = omega (arith, l, h.start.long); held = g })
+
+-- what the reader gives
 module _ (b : List ℕ) (accepted : radial_of b ≡ given (description b)) where
   abbrev all : Held b
   all = held b (description b) accepted

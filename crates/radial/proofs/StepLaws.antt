@@ -9,8 +9,7 @@ use borrow.Author.Tests.{eq-eqb, ne_eqb}
 use Rattle.std.specs.Prelude.{Some}
 use Rattle.wire.specs.Numbers.{fetched}
 use Rattle.wire.specs.Checks.{pick}
-use Rattle.wire.proofs.NumberLaws.{fetched-whole}
-use Rattle.radial_spec.specs.Description.{constants, count_place, first_pointer, moment_pointer}
+use Rattle.radial_spec.specs.Description.{constants, first_pointer, moment_pointer}
 use Rattle.radial_spec.specs.Refusal.{count_in, pointer, part, name_in}
 use Rattle.radial_spec.proofs.Held.{Held, HeadHeld}
 use Rattle.radial_head.proofs.PartLaws.{there}
@@ -24,15 +23,13 @@ pub record Searching (b : List ℕ) (name n k : ℕ) : Type 0 where
   pub counts : n ≡ count_in b
   pub same : place_from b name (first_pointer + 4 * k) (n - k) ≡ place_in b name
 
-pub search_begins : (b : List ℕ) (name n : ℕ) → Held b → n ≡ fetched 2 b count_place → Searching b name n constants
-search_begins b name n all e =
-    let is = e ∙ fetched-whole 2 b count_place (omega (arith, all.start.long)) in
-    record {
-      all = all;
-      after = omega arith;
-      counts = is;
-      same = ap (λ (m : ℕ). place_from b name moment_pointer (m - constants)) is;
-    }
+pub search_begins : (b : List ℕ) (name n : ℕ) → Held b → n ≡ count_in b → Searching b name n constants
+search_begins b name n all e = record {
+  all = all;
+  after = omega arith;
+  counts = e;
+  same = ap (λ (m : ℕ). place_from b name moment_pointer (m - constants)) e;
+}
 
 module _ (b : List ℕ) (name n k : ℕ) (s : Searching b name n k) where
   abbrev at : ℕ

@@ -1,5 +1,5 @@
 -- What the private functions promise each other. No public promise cites this file.
-use Rattle.std.specs.Prelude.{ℕ, zero, suc, ◌+◌, ◌-◌, ◌*◌, ◌/◌, ◌^◌, ◌≤◌, ◌<◌, List, leb, eqb, length, drop, Result, Option as Maybe, None, Some}
+use Rattle.std.specs.Prelude.{ℕ, zero, suc, ◌+◌, ◌-◌, ◌*◌, ◌/◌, ◌^◌, ◌≤◌, ◌<◌, List, [], ◌∷◌, leb, eqb, length, drop, Result, Option as Maybe, None, Some}
 use Rattle.std.proofs.Math.Option.{none, some}
 use Rattle.wire.specs.Numbers.{num}
 use Rattle.wire.specs.Checks.{pick}
@@ -7,11 +7,16 @@ use Rattle.wire.specs.Answers.{Answer, refused, given, onward}
 use Rattle.wire.specs.Refusals.{tell}
 use Rattle.wire.specs.declared.refusal.Refusal.{Refusal}
 use Rattle.radial_spec.specs.Description.{constants, most_gates, word_sizes, moment_head, moment_bytes, Member, Moment, moment_pointer}
+use Rattle.radial_spec.specs.Description.{volume_pointer, elevation_pointer, radial_pointer}
 use Rattle.radial_spec.specs.Refusal.{count_in, pointer, part, name_in, block_says, moment_at}
 use Rattle.radial.specs.declared.Span.{Span}
 use Rattle.radial_head.specs.declared.MomentHead.{MomentHead}
 use Rattle.radial.specs.declared.Coded.{Coded}
 use Rattle.radial.specs.Told.{Told, head_of}
+
+-- where the pointers of the three constant blocks stand
+abbrev pub constant_pointers : List ℕ
+constant_pointers = volume_pointer ∷ elevation_pointer ∷ radial_pointer ∷ []
 
 -- where a constant block lies, by its pointer and its length field
 abbrev pub span_at : List ℕ → ℕ → Span

@@ -1,16 +1,17 @@
 // What an accepted body of message 31 says, by value: its blocks, a moment by its name, and a gate's code.
 #![tactic(auto)]
 
-ghost use Rattle.std.specs.Prelude.{◌≡◌, ◌+◌, ◌-◌, ◌≤◌, length};
+ghost use Rattle.std.specs.Prelude.{◌≡◌, ◌+◌, ◌-◌, ◌≤◌, length, IfOk};
 ghost use Rattle.wire.specs.Numbers.{num, fetched};
-ghost use Rattle.wire.specs.Answers.{given};
-ghost use Rattle.radial_spec.specs.Description.{constants, most_moments, constant_head, moment_head, moment_pointer};
-ghost use Rattle.radial_spec.specs.Refusal.{count_in, pointer, moments_at, description, radial_of};
+ghost use Rattle.wire.specs.Answers.{given, number_of};
+ghost use Rattle.wire.specs.Refusals.{number_in};
+ghost use Rattle.radial_spec.specs.Description.{constants, most_blocks, moment_head, moment_pointer, Member};
+ghost use Rattle.radial_spec.specs.Refusal.{count_in, moments_at, description, radial_of};
 ghost use Rattle.radial_spec.specs.Lookups.{moment_of, coded_of, block_of};
 ghost use Rattle.radial.specs.Told.{heads_of, tell_radial, shown, tell_moment, head_shown, tell_coded, code_shown};
 ghost use Rattle.radial.specs.Told.{block_told, if_any, tell_block, block_shown};
 ghost use Rattle.radial.specs.Steps.{span_at, head_at, place_in, tell_place, place_shown, WordThere, code_in, GatesThere, coded_by};
-ghost use Rattle.radial.specs.Steps.{constant_told, moment_told};
+ghost use Rattle.radial.specs.Steps.{constant_pointers, constant_told, moment_told};
 
 use radial_check::{
     CONSTANT_HEAD, CONSTANTS, COUNT_PLACE, ELEVATION_POINTER, FIRST_POINTER, LENGTH_PLACE,
@@ -30,7 +31,8 @@ pub struct Span {
     pub length: u16,
 }
 
-// What an accepted body says. The places of `moments` after the last moment hold heads of zeros.
+// What an accepted body says. The library has no heap and a caller in C gets every place, so `moments` has a fixed size: `count` says how
+// many are there (it counts the constant blocks too), and the places after the last moment hold heads of zeros.
 #[derive(Clone, Copy)]
 pub struct Radial {
     pub count: u16,
@@ -66,23 +68,114 @@ pub enum RadialBlock {
     Moment(Lying, MomentHead),
 }
 
-// Where the first moment with a name begins, by the pointers of an accepted radial.
-fn moment_place(body: &[u8], name: u32) -> Option<u32>
-    requires { radial_of body.now ≡ given (description body.now) }
-    ensures { result ≡ place_in body.now name }
+// A body that was accepted.
+#[derive(Clone, Copy)]
+struct Accepted<'a> {
+    body: &'a [u8],
+    ghost accepted: { radial_of body.now ≡ given (description body.now) },
+}
+
+// Checks a body.
+fn accept(body: &[u8]) -> Result<Accepted<'_>, Refusal>
+    ensures number { number_in result ≡ number_of (radial_of body.now) }
+    ensures same { IfOk result (λ a. a.body.now ≡ body.now) }
 {
-    let count = wire::fetch::<u16>(body, COUNT_PLACE) as u32;
-    for k in CONSTANTS as u32..count {
-        let at = (FIRST_POINTER + 4 * k) as usize;
-        let next = at + 4;
-        let place = wire::fetch::<u32>(&body[at..next], 0);
+    radial_check::check_radial(body)?;
+    Ok(Accepted { body })
+}
+
+impl<'a> Accepted<'a> {
+    // How many blocks it has.
+    fn count(self) -> u32
+        ensures is { result ≡ count_in self.entry.body.now }
+        ensures few { (constants ≤ result) × (result ≤ most_blocks) }
+    {
+        wire::fetch::<u16>(self.body, COUNT_PLACE) as u32
+    }
+
+    // Where the first moment with a name begins, by the pointers.
+    fn moment_place(self, name: u32) -> Option<u32>
+        ensures { result ≡ place_in self.entry.body.now name }
+    {
+        let body = self.body;
+        let count = self.count();
+        for k in CONSTANTS as u32..count {
+            let at = (FIRST_POINTER + 4 * k) as usize;
+            let next = at + 4;
+            let place = wire::fetch::<u32>(&body[at..next], 0);
+            let begin = place as usize;
+            let after = begin + 4;
+            if wire::fetch::<u32>(&body[begin..after], 0) == name {
+                return Some(place);
+            }
+        }
+        None
+    }
+
+    // The moments' heads.
+    fn all_heads(self) -> [MomentHead; ROOM]
+        ensures { result ≡ heads_of (moments_at self.entry.body.now moment_pointer (count_in self.entry.body.now - constants)) }
+    {
+        let body = self.body;
+        let none = MomentHead::default();
+        let mut heads = [none; ROOM];
+        let count = self.count() - CONSTANTS as u32;
+        // By the index, which the pointer's place needs too: the array is then whole at each turn, as the loop's invariant has it.
+        for i in 0..count {
+            let head = head_at(body, wire::fetch::<u32>(body, MOMENT_POINTER + 4 * i));
+            heads[i as usize] = head;
+        }
+        heads
+    }
+
+    // Where a constant block lies, by its pointer.
+    fn span_of(self, at: u32) -> Span
+        requires { Member at constant_pointers }
+        ensures { result ≡ span_at self.entry.body.now at }
+    {
+        let body = self.body;
+        let place = wire::fetch::<u32>(body, at);
         let begin = place as usize;
-        let after = begin + 4;
-        if wire::fetch::<u32>(&body[begin..after], 0) == name {
-            return Some(place);
+        let end = begin + CONSTANT_HEAD;
+        Span {
+            place,
+            length: wire::fetch::<u16>(&body[begin..end], LENGTH_PLACE),
         }
     }
-    None
+
+    // A constant block, by its pointer.
+    fn constant(self, name: &[u8], at: u32) -> RadialBlock
+        requires { Member at constant_pointers }
+        ensures { block_told result ≡ constant_told (fetched 4 name.now 0) (span_at self.entry.body.now at) }
+    {
+        let span = self.span_of(at);
+        RadialBlock::Constant(Lying {
+            name: wire::fetch::<u32>(name, 0),
+            place: span.place,
+            size: span.length as u32,
+        })
+    }
+
+    // Block k in pointer order, from 1.
+    fn block(self, k: u32) -> Option<RadialBlock>
+        ensures { given (if_any result) ≡ block_shown (block_of self.entry.body.now k) }
+    {
+        let count = self.count();
+        if count < k {
+            return None;
+        }
+        // The match is on k itself, since k is what is asked.
+        match k {
+            0 => None,
+            1 => Some(self.constant(b"RVOL", VOLUME_POINTER)),
+            2 => Some(self.constant(b"RELV", ELEVATION_POINTER)),
+            3 => Some(self.constant(b"RRAD", RADIAL_POINTER)),
+            _ => {
+                let place = wire::fetch::<u32>(self.body, FIRST_POINTER + 4 * (k - 1));
+                Some(moment_block(head_at(self.body, place)))
+            }
+        }
+    }
 }
 
 // The head of the moment at a place of the body.
@@ -95,49 +188,22 @@ fn head_at(body: &[u8], place: u32) -> MomentHead
     radial_head::head_of(&body[begin..end], place)
 }
 
-// The moments' heads of an accepted radial.
-fn all_heads(body: &[u8], count: u32) -> [MomentHead; ROOM]
-    requires { (radial_of body.now ≡ given (description body.now)) × (count ≡ count_in body.now - constants) × (count ≤ most_moments) }
-    ensures { result ≡ heads_of (moments_at body.now moment_pointer count) }
-{
-    let none = MomentHead::default();
-    let mut heads = [none; ROOM];
-    for i in 0..count {
-        let head = head_at(body, wire::fetch::<u32>(body, MOMENT_POINTER + 4 * i));
-        heads[i as usize] = head;
-    }
-    heads
-}
-
-// Where the constant block of an accepted radial lies, by its pointer.
-fn span_of(body: &[u8], at: u32) -> Span
-    requires { (at + 4 ≤ length body.now) × (pointer body.now at + constant_head ≤ length body.now) }
-    ensures { result ≡ span_at body.now at }
-{
-    let place = wire::fetch::<u32>(body, at);
-    let begin = place as usize;
-    let end = begin + CONSTANT_HEAD;
-    Span {
-        place: place,
-        length: wire::fetch::<u16>(&body[begin..end], LENGTH_PLACE),
-    }
-}
-
 // What a body says. No byte of a gate is read.
 pub fn read_radial(body: &[u8]) -> Result<Radial, Refusal>
     ensures { tell_radial result ≡ shown (radial_of body.now) }
 {
     let read = radial_heading::read_heading(body)?;
-    let volume = span_of(body, VOLUME_POINTER);
-    let elevation = span_of(body, ELEVATION_POINTER);
-    let radial = span_of(body, RADIAL_POINTER);
-    let heads = all_heads(body, (read.count - CONSTANTS) as u32);
+    let accepted = Accepted { body };
+    let volume = accepted.span_of(VOLUME_POINTER);
+    let elevation = accepted.span_of(ELEVATION_POINTER);
+    let radial = accepted.span_of(RADIAL_POINTER);
+    let heads = accepted.all_heads();
     Ok(Radial {
         count: read.count,
         header: read.header,
-        volume: volume,
-        elevation: elevation,
-        radial: radial,
+        volume,
+        elevation,
+        radial,
         moments: heads,
     })
 }
@@ -146,8 +212,10 @@ pub fn read_radial(body: &[u8]) -> Result<Radial, Refusal>
 fn place(body: &[u8], name: Name) -> Result<u32, Refusal>
     ensures { tell_place result ≡ place_shown (moment_of body.now (num 4 name 0)) }
 {
-    radial_check::check_radial(body)?;
-    moment_place(body, wire::fetch::<u32>(&name, 0)).ok_or(Refusal::AskedFor)
+    let accepted = accept(body)?;
+    accepted
+        .moment_place(wire::fetch::<u32>(&name, 0))
+        .ok_or(Refusal::AskedFor)
 }
 
 // The head of the moment with a name.
@@ -183,7 +251,7 @@ fn coded_by(body: &[u8], head: MomentHead, gate: usize) -> Result<Coded, Refusal
     }
     Ok(Coded {
         code: code_in(body, head.place as usize, head.word, gate),
-        head: head,
+        head,
     })
 }
 
@@ -195,46 +263,11 @@ pub fn code(body: &[u8], name: Name, gate: usize) -> Result<Coded, Refusal>
     coded_by(body, head_at(body, begin), gate)
 }
 
-// One of the three constant blocks of an accepted radial, by its pointer.
-fn constant(body: &[u8], name: &[u8], at: u32) -> RadialBlock
-    requires { (at + 4 ≤ length body.now) × (pointer body.now at + constant_head ≤ length body.now) }
-    ensures { block_told result ≡ constant_told (fetched 4 name.now 0) (span_at body.now at) }
-{
-    let span = span_of(body, at);
-    RadialBlock::Constant(Lying {
-        name: wire::fetch::<u32>(name, 0),
-        place: span.place,
-        size: span.length as u32,
-    })
-}
-
 // Block k in pointer order, from 1. A block that does not exist is not a refusal, since no number covers it.
 pub fn block(body: &[u8], k: u32) -> Result<Option<RadialBlock>, Refusal>
     ensures { tell_block result ≡ block_shown (block_of body.now k) }
 {
-    radial_check::check_radial(body)?;
-    Ok(block_in(body, k))
-}
-
-// The same for a radial that was accepted.
-fn block_in(body: &[u8], k: u32) -> Option<RadialBlock>
-    requires { radial_of body.now ≡ given (description body.now) }
-    ensures { given (if_any result) ≡ block_shown (block_of body.now k) }
-{
-    let count = wire::fetch::<u16>(body, COUNT_PLACE) as u32;
-    if count < k {
-        return None;
-    }
-    match k {
-        0 => None,
-        1 => Some(constant(body, b"RVOL", VOLUME_POINTER)),
-        2 => Some(constant(body, b"RELV", ELEVATION_POINTER)),
-        3 => Some(constant(body, b"RRAD", RADIAL_POINTER)),
-        _ => {
-            let place = wire::fetch::<u32>(body, FIRST_POINTER + 4 * (k - 1));
-            Some(moment_block(head_at(body, place)))
-        }
-    }
+    Ok(accept(body)?.block(k))
 }
 
 fn moment_block(head: MomentHead) -> RadialBlock

@@ -17,7 +17,10 @@ use Rattle.wire.specs.Checks.{pick, either, both, among}
 use Rattle.wire.proofs.CheckLaws.{either_false, both_true, never}
 use Rattle.wire.proofs.FiniteLaws.{all_below, below, same, same_is}
 use Rattle.radial_spec.specs.Description.{permitted}
-use Rattle.radial_check.specs.Steps.{bit_from, bit_of, marked}
+use Rattle.std.specs.Prelude.{Option, None, Some, Ok, Err}
+use Rattle.std.specs.Option.{ok_or}
+use Rattle.wire.specs.declared.refusal.Refusal.{Refusal}
+use Rattle.radial_check.specs.Steps.{bit_from, bit_of, if_set, marked}
 
 -- ---- a rule for every number of a list, by one test that is computed
 abbrev all_of : (ℕ → Bool) → List ℕ → Bool
@@ -49,6 +52,35 @@ pub permitted_bit : (n : ℕ) → not (eqb (bit_of n) 0) ≡ among n permitted
 unfolding bit_of
 permitted_bit n = listed_bit 0 permitted n
 
+-- ---- a bit as the code gives it
+set_some : (n bit : ℕ) → Some bit ≡ if_set n → (bit ≡ n) × (bit ≡ 0 → ⊥)
+set_some zero bit e = never (cc e)
+set_some (suc n) bit e = let same : bit ≡ suc n = cc e in (same, λ z. omega (arith, z, same))
+
+set_none : (n : ℕ) → None ≡ if_set n → n ≡ 0
+set_none zero e = refl
+set_none (suc n) e = never (cc e)
+
+some_set : (n : ℕ) → (n ≡ 0 → ⊥) → Some n ≡ if_set n
+some_set zero ne = absurd (ne refl)
+some_set (suc n) ne = refl
+
+-- and of a bit that is asked for, where none is refused
+module _ (n : ℕ) (o : Option ℕ) (is : o ≡ if_set n) (r : Refusal) where
+  pub known_bit : (bit : ℕ) → Ok bit ≡ ok_or o r → (bit ≡ n) × (bit ≡ 0 → ⊥)
+  known_bit bit e = go o is e
+    where
+      go : (o : Option ℕ) → o ≡ if_set n → Ok bit ≡ ok_or o r → (bit ≡ n) × (bit ≡ 0 → ⊥)
+      go None f e = never (cc e)
+      go (Some m) f e = let same : bit ≡ m = cc e in set_some n bit (ap Some same ∙ f)
+
+  pub unknown_bit : (s : Refusal) → Err s ≡ ok_or o r → (s ≡ r) × (0 ≡ n)
+  unknown_bit s e = go o is e
+    where
+      go : (o : Option ℕ) → o ≡ if_set n → Err s ≡ ok_or o r → (s ≡ r) × (0 ≡ n)
+      go None f e = (cc e, sym (set_none n f))
+      go (Some m) f e = never (cc e)
+
 -- ---- the names in turn: those that are left give the bit that all give
 module _ (ns : List ℕ) (i n : ℕ) (more : i < length ns) where
   this_name : bit_from i (drop i ns) n ≡ pick (eqb n (get_or ns i 0)) (2 ^ i) (bit_from (i + 1) (drop (i + 1) ns) n)
@@ -74,8 +106,13 @@ module _ (table : List (List ℕ)) (n bit i : ℕ) (s : Seeking table n bit i) w
         let right : ℕ → Bool = λ k. eqb (fetched 4 (get_or table k []) 0) (get_or permitted k 0) in
         e ∙ eqb-true (fetched 4 (get_or table i []) 0) (get_or permitted i 0) (below right (length permitted) s.rows i more)
 
-    pub seek_found : r ≡ n → bit ≡ bit_of n
-    seek_found q = s.power ∙ sym (this_name permitted i n more ∙ simp (eq-eqb n (get_or permitted i 0) (sym q ∙ row-name))) ∙ s.same
+    found-bit : r ≡ n → bit ≡ bit_of n
+    found-bit q = s.power ∙ sym (this_name permitted i n more ∙ simp (eq-eqb n (get_or permitted i 0) (sym q ∙ row-name))) ∙ s.same
+
+    pub seek_found : r ≡ n → Some bit ≡ if_set (bit_of n)
+    seek_found q =
+        let z = pow_pos i in
+        some_set bit (λ e. omega (arith, z, e, s.power)) ∙ ap if_set (found-bit q)
 
     pub seek-on : (r ≡ n → ⊥) → Seeking table n (bit * 2) (i + 1)
     seek-on ne = record {

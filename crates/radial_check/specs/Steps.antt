@@ -1,5 +1,5 @@
 -- What the private functions promise each other, in the rule's own checks. No public promise cites this file.
-use Rattle.std.specs.Prelude.{ℕ, suc, ◌+◌, ◌^◌, Bool, not, List, [], ◌∷◌, ltb, eqb, Result}
+use Rattle.std.specs.Prelude.{ℕ, zero, suc, ◌+◌, ◌^◌, Bool, not, List, [], ◌∷◌, ltb, eqb, Result, Option, None, Some}
 use Rattle.std.specs.Int.Bits.{bit_and}
 use Rattle.wire.specs.Numbers.{fetched}
 use Rattle.wire.specs.Checks.{Check, check, among, pick, decide}
@@ -32,6 +32,11 @@ bit_from k (n ∷ ns) name = pick (eqb name n) (2 ^ k) (bit_from (suc k) ns name
 
 unfoldable pub bit_of : ℕ → ℕ
 bit_of name = bit_from 0 permitted name
+
+-- a bit as the code gives it: none where it is 0
+abbrev pub if_set : ℕ → Option ℕ
+if_set zero = None
+if_set (suc n) = Some (suc n)
 
 -- the bit of the name is set in `seen`
 abbrev pub marked : ℕ → ℕ → Bool

@@ -9,7 +9,7 @@ ghost use Rattle.wire.specs.Refusals.{number_in};
 ghost use Rattle.radial_spec.specs.Description.{header_size, most_moments, word_sizes};
 ghost use Rattle.radial_spec.specs.Refusal.{size_in, radial_of};
 ghost use Rattle.radial_head.specs.Told.{fetched_head, key_of};
-ghost use Rattle.radial_check.specs.Steps.{tell_start, tell_found, tell_got, bit_of, start_of, constant_by, constant_at};
+ghost use Rattle.radial_check.specs.Steps.{tell_start, tell_found, tell_got, bit_of, if_set, start_of, constant_by, constant_at};
 ghost use Rattle.radial_check.specs.Steps.{constants_of, moment_in, moment_next, moments_of};
 
 use radial_head::MOMENT_HEAD;
@@ -94,11 +94,11 @@ fn begin(body: &[u8]) -> Result<Start, Refusal>
     if wire::fetch::<u8>(body, COMPRESSION_PLACE) != 0 {
         return Err(Refusal::Compression);
     }
-    let length = wire::fetch::<u16>(body, SIZE_PLACE);
-    if (length as usize) < HEADER_SIZE {
+    let size = wire::fetch::<u16>(body, SIZE_PLACE) as usize;
+    if size < HEADER_SIZE {
         return Err(Refusal::RadialLength);
     }
-    if body.len() < length as usize {
+    if body.len() < size {
         return Err(Refusal::RadialLength);
     }
     let count = wire::fetch::<u16>(body, COUNT_PLACE);
@@ -108,10 +108,7 @@ fn begin(body: &[u8]) -> Result<Start, Refusal>
     if MOST_BLOCKS < count {
         return Err(Refusal::BlockCount);
     }
-    Ok(Start {
-        size: length as usize,
-        count: count,
-    })
+    Ok(Start { size, count })
 }
 
 // Checks a constant block at `place` in a radial of `size` bytes, by the block's first six bytes.
@@ -133,6 +130,8 @@ fn constant(head: &[u8], size: usize, place: u32, name: &[u8], least: u16) -> Re
 }
 
 // 18 for a pointer that is too early or too near the end of the radial. For any other pointer the block's first bytes are in the radial.
+// `size ≤ length body` stays a clause, here and of the three functions below that pass `size` on: the rule reads the body, and it reads
+// the same in `&body[..size]` only after 18 is tested, so passing that part would need a proof of its own, block by block.
 fn constant_at(
     body: &[u8],
     size: usize,
@@ -172,18 +171,18 @@ fn all_constants(body: &[u8], size: usize, first: usize) -> Result<usize, Refusa
     constant_at(body, size, elevation, RADIAL_POINTER, b"RRAD", RADIAL_LEAST)
 }
 
-// The bit of a name: 2 to the power of its index in PERMITTED, or 0 for a name that is not permitted.
-fn bit_of(name: u32) -> u32
-    ensures { result ≡ bit_of name }
+// The bit of a permitted name: 2 to the power of its index in PERMITTED.
+fn bit_of(name: u32) -> Option<u32>
+    ensures { result ≡ if_set (bit_of name) }
 {
     let mut bit: u32 = 1;
     for known in &PERMITTED {
         if wire::fetch::<u32>(known, 0) == name {
-            return bit;
+            return Some(bit);
         }
-        bit = bit * 2;
+        bit *= 2;
     }
-    0
+    None
 }
 
 fn sized(word: u8) -> bool
@@ -197,10 +196,7 @@ fn moment_in(part: &[u8], size: usize, place: u32, seen: u32) -> Result<Got, Ref
     ensures { tell_got result ≡ moment_in size place (key_of (fetched_head part.now)) seen }
 {
     let key = radial_head::key_of(part);
-    let bit = bit_of(key.name);
-    if bit == 0 {
-        return Err(Refusal::Name);
-    }
+    let bit = bit_of(key.name).ok_or(Refusal::Name)?;
     if seen & bit != 0 {
         return Err(Refusal::Name);
     }
@@ -214,7 +210,7 @@ fn moment_in(part: &[u8], size: usize, place: u32, seen: u32) -> Result<Got, Ref
     if size < end {
         return Err(Refusal::Block);
     }
-    Ok(Got { bit: bit, end: end })
+    Ok(Got { bit, end })
 }
 
 // The fetch is from a slice of four bytes, so the compiler drops its test although it knows no bound of `at`.
@@ -245,7 +241,7 @@ fn all_moments(body: &[u8], size: usize, first: usize, count: u32) -> Result<(),
     let mut from = first;
     for i in 0..count {
         let found = moment_at(body, size, from, MOMENT_POINTER + 4 * i, seen)?;
-        seen = seen | found.bit;
+        seen |= found.bit;
         from = found.end;
     }
     Ok(())

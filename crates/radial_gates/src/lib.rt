@@ -41,7 +41,7 @@ fn part(body: &[u8], found: Located) -> &[u8]
     &body[start..end]
 }
 
-// Exactly the gate words of the moment with a name; an empty part on a refusal.
+// Exactly the gate words of the moment with a name; on a refusal "an empty part where gates are handed over". `lent` says the number too.
 pub fn gates(body: &[u8], name: Name) -> &[u8]
     ensures { LiesAt body.entry result (part_of (gates_of body.now (num 4 name 0))) }
 {

@@ -34,18 +34,13 @@ pub struct Heading {
     pub header: Header,
 }
 
+// The fetches here and of the count are from a slice of known length, so the compiler drops their tests although it knows no length of
+// the body.
 fn header_of(body: &[u8]) -> Header
     requires { header_size ≤ length body.now }
     ensures { result ≡ header_of (description body.now) }
 {
-    header_in(&body[..HEADER_SIZE])
-}
-
-// The 68 bytes of the header.
-fn header_in(head: &[u8]) -> Header
-    requires { header_size ≤ length head.now }
-    ensures { result ≡ header_of (description head.now) }
-{
+    let head = &body[..HEADER_SIZE];
     Header {
         station: wire::fetch::<u32>(head, 0),
         time: wire::fetch::<u32>(head, 4),
@@ -79,6 +74,6 @@ pub fn read_heading(body: &[u8]) -> Result<Heading, Refusal>
     let header = header_of(body);
     Ok(Heading {
         count: count_of(body),
-        header: header,
+        header,
     })
 }

@@ -10,7 +10,6 @@ use Rattle.wire.specs.declared.refusal.Refusal.TheVariants.{AskedFor}
 use Rattle.wire.specs.Numbers.{num, fetched}
 use Rattle.wire.proofs.ExitLaws.{exits}
 use Rattle.wire.proofs.NumberLaws.{fetched-whole}
-use Rattle.radial_spec.proofs.Held.{number_given}
 use Rattle.radial.specs.Steps.{tell_place, place_in, place_asked}
 use Rattle.radial.proofs.FindLaws.{placed, place_refused}
 use Rattle.radial.proofs.place.Goals as goal
@@ -24,16 +23,12 @@ found : (o : Maybe ℕ) → tell_place (ok_or o AskedFor) ≡ place_asked o
 found None = refl
 found (Some p) = refl
 
-pub returns-in_err-check_radial : goal.returns-in_err-check_radial
-returns-in_err-check_radial c =
-    rw (exits _ _ c.from_residual.ensures) (place_refused _ _ _ c.in_err-check_radial.ensures)
-
-pub moment_place-requires : goal.moment_place-requires
-moment_place-requires c = number_given _ c.in_ok-check_radial.ensures
+pub returns-in_err-accepted : goal.returns-in_err-accepted
+returns-in_err-accepted c = rw (exits _ _ c.from_residual.ensures) (place_refused _ _ _ c.in_err-accepted.ensures.number)
 
 pub returns : goal.returns
 returns c =
     ap tell_place c.ok_or.ensures.value
     ∙ found c.moment_place.result
-    ∙ ap place_asked (c.moment_place.ensures ∙ ap (place_in c.args.body.now) (asked _ _ (search rules) c.fetch.ensures))
-    ∙ placed _ _ c.in_ok-check_radial.ensures
+    ∙ ap place_asked (c.moment_place.ensures ∙ (λ i. place_in (c.in_ok-accepted.ensures.same i) (asked _ _ (search rules) c.fetch.ensures i)))
+    ∙ placed _ _ c.in_ok-accepted.ensures.number

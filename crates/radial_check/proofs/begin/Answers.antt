@@ -5,30 +5,30 @@ pub returns-then-fetch-ne0 : goal.returns-then-fetch-ne0
 returns-then-fetch-ne0 c =
     compressed c.args.body.now c.if-body-lt-HEADER_SIZE.false _ c.fetch.ensures c.if-fetch-ne0.true
 
-pub returns-then-length-lt-HEADER_SIZE : goal.returns-then-length-lt-HEADER_SIZE
-returns-then-length-lt-HEADER_SIZE c =
+pub returns-then-size-lt-HEADER_SIZE : goal.returns-then-size-lt-HEADER_SIZE
+returns-then-size-lt-HEADER_SIZE c =
     short-radial c.args.body.now c.if-body-lt-HEADER_SIZE.false _ c.fetch.ensures c.if-fetch-ne0.false _
-    c.fetch-length.ensures c.if-length-lt-HEADER_SIZE.true
+    c.fetch-size.ensures c.if-size-lt-HEADER_SIZE.true
 
-pub returns-then-body-length : goal.returns-then-body-length
-returns-then-body-length c =
+pub returns-then-body-size : goal.returns-then-body-size
+returns-then-body-size c =
     long-radial c.args.body.now c.if-body-lt-HEADER_SIZE.false _ c.fetch.ensures c.if-fetch-ne0.false _
-    c.fetch-length.ensures c.if-length-lt-HEADER_SIZE.false c.if-body-length.true
+    c.fetch-size.ensures c.if-size-lt-HEADER_SIZE.false c.if-body-size.true
 
 pub returns-then-count-lt-FEWEST_BLOCKS : goal.returns-then-count-lt-FEWEST_BLOCKS
 returns-then-count-lt-FEWEST_BLOCKS c =
     few-blocks c.args.body.now c.if-body-lt-HEADER_SIZE.false _ c.fetch.ensures c.if-fetch-ne0.false _
-    c.fetch-length.ensures c.if-length-lt-HEADER_SIZE.false c.if-body-length.false _
+    c.fetch-size.ensures c.if-size-lt-HEADER_SIZE.false c.if-body-size.false _
     c.fetch-count.ensures c.if-count-lt-FEWEST_BLOCKS.true
 
 pub returns-then-count-gt-MOST_BLOCKS : goal.returns-then-count-gt-MOST_BLOCKS
 returns-then-count-gt-MOST_BLOCKS c =
     many-blocks c.args.body.now c.if-body-lt-HEADER_SIZE.false _ c.fetch.ensures c.if-fetch-ne0.false _
-    c.fetch-length.ensures c.if-length-lt-HEADER_SIZE.false c.if-body-length.false _
+    c.fetch-size.ensures c.if-size-lt-HEADER_SIZE.false c.if-body-size.false _
     c.fetch-count.ensures c.if-count-lt-FEWEST_BLOCKS.false c.if-count-gt-MOST_BLOCKS.true
 
 pub returns : goal.returns
 returns c =
     good_start c.args.body.now c.if-body-lt-HEADER_SIZE.false _ c.fetch.ensures c.if-fetch-ne0.false _
-    c.fetch-length.ensures c.if-length-lt-HEADER_SIZE.false c.if-body-length.false _
+    c.fetch-size.ensures c.if-size-lt-HEADER_SIZE.false c.if-body-size.false _
     c.fetch-count.ensures c.if-count-lt-FEWEST_BLOCKS.false c.if-count-gt-MOST_BLOCKS.false

@@ -8,7 +8,7 @@ use Rattle.radial_spec.specs.Refusal.{pointer}
 use Rattle.radial_spec.proofs.Held.{held}
 use Rattle.radial_head.proofs.PartLaws.{there, pointer_there}
 use Rattle.radial.proofs.StepLaws.{Searching, search_begins, pointer-inside, block_held, search-found, search-on}
-use Rattle.radial.proofs.moment_place.Goals as goal
+use Rattle.radial.proofs.Accepted.moment_place.Goals as goal
 
 -- the place that was fetched is where the pointer of block k points
 pointed : (b : List ℕ) (name n k p : ℕ) → Searching b name n k → k < n → p ≡ fetched 4 (there b (first_pointer + 4 * k) 4) 0
@@ -16,7 +16,7 @@ pointed : (b : List ℕ) (name n k p : ℕ) → Searching b name n k → k < n �
 pointed b name n k p s more e = pointer_there b (first_pointer + 4 * k) p (pointer-inside b name n k s more) e
 
 pub loop-k-init : goal.loop-k-init
-loop-k-init c = search_begins c.args.body.now c.args.name _ (held _ _ c.requires) c.fetch-count.ensures
+loop-k-init c = search_begins c.args.self.body.now c.args.name _ (held _ _ c.args.self.accepted) c.count-count.ensures.is
 
 pub returns-then-fetch-name : goal.returns-then-fetch-name
 returns-then-fetch-name c =

@@ -1,5 +1,0 @@
-use Rattle.radial.proofs.HeadLaws.{Filling}
-use Rattle.radial.proofs.all_heads.Given as goal
-
-abbrev pub invariant-loop-i : goal.invariant-loop-i
-invariant-loop-i l = Filling l.body l.count l.heads l.i
