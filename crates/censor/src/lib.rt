@@ -50,16 +50,10 @@ fn region_broken(region: &[u16]) -> bool
 }
 
 // Whether one of the whole regions has such a field.
-#[tactic(auto, using(crate::proofs::StepLaws::regions_told))]
 fn regions_broken(fields: &[u16]) -> bool
     ensures { result ≡ regions_broken (length fields.now / region_fields) fields.now }
 {
-    for region in fields.chunks_exact(REGION_FIELDS) {
-        if region_broken(region) {
-            return true;
-        }
-    }
-    false
+    fields.chunks_exact(REGION_FIELDS).any(region_broken)
 }
 
 // The fields of n regions, then 0.
