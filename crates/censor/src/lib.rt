@@ -32,6 +32,7 @@ const AZIMUTHS: (u16, u16) = (0, 360);
 const LIMITS: [(u16, u16); REGION_FIELDS] = [RANGES, RANGES, AZIMUTHS, AZIMUTHS, (1, 5), (0, 2)];
 
 // The count of regions; and six halfwords for each region as stored, then 0.
+// The count stands beside the places, as there is no heap, and C is handed all places as they are.
 #[derive(Clone, Copy)]
 pub struct Censor {
     pub count: u16,
