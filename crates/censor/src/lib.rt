@@ -22,7 +22,7 @@ const COUNT: usize = 2;
 
 const REGION: usize = 2 * REGION_FIELDS;
 
-const PLACES: usize = REGION_FIELDS * MOST_REGIONS as usize;
+pub const PLACES: usize = REGION_FIELDS * MOST_REGIONS as usize;
 
 const RANGES: (u16, u16) = (0, 511);
 
