@@ -7,13 +7,14 @@ ghost use Rattle.c_lent.specs.Face.{Leaves, written_face};
 ghost use Rattle.c_censor.specs.Face.{censor_face};
 
 use c_lent::UlmWritten;
+use censor::PLACES;
 
 #[repr(C)]
 #[derive(Clone, Copy)]
 pub struct UlmCensor {
     pub refusal: u32,
     pub count: u32,
-    pub regions: [u16; 150],
+    pub regions: [u16; PLACES],
 }
 
 pub fn censor(body: &[u8]) -> UlmCensor
@@ -31,7 +32,7 @@ pub fn censor(body: &[u8]) -> UlmCensor
         Err(refusal) => UlmCensor {
             refusal: refusal.number() as u32,
             count: 0,
-            regions: [0; 150],
+            regions: [0; PLACES],
         },
     }
 }

@@ -65,8 +65,6 @@ none_left rest h =
     let few : length rest / region_fields ≡ 0 = omega (arith, h) in
     ap (λ (n : ℕ). regions_broken n rest) few
 
-pub ruleset regions_told = (first_broken, first_fine, none_left)
-
 -- ---- the reader
 pub count_absent : (body : List ℕ) → length body < 2 → censor_shown (censor_of body) ≡ refused 23
 unfolding censor_of

@@ -22,7 +22,7 @@ const COUNT: usize = 2;
 
 const REGION: usize = 2 * REGION_FIELDS;
 
-const PLACES: usize = REGION_FIELDS * MOST_REGIONS as usize;
+pub const PLACES: usize = REGION_FIELDS * MOST_REGIONS as usize;
 
 const RANGES: (u16, u16) = (0, 511);
 
@@ -32,6 +32,7 @@ const AZIMUTHS: (u16, u16) = (0, 360);
 const LIMITS: [(u16, u16); REGION_FIELDS] = [RANGES, RANGES, AZIMUTHS, AZIMUTHS, (1, 5), (0, 2)];
 
 // The count of regions; and six halfwords for each region as stored, then 0.
+// The count stands beside the places, as there is no heap, and C is handed all places as they are.
 #[derive(Clone, Copy)]
 pub struct Censor {
     pub count: u16,
@@ -50,16 +51,10 @@ fn region_broken(region: &[u16]) -> bool
 }
 
 // Whether one of the whole regions has such a field.
-#[tactic(auto, using(crate::proofs::StepLaws::regions_told))]
 fn regions_broken(fields: &[u16]) -> bool
     ensures { result ≡ regions_broken (length fields.now / region_fields) fields.now }
 {
-    for region in fields.chunks_exact(REGION_FIELDS) {
-        if region_broken(region) {
-            return true;
-        }
-    }
-    false
+    fields.chunks_exact(REGION_FIELDS).any(region_broken)
 }
 
 // The fields of n regions, then 0.

@@ -95,6 +95,7 @@ fn put(out: &mut [u16], place: Place, stretch: Stretch)
 
 // Counts a stretch if `lists` is true, and lists it where there is room, in six halfwords.
 // Room is tested first: while differences are counted there is none, and so no branch on `lists`.
+// `count` stands beside `out`, and not in an iterator over it, as it goes on where there is no room.
 fn list(out: &mut [u16], count: usize, lists: bool, place: Place, stretch: Stretch) -> usize
     requires { (count ≤ most_counted) × (lists ≡ true → 1 ≤ stretch.next) }
     ensures { sheet (difference_size * result) out.new ≡ listing (one_if lists place.elevation place.azimuth stretch.first stretch.next stretch.old stretch.new) (sheet (difference_size * count) out.old) }
@@ -167,6 +168,7 @@ fn size_of(part: &[u8]) -> usize
 }
 
 // How many bytes at the start of two parts are the same, in steps of four. Up to seven bytes at the end may not be compared.
+// Two fours a turn, and not an iterator over one four: docs/SPEED.md has the times.
 fn same_bytes(old: &[u8], new: &[u8]) -> usize
     ensures { (result ≤ length old.now) × (result ≤ length new.now) × Same result old.now new.now }
 {
@@ -207,7 +209,7 @@ fn pass(part: &[u8], same: usize, most: usize) -> Run
 }
 
 // Compares the azimuths of the first `elevations` elevation segments. Most are the same: one loop finds how many bytes are equal,
-// and the azimuths in these bytes are skipped by their sizes.
+// and the azimuths in these bytes are skipped by their sizes. A `while`, as both places and the index move by what each turn finds.
 fn compare_azimuths(old: &[u8], new: &[u8], elevations: u16, out: &mut [u16]) -> usize
     requires { Checked elevations old.now new.now }
     ensures { sheet (difference_size * result) out.new ≡ listing (differences (map_in old.now) (map_in new.now)) (sheet 0 out.old) }

@@ -2,14 +2,15 @@
 use Prim.Native.Nat.{ℕ, ◌+◌, ◌*◌, ◌-◌, ◌≤◌, ◌<◌}
 use native.Mathlib.Omega.{arith}
 use mathlib.Core.Path.{◌≡◌, refl, sym, ap, ◌∙◌, subst}
-use mathlib.Core.Bool.{Bool, true, false}
+use mathlib.Core.Bool.{Bool, true, false, true≢false}
 use mathlib.Core.List.{List, ◌++◌}
 use mathlib.Core.Logic.{◌⊎◌, inl, inr}
 use mathlib.Core.Option.{none}
-use Rattle.std.specs.Prelude.{min}
-use lib.Dec.{ltb}
+use Rattle.std.specs.Prelude.{min, Option, None, Some}
+use Rattle.std.specs.Option.{is_some, unwrap_or}
+use lib.Dec.{ltb, leb, eqb}
 use lib.ListN.{length, take, drop, length-drop}
-use borrow.Author.Tests.{lt-ltb, le-ltb, lt-leb, ltb-true, ltb-false, eq-eqb, ne_eqb}
+use borrow.Author.Tests.{lt-ltb, le-ltb, ltb-true, ltb-false, leb-true, leb-false, eqb-true, eqb-false, eq-eqb, ne_eqb}
 use Rattle.form_spec.specs.Parts.{run_size, run_checks}
 use Rattle.wire.specs.Numbers.{fetched}
 use Rattle.wire.specs.Checks.{pick, either, Check, decide, first, AllHold}
@@ -188,6 +189,40 @@ query_stop index b elevation azimuth kilometre n e =
     refused_before (map_checks b) (asked_checks (segments_in b) elevation azimuth kilometre) _
     (code_at (map_in b) elevation azimuth kilometre) n e
 
+-- no map has such an azimuth
+abbrev pub Nowhere : ℕ → ℕ → Type 0
+Nowhere elevation azimuth = (elevation ≡ 0)
+    ⊎ (((elevation ≡ 0 → ⊥) × (most_elevations < elevation)) ⊎ ((elevation ≡ 0 → ⊥) × (azimuths ≤ azimuth)))
+
+-- an index that stands is that of an azimuth that some map has
+module _ (index : Option ℕ) (elevation azimuth : ℕ) (asked : index ≡ asked_index elevation azimuth) where
+  abbrev Asked : Type 0
+  Asked = (elevation ≡ 0 → ⊥) × (azimuth < azimuths) × (unwrap_or index 0 ≡ index_of elevation azimuth)
+
+  abbrev Choice : Bool → Bool → Bool → Option ℕ
+  Choice x y z = pick x None (pick y None (pick z None (Some (index_of elevation azimuth))))
+
+  pub asked_some : is_some index ≡ true → Asked
+  asked_some s = by (eqb elevation 0) (ltb most_elevations elevation) (leb azimuths azimuth) refl refl asked
+    where
+      none : index ≡ None → Asked
+      none p = absurd (true≢false (sym s ∙ ap is_some p))
+
+      by : (x y z : Bool) → eqb elevation 0 ≡ x → leb azimuths azimuth ≡ z → index ≡ Choice x y z → Asked
+      by true y z p q i = none i
+      by false true z p q i = none i
+      by false false true p q i = none i
+      by false false false p q i = (eqb-false elevation 0 p, leb-false azimuths azimuth q, ap (λ (o : Option ℕ). unwrap_or o 0) i)
+
+  pub asked_nothing : is_some index ≡ false → Nowhere elevation azimuth
+  asked_nothing s = by (eqb elevation 0) (ltb most_elevations elevation) (leb azimuths azimuth) refl refl refl asked
+    where
+      by : (x y z : Bool) → eqb elevation 0 ≡ x → ltb most_elevations elevation ≡ y → leb azimuths azimuth ≡ z → index ≡ Choice x y z → Nowhere elevation azimuth
+      by true y z p q t i = inl (eqb-true elevation 0 p)
+      by false true z p q t i = inr (inl (eqb-false elevation 0 p, ltb-true most_elevations elevation q))
+      by false false true p q t i = inr (inr (eqb-false elevation 0 p, leb-true azimuths azimuth t))
+      by false false false p q t i = absurd (true≢false (ap is_some (sym i) ∙ s))
+
 module _ (index : ℕ) (b : List ℕ) (checked : Checked) (e : given checked ≡ body_checked index b) where
   told-by : (first (map_checks b) ≡ none)
       × (◌≡◌ {A = Checked} (record { elevations = segments_in b; place = place_of (min index (segments_in b * azimuths)) b }) checked)
@@ -200,15 +235,9 @@ module _ (index : ℕ) (b : List ℕ) (checked : Checked) (e : given checked ≡
   segments_are = ap (λ (c : Checked). c.elevations) told-by.1
 
   -- the azimuth that was found is the one asked for
-  pub asked-stands : (elevation azimuth : ℕ) → index ≡ asked_index elevation azimuth → (elevation ≡ 0 → ⊥)
+  pub asked-stands : (elevation azimuth : ℕ) → index ≡ index_of elevation azimuth → (elevation ≡ 0 → ⊥)
       → elevation ≤ checked.elevations → azimuth < azimuths → AzimuthStands b elevation azimuth checked.place
-  asked-stands elevation azimuth asked z h a =
-      let f = (map_facts b holds).most in
-      let i : index ≡ index_of elevation azimuth = asked ∙ simp (
-        ne_eqb elevation 0 z,
-        le-ltb most_elevations elevation (omega (arith, f, segments_are)),
-        lt-leb azimuths azimuth a,
-      ) in
+  asked-stands elevation azimuth i z h a =
       let l : min index (segments_in b * azimuths) ≡ index_of elevation azimuth = omega (arith, i, segments_are) in
       let p = ap (λ (k : ℕ). place_of k b) (sym l) ∙ ap (λ (c : Checked). c.place) told-by.1 in
       subst (AzimuthStands b elevation azimuth) p
@@ -238,6 +267,16 @@ module _ (index : ℕ) (b : List ℕ) (checked : Checked) (e : given checked ≡
           lt-ltb azimuth azimuths h.2,
           lt-ltb last_kilometre kilometre h.3,
         ))
+
+    -- no map has it
+    pub asked-nowhere : Nowhere elevation azimuth → refused 21 ≡ code_of b elevation azimuth kilometre
+    asked-nowhere (inl z) = asked-none (inl z)
+    asked-nowhere (inr (inl h)) = asked-none (inr (inl (h.0, omega (arith, h.1, (map_facts b holds).most, segments_are))))
+    asked-nowhere (inr (inr h)) = go (ltb checked.elevations elevation) refl
+      where
+        go : (t : Bool) → ltb checked.elevations elevation ≡ t → refused 21 ≡ code_of b elevation azimuth kilometre
+        go true p = asked-none (inr (inl (h.0, ltb-true checked.elevations elevation p)))
+        go false p = asked-none (inr (inr (inl (h.0, ltb-false checked.elevations elevation p, h.1))))
 
     pub asked-given : (elevation ≡ 0 → ⊥) → elevation ≤ checked.elevations → azimuth < azimuths → kilometre ≤ last_kilometre
         → given (code_at (map_in b) elevation azimuth kilometre) ≡ code_of b elevation azimuth kilometre

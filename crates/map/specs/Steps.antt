@@ -1,5 +1,5 @@
 -- What the private functions promise each other. No public promise cites this file.
-use Rattle.std.specs.Prelude.{ℕ, ◌*◌, min, List, ltb, leb, eqb, Result}
+use Rattle.std.specs.Prelude.{ℕ, ◌*◌, min, List, ltb, leb, eqb, Result, Option, None, Some}
 use Rattle.form_spec.specs.Parts.{run_size, run_checks}
 use Rattle.wire.specs.Checks.{pick}
 use Rattle.wire.specs.Answers.{Answer, rule}
@@ -36,7 +36,8 @@ body_checked index b =
     (record { elevations = segments_in b; place = place_of (min index (segments_in b * azimuths)) b })
 
 -- ---- a query, the azimuths of all elevation segments counted through from 0
--- the azimuth asked for, or 0 where no map has one
-abbrev pub asked_index : ℕ → ℕ → ℕ
+-- the azimuth asked for, if some map has one
+abbrev pub asked_index : ℕ → ℕ → Option ℕ
 asked_index elevation azimuth =
-    pick (eqb elevation 0) 0 (pick (ltb most_elevations elevation) 0 (pick (leb azimuths azimuth) 0 (index_of elevation azimuth)))
+    pick (eqb elevation 0) None
+    (pick (ltb most_elevations elevation) None (pick (leb azimuths azimuth) None (Some (index_of elevation azimuth))))

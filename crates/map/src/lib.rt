@@ -114,6 +114,7 @@ pub fn check_map(body: &[u8]) -> Result<MapSummary, Refusal>
 }
 
 // The code at a kilometre of a checked azimuth, which the part begins with: the code of the first zone whose end is not below it.
+// Zone after zone, with no search by halves: there are 20 at most, and the part goes on past the azimuth.
 fn zone_code(part: &[u8], kilometre: usize) -> u16
     requires { AllHold (azimuth_part.checks part.now) × (kilometre ≤ last_kilometre) }
     ensures { result ≡ code_from 0 (azimuth_part.read part.now) kilometre }
@@ -127,14 +128,14 @@ fn zone_code(part: &[u8], kilometre: usize) -> u16
     0
 }
 
-// The index of the azimuth asked for, over all elevation segments from 0. Where no map has such an azimuth it is 0.
-fn index_of(elevation: usize, azimuth: usize) -> usize
+// The index of the azimuth asked for, over all elevation segments from 0, if some map has such an azimuth.
+fn index_of(elevation: usize, azimuth: usize) -> Option<usize>
     ensures { result ≡ asked_index elevation azimuth }
 {
     if elevation == 0 || MOST_ELEVATIONS < elevation || AZIMUTHS <= azimuth {
-        return 0;
+        return None;
     }
-    (elevation - 1) * AZIMUTHS + azimuth
+    Some((elevation - 1) * AZIMUTHS + azimuth)
 }
 
 // The code at an elevation segment (from 1), azimuth and kilometre of a body 15.
@@ -146,12 +147,9 @@ pub fn code_at(
 ) -> Result<u16, Refusal>
     ensures { tell_code result ≡ code_of body.now elevation azimuth kilometre }
 {
-    let checked = check_body(body, index_of(elevation, azimuth))?;
-    if elevation == 0
-        || checked.elevations < elevation
-        || AZIMUTHS <= azimuth
-        || LAST_KILOMETRE < kilometre
-    {
+    let index = index_of(elevation, azimuth);
+    let checked = check_body(body, index.unwrap_or(0))?;
+    if index.is_none() || checked.elevations < elevation || LAST_KILOMETRE < kilometre {
         return Err(Refusal::AskedFor);
     }
     let code = zone_code(&body[checked.place..], kilometre);
