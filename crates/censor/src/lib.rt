@@ -64,6 +64,7 @@ fn regions_of(body: &[u8], n: usize) -> [u16; PLACES]
     ensures { result ≡ nums 2 body.now 2 (region_fields * n) ++ replicate (places - region_fields * n) 0 }
 {
     let mut regions = [0u16; PLACES];
+    // By its index, of which the place in the body comes.
     for i in 0..REGION_FIELDS * n {
         regions[i] = wire::fetch::<u16>(body, (COUNT + 2 * i) as u32);
     }
