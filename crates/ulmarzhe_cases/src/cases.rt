@@ -46,7 +46,7 @@ pub fn run_lines(
             return;
         }
     }
-    if let Some(why) = lines.failed() {
+    if let Err(why) = lines.check() {
         system::tell(rt, b"cases", why);
         out.fail();
     }

@@ -58,12 +58,12 @@ impl Salvage<'_> {
     fn walk(&mut self, rt: &HostRuntime, out: &mut Output) {
         for _ in 0..u64::MAX {
             self.reading.read_more();
-            if let Some(why) = self.reading.failed {
+            if let Err(why) = self.reading.check() {
                 fail(rt, out, b"recording", why);
             }
             self.walk_window(rt, out);
             self.show_progress(rt);
-            if out.has_failed() || self.reading.ended {
+            if out.has_failed() || self.reading.has_ended() {
                 break;
             }
         }
@@ -102,7 +102,7 @@ impl Salvage<'_> {
     fn decided_end(&self) -> usize {
         let start = self.reading.start();
         let fill = self.reading.bytes().len();
-        if self.reading.ended {
+        if self.reading.has_ended() {
             return fill;
         }
         (fill + 1).saturating_sub(LONGEST).max(start)

@@ -146,8 +146,7 @@ fn read_place(rt: &impl Env) -> Option<Place> {
 // Reads a file into the window, or says why it cannot be read. A file that the window cuts off is longer than any map, and what is left is
 // refused as the whole would be.
 fn read_map<'a>(rt: &HostRuntime, reading: &'a mut Reading<'_>, name: &[u8]) -> Option<&'a [u8]> {
-    reading.read_all();
-    if let Some(why) = reading.failed {
+    if let Err(why) = reading.read_all() {
         system::tell(rt, name, why);
         return None;
     }

@@ -72,9 +72,7 @@ impl<'a> Walk<'a> {
     // The frame that is looked at, or none at the recording's end.
     pub fn find(&mut self) -> Result<Option<Frame>, Fault> {
         let answer = self.read_whole();
-        if let Some(why) = self.reading.failed {
-            return Err(Fault::NotRead(why));
-        }
+        self.reading.check().map_err(Fault::NotRead)?;
         answer.map_err(Fault::Damaged)
     }
 
@@ -83,7 +81,7 @@ impl<'a> Walk<'a> {
         for _ in 0..u64::MAX {
             let start = self.reading.start();
             let answer = frame::frame_at(self.reading.bytes(), start);
-            if self.reading.ended || is_settled(answer) {
+            if self.reading.has_ended() || is_settled(answer) {
                 return answer;
             }
             self.reading.read_more();
