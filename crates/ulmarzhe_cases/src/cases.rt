@@ -9,7 +9,7 @@ use std::fs::File;
 use ulmarzhe_text::output::Output;
 use ulmarzhe_text::page::PAGE;
 use ulmarzhe_text::window::WINDOW;
-use ulmarzhe_text::{system, words};
+use ulmarzhe_text::words;
 
 #[derive(Clone, Copy)]
 enum Verdict {
@@ -47,8 +47,7 @@ pub fn run_lines(
         }
     }
     if let Err(why) = lines.check() {
-        system::tell(rt, b"cases", why);
-        out.fail();
+        out.tell(rt, b"cases", why);
     }
 }
 
