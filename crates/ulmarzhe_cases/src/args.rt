@@ -33,20 +33,9 @@ impl<'a> Args<'a> {
         words::read_decimal(self.word()?)
     }
 
-    pub fn size(&mut self) -> Option<usize> {
-        usize::try_from(self.number()?).ok()
-    }
-
-    pub fn byte(&mut self) -> Option<u8> {
-        u8::try_from(self.number()?).ok()
-    }
-
-    pub fn halfword(&mut self) -> Option<u16> {
-        u16::try_from(self.number()?).ok()
-    }
-
-    pub fn fullword(&mut self) -> Option<u32> {
-        u32::try_from(self.number()?).ok()
+    // A number that fits its type.
+    pub fn fit<T: TryFrom<u64, Error: Drop>>(&mut self) -> Option<T> {
+        T::try_from(self.number()?).ok()
     }
 
     // The four bytes of a moment's name. A pair that is no digits counts as 256 and reads as 0, and the name is refused only where the four

@@ -9,7 +9,7 @@ use std::fs::File;
 use ulmarzhe_text::output::Output;
 use ulmarzhe_text::page::PAGE;
 use ulmarzhe_text::window::WINDOW;
-use ulmarzhe_text::{system, words};
+use ulmarzhe_text::words;
 
 #[derive(Clone, Copy)]
 enum Verdict {
@@ -46,9 +46,8 @@ pub fn run_lines(
             return;
         }
     }
-    if let Some(why) = lines.failed() {
-        system::tell(rt, b"cases", why);
-        out.fail();
+    if let Err(why) = lines.check() {
+        out.tell(rt, b"cases", why);
     }
 }
 

@@ -1,6 +1,6 @@
 // The lines of a file: the next one is looked for in the window, and more is read until it is there.
 use std::fs::File;
-use std::io::Error;
+use std::io::Result;
 use ulmarzhe_text::window::{Reading, WINDOW};
 use ulmarzhe_text::words;
 
@@ -37,7 +37,7 @@ impl<'a> Lines<'a> {
         if !has_end && start == end {
             return None;
         }
-        let is_whole = has_end || self.reading.ended;
+        let is_whole = has_end || self.reading.has_ended();
         self.is_within = !is_whole;
         self.reading.look_at(end.saturating_add(1));
         let text = self.reading.bytes_mut().get_mut(start..end)?;
@@ -48,8 +48,8 @@ impl<'a> Lines<'a> {
     }
 
     // Why the file could not be read to its end.
-    pub fn failed(&self) -> Option<Error> {
-        self.reading.failed
+    pub fn check(&self) -> Result<()> {
+        self.reading.check()
     }
 
     // Where the line that is looked at ends in the window, read as far as the window holds it.
@@ -57,7 +57,7 @@ impl<'a> Lines<'a> {
         let mut end = self.line_end();
         for _ in 0..u64::MAX {
             let found = end < self.reading.bytes().len();
-            if found || self.reading.ended || self.reading.is_full() {
+            if found || self.reading.has_ended() || self.reading.is_full() {
                 return end;
             }
             self.reading.read_more();
@@ -72,7 +72,7 @@ impl<'a> Lines<'a> {
             let end = self.line_end();
             let found = end < self.reading.bytes().len();
             self.reading.look_at(end.saturating_add(1));
-            if found || self.reading.ended {
+            if found || self.reading.has_ended() {
                 return;
             }
             self.reading.read_more();

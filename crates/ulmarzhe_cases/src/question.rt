@@ -71,7 +71,7 @@ impl<'a> Question<'a> {
     fn of_entry(entry: &[u8], args: &mut Args<'a>) -> Option<Question<'a>> {
         match entry {
             b"frame" => Some(Question::Frame {
-                place: args.size()?,
+                place: args.fit()?,
                 stream: args.bytes()?,
             }),
             b"header" => Some(Question::Header(args.bytes()?)),
@@ -82,16 +82,16 @@ impl<'a> Question<'a> {
             }),
             b"gate" => Some(Question::Gate {
                 name: args.name()?,
-                gate: args.size()?,
+                gate: args.fit()?,
                 body: args.bytes()?,
             }),
             b"request" => Some(Question::Request(args.bytes()?)),
             b"censor" => Some(Question::Censor(args.bytes()?)),
             b"map" => Some(Question::Map(args.bytes()?)),
             b"map-code" => Some(Question::MapCode {
-                elevation: args.size()?,
-                azimuth: args.size()?,
-                kilometre: args.size()?,
+                elevation: args.fit()?,
+                azimuth: args.fit()?,
+                kilometre: args.fit()?,
                 body: args.bytes()?,
             }),
             _ => Question::of_writer(entry, args),
@@ -135,10 +135,10 @@ impl<'a> Question<'a> {
 
 fn read_given(args: &mut Args<'_>) -> Option<Given> {
     Some(Given {
-        channel: args.byte()?,
-        kind: args.byte()?,
-        sequence: args.halfword()?,
-        date: args.halfword()?,
-        milliseconds: args.fullword()?,
+        channel: args.fit()?,
+        kind: args.fit()?,
+        sequence: args.fit()?,
+        date: args.fit()?,
+        milliseconds: args.fit()?,
     })
 }

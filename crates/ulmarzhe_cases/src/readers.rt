@@ -12,7 +12,7 @@ pub fn of_frame(stream: &[u8], place: usize) -> Result<Told, Refusal> {
 }
 
 pub fn of_header(message: &[u8]) -> Result<Told, Refusal> {
-    Ok(Told::Header(header::read_header(message)?))
+    header::read_header(message).map(Told::Header)
 }
 
 // A radial, and each of its blocks, counted from 1.
@@ -46,11 +46,11 @@ pub fn say_gates(body: &[u8], name: Name, sink: &mut Sink<'_>) {
 }
 
 pub fn of_gate(body: &[u8], name: Name, gate: usize) -> Result<Told, Refusal> {
-    Ok(Told::Gate(gate_value::gate_value(body, name, gate)?))
+    gate_value::gate_value(body, name, gate).map(Told::Gate)
 }
 
 pub fn of_request(body: &[u8]) -> Result<Told, Refusal> {
-    Ok(Told::Request(request::read_request(body)?))
+    request::read_request(body).map(Told::Request)
 }
 
 // The regions of message 8, all places.
@@ -65,7 +65,7 @@ pub fn say_censor(body: &[u8], sink: &mut Sink<'_>) {
 }
 
 pub fn of_map(body: &[u8]) -> Result<Told, Refusal> {
-    Ok(Told::Map(map::check_map(body)?))
+    map::check_map(body).map(Told::Map)
 }
 
 pub fn of_map_code(
@@ -74,5 +74,5 @@ pub fn of_map_code(
     azimuth: usize,
     kilometre: usize,
 ) -> Result<Told, Refusal> {
-    Ok(Told::Code(map::code_at(body, elevation, azimuth, kilometre)?))
+    map::code_at(body, elevation, azimuth, kilometre).map(Told::Code)
 }

@@ -6,7 +6,7 @@ use crate::{ROOM, lists};
 use compare::MOST;
 use wire::Bytes;
 use wire::refusal::Refusal;
-use writer_head::Given;
+use writer_head::{Given, HEADS};
 
 // The halfwords of a difference.
 const HALFWORDS: usize = 6;
@@ -14,8 +14,8 @@ const HALFWORDS: usize = 6;
 // The numbers of a run: its place and its length.
 const NUMBERS: usize = 2;
 
-// The most runs of an answer: between any two of them lies a frame of 28 bytes or more, and all frames fit in the room.
-const RUNS: usize = ROOM / 28 + 1;
+// The most runs of an answer: between any two of them lies a frame, which begins with its heads, and all frames fit in the room.
+const RUNS: usize = ROOM / HEADS + 1;
 
 pub fn say_set(frames: &[u8], lent: &mut [u8], sink: &mut Sink<'_>) {
     match set::read_set(frames, lent) {

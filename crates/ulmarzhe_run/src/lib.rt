@@ -6,7 +6,7 @@ mod command;
 use command::{Command, Row, TABLE};
 use std::fmt::Display;
 use ulmarzhe_text::output::Output;
-use ulmarzhe_text::status::Status;
+use ulmarzhe_text::status::{Status, WrongWords};
 use ulmarzhe_text::window::WINDOW;
 use ulmarzhe_text::{files, system};
 
@@ -23,11 +23,10 @@ fn answer(rt: &HostRuntime, window: &mut [u8; WINDOW], out: &mut Output) -> Stat
         let form = "ulmarzhe COMMAND ..., and ulmarzhe help lists the commands";
         return tell_form(rt, form, out);
     };
-    let status = run(rt, row, window, out);
-    if status == Status::WrongWords {
-        return tell_form(rt, row, out);
+    match run(rt, row, window, out) {
+        Ok(status) => status,
+        Err(WrongWords) => tell_form(rt, row, out),
     }
-    status
 }
 
 // The row of the command that the first word names.
@@ -36,21 +35,26 @@ fn read_row(rt: &HostRuntime) -> Option<Row> {
     Row::named(system::word(rt, 1, &mut buffer).ok()?)
 }
 
-fn run(rt: &HostRuntime, row: Row, window: &mut [u8; WINDOW], out: &mut Output) -> Status {
+fn run(
+    rt: &HostRuntime,
+    row: Row,
+    window: &mut [u8; WINDOW],
+    out: &mut Output,
+) -> Result<Status, WrongWords> {
     if !row.takes(system::count_words(rt).saturating_sub(2)) {
-        return Status::WrongWords;
+        return Err(WrongWords);
     }
     match row.command {
-        Command::Frames => ulmarzhe_show::list_frames(rt, window, out),
-        Command::Radials => ulmarzhe_show::list_radials(rt, window, out),
+        Command::Frames => Ok(ulmarzhe_show::list_frames(rt, window, out)),
+        Command::Radials => Ok(ulmarzhe_show::list_radials(rt, window, out)),
         Command::Gates => ulmarzhe_show::list_gates(rt, window, out),
         Command::Picture => ulmarzhe_show::draw_picture(rt, window, out),
         Command::Map => ulmarzhe_show::show_map_code(rt, window, out),
-        Command::Compare => ulmarzhe_show::compare_maps(rt, window, out),
+        Command::Compare => Ok(ulmarzhe_show::compare_maps(rt, window, out)),
         Command::Salvage => ulmarzhe_salvage::salvage_recording(rt, window, out),
         Command::Why => ulmarzhe_show::explain(rt, out),
-        Command::Cases => ulmarzhe_cases::run(rt, window, out),
-        Command::Help => help(rt, out),
+        Command::Cases => Ok(ulmarzhe_cases::run(rt, window, out)),
+        Command::Help => Ok(help(rt, out)),
     }
 }
 

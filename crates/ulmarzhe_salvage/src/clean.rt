@@ -109,13 +109,7 @@ impl<'a> Clean<'a> {
 
     // Makes CLEAN.part and opens it for writing. If that fails, says why and answers none.
     pub fn open_part(self, rt: &HostRuntime) -> Option<File> {
-        match system::create(rt, self.part) {
-            Ok(file) => Some(file),
-            Err(why) => {
-                system::tell(rt, self.part, why);
-                None
-            }
-        }
+        system::or_tell(rt, self.part, system::create(rt, self.part))
     }
 
     pub fn remove_part(self, rt: &HostRuntime) {
@@ -128,13 +122,8 @@ impl<'a> Clean<'a> {
         if taken.is_err() {
             self.remove_part(rt);
         }
-        match taken.and_then(|()| store_folder(rt, self.name)) {
-            Ok(()) => true,
-            Err(why) => {
-                system::tell(rt, self.name, why);
-                false
-            }
-        }
+        let stored = taken.and_then(|()| store_folder(rt, self.name));
+        system::or_tell(rt, self.name, stored).is_some()
     }
 
     fn rename(self, rt: &HostRuntime) -> io::Result<()> {

@@ -1,7 +1,7 @@
 // A damaged recording, walked by windows: the frames that pass are written to a file, and each run of bytes between them is listed.
 use frame::LONGEST;
 use std::fs::File;
-use std::io::{Error, Seek, SeekFrom, Write};
+use std::io::{Seek, SeekFrom, Write};
 use ulmarzhe_text::output::Output;
 use ulmarzhe_text::page::PAGE;
 use ulmarzhe_text::system;
@@ -58,12 +58,12 @@ impl Salvage<'_> {
     fn walk(&mut self, rt: &HostRuntime, out: &mut Output) {
         for _ in 0..u64::MAX {
             self.reading.read_more();
-            if let Some(why) = self.reading.failed {
-                fail(rt, out, b"recording", why);
+            if let Err(why) = self.reading.check() {
+                out.tell(rt, b"recording", why);
             }
             self.walk_window(rt, out);
             self.show_progress(rt);
-            if out.has_failed() || self.reading.ended {
+            if out.has_failed() || self.reading.has_ended() {
                 break;
             }
         }
@@ -91,6 +91,7 @@ impl Salvage<'_> {
         if frames.count == 0 {
             return false;
         }
+        // Where the list of runs cannot be written, the frames found are still kept, and the walk ends behind them.
         self.list_run(rt, out);
         self.keep(rt, out, frames);
         self.reading.look_at(frames.end);
@@ -102,7 +103,7 @@ impl Salvage<'_> {
     fn decided_end(&self) -> usize {
         let start = self.reading.start();
         let fill = self.reading.bytes().len();
-        if self.reading.ended {
+        if self.reading.has_ended() {
             return fill;
         }
         (fill + 1).saturating_sub(LONGEST).max(start)
@@ -131,7 +132,7 @@ impl Salvage<'_> {
         self.frames = self.frames.wrapping_add(frames.count);
         let mut file = self.file;
         if let Err(why) = file.write_all(bytes) {
-            fail(rt, out, b"clean recording", why);
+            out.tell(rt, b"clean recording", why);
         }
     }
 
@@ -153,7 +154,7 @@ impl Salvage<'_> {
         }
         match self.file.sync_all() {
             Ok(()) => self.add_totals(out),
-            Err(why) => fail(rt, out, b"clean recording", why),
+            Err(why) => out.tell(rt, b"clean recording", why),
         }
     }
 
@@ -172,12 +173,6 @@ impl Salvage<'_> {
             "{skipped:>10}  bytes skipped\n{all:>10}  bytes in all\n"
         );
     }
-}
-
-// Says why the recording cannot be read, or why what is kept cannot be written.
-fn fail(rt: &HostRuntime, out: &mut Output, what: &[u8], why: Error) {
-    system::tell(rt, what, why);
-    out.fail();
 }
 
 fn frames_from(stream: &[u8], start: usize) -> Frames {

@@ -8,37 +8,37 @@ use clean::{Clean, Older, PART};
 use std::env::Env;
 use std::fs::File;
 use ulmarzhe_text::output::Output;
-use ulmarzhe_text::status::Status;
+use ulmarzhe_text::status::{Status, WrongWords};
 use ulmarzhe_text::window::WINDOW;
 use ulmarzhe_text::{files, system};
 
-pub fn salvage_recording(rt: &HostRuntime, window: &mut [u8; WINDOW], out: &mut Output) -> Status {
-    let Some(older) = read_older(rt) else {
-        return Status::WrongWords;
-    };
+pub fn salvage_recording(
+    rt: &HostRuntime,
+    window: &mut [u8; WINDOW],
+    out: &mut Output,
+) -> Result<Status, WrongWords> {
+    let older = read_older(rt)?;
     let Some(damaged) = files::open_named(rt, 2) else {
-        return Status::NotDone;
+        return Ok(Status::NotDone);
     };
     let mut name = [0u8; system::NAME];
     let mut part = [0u8; PART];
-    match system::word(rt, 3, &mut name) {
-        Ok(name) => salvage_to(rt, damaged, Clean::new(name, older, &mut part), window, out),
-        Err(why) => {
-            system::tell(rt, b"file name", why);
-            Status::NotDone
-        }
-    }
+    let Some(name) = system::or_tell(rt, b"file name", system::word(rt, 3, &mut name)) else {
+        return Ok(Status::NotDone);
+    };
+    let clean = Clean::new(name, older, &mut part);
+    Ok(salvage_to(rt, damaged, clean, window, out))
 }
 
-// What the word after CLEAN says, if it is one that the command takes.
-fn read_older(rt: &impl Env) -> Option<Older> {
+// What the word after CLEAN says, if there is one.
+fn read_older(rt: &impl Env) -> Result<Older, WrongWords> {
     if system::count_words(rt) < 5 {
-        return Some(Older::Stays);
+        return Ok(Older::Stays);
     }
     let mut buffer = [0u8; 32];
     match system::word(rt, 4, &mut buffer) {
-        Ok(b"over") => Some(Older::IsReplaced),
-        _ => None,
+        Ok(b"over") => Ok(Older::IsReplaced),
+        _ => Err(WrongWords),
     }
 }
 

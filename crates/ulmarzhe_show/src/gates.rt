@@ -1,7 +1,7 @@
 // The gates of one moment of one radial, a line each: gate, range, code and value.
 use crate::moments::Moment;
-use crate::recorded::{Fault, Found, Walk};
-use crate::{listing, picture, recorded};
+use crate::recorded::{Fault, Found, RECORDING, Walk};
+use crate::{listing, picture};
 use gate_value::Gate;
 use radial_head::MomentHead;
 use std::fmt;
@@ -17,7 +17,7 @@ pub fn list(rt: &HostRuntime, walk: &mut Walk<'_>, moment: Moment, out: &mut Out
         Ok(Some(frame)) => list_frame(rt, walk.found(frame), moment, out),
         Ok(None) => listing::list_none(place, out),
         Err(Fault::Damaged(why)) => listing::list_stop(place, why, out),
-        Err(Fault::NotRead(why)) => recorded::fail(rt, why, out),
+        Err(Fault::NotRead(why)) => out.tell(rt, RECORDING, why),
     }
 }
 

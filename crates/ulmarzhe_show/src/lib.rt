@@ -15,12 +15,12 @@ use compare::MOST;
 use listing::{Frames, Radials};
 use moments::Moment;
 use picture::{Drawing, Picture, Survey};
-use recorded::{Task, Walk};
+use recorded::{RECORDING, Task, Walk};
 use std::env::Env;
 use std::fs::File;
 use std::io::{Seek, SeekFrom};
 use ulmarzhe_text::output::Output;
-use ulmarzhe_text::status::Status;
+use ulmarzhe_text::status::{Status, WrongWords};
 use ulmarzhe_text::window::{Reading, WINDOW};
 use ulmarzhe_text::{files, system};
 
@@ -45,40 +45,43 @@ fn list<T: Task>(
     out.end(rt)
 }
 
-fn read_moment(rt: &impl Env, i: usize) -> Option<Moment> {
-    let mut word = [0u8; 32];
-    Moment::named(system::word(rt, i, &mut word).ok()?)
+fn read_moment(rt: &impl Env, i: usize) -> Result<Moment, WrongWords> {
+    let mut buffer = [0u8; 32];
+    let word = system::word(rt, i, &mut buffer).map_err(|_| WrongWords)?;
+    Moment::named(word).ok_or(WrongWords)
 }
 
 // The system counts a place in 63 bits.
 const PLACES: u64 = 1 << 63;
 
-pub fn list_gates(rt: &HostRuntime, window: &mut [u8; WINDOW], out: &mut Output) -> Status {
-    let Some(place) = files::read_number(rt, 3) else {
-        return Status::WrongWords;
-    };
-    let Some(moment) = read_moment(rt, 4) else {
-        return Status::WrongWords;
-    };
+pub fn list_gates(
+    rt: &HostRuntime,
+    window: &mut [u8; WINDOW],
+    out: &mut Output,
+) -> Result<Status, WrongWords> {
+    let place = files::read_number(rt, 3)?;
+    let moment = read_moment(rt, 4)?;
     let Some(mut file) = files::open_named(rt, 2) else {
-        return Status::NotDone;
+        return Ok(Status::NotDone);
     };
     match file.seek(SeekFrom::Start(place % PLACES)) {
         Ok(_) => gates::list(rt, &mut Walk::new(&file, window, place), moment, out),
-        Err(why) => recorded::fail(rt, why, out),
+        Err(why) => out.tell(rt, RECORDING, why),
     }
-    out.end(rt)
+    Ok(out.end(rt))
 }
 
-pub fn draw_picture(rt: &HostRuntime, window: &mut [u8; WINDOW], out: &mut Output) -> Status {
-    let Some(moment) = read_moment(rt, 3) else {
-        return Status::WrongWords;
-    };
+pub fn draw_picture(
+    rt: &HostRuntime,
+    window: &mut [u8; WINDOW],
+    out: &mut Output,
+) -> Result<Status, WrongWords> {
+    let moment = read_moment(rt, 3)?;
     let Some(file) = files::open_named(rt, 2) else {
-        return Status::NotDone;
+        return Ok(Status::NotDone);
     };
     draw(rt, &file, moment, window, out);
-    out.end(rt)
+    Ok(out.end(rt))
 }
 
 fn draw(
@@ -107,24 +110,26 @@ fn draw(
             picture.put_head(&mut out.page);
             Walk::new(file, window, 0).follow(rt, &mut Drawing { picture }, out);
         }
-        Err(why) => recorded::fail(rt, why, out),
+        Err(why) => out.tell(rt, RECORDING, why),
     }
 }
 
-pub fn show_map_code(rt: &HostRuntime, window: &mut [u8; WINDOW], out: &mut Output) -> Status {
-    let Some(place) = read_place(rt) else {
-        return Status::WrongWords;
-    };
+pub fn show_map_code(
+    rt: &HostRuntime,
+    window: &mut [u8; WINDOW],
+    out: &mut Output,
+) -> Result<Status, WrongWords> {
+    let place = read_place(rt)?;
     let Some(file) = files::open_named(rt, 2) else {
-        return Status::NotDone;
+        return Ok(Status::NotDone);
     };
     let mut reading = Reading::new(&file, window, 0);
     let Some(body) = read_map(rt, &mut reading, b"map") else {
-        return Status::NotDone;
+        return Ok(Status::NotDone);
     };
     let code = map::code_at(body, place.elevation, place.azimuth, place.kilometre);
     maps::show_code(code, out);
-    out.end(rt)
+    Ok(out.end(rt))
 }
 
 // A place of a map.
@@ -135,8 +140,8 @@ struct Place {
     kilometre: usize,
 }
 
-fn read_place(rt: &impl Env) -> Option<Place> {
-    Some(Place {
+fn read_place(rt: &impl Env) -> Result<Place, WrongWords> {
+    Ok(Place {
         elevation: files::read_number(rt, 3)? as usize,
         azimuth: files::read_number(rt, 4)? as usize,
         kilometre: files::read_number(rt, 5)? as usize,
@@ -146,11 +151,7 @@ fn read_place(rt: &impl Env) -> Option<Place> {
 // Reads a file into the window, or says why it cannot be read. A file that the window cuts off is longer than any map, and what is left is
 // refused as the whole would be.
 fn read_map<'a>(rt: &HostRuntime, reading: &'a mut Reading<'_>, name: &[u8]) -> Option<&'a [u8]> {
-    reading.read_all();
-    if let Some(why) = reading.failed {
-        system::tell(rt, name, why);
-        return None;
-    }
+    system::or_tell(rt, name, reading.read_all())?;
     Some(reading.bytes())
 }
 
@@ -189,13 +190,9 @@ fn compare_both(
     out.end(rt)
 }
 
-pub fn explain(rt: &HostRuntime, out: &mut Output) -> Status {
-    let Some(number) = files::read_number(rt, 2) else {
-        return Status::WrongWords;
-    };
-    let Some(words) = why::reason(number) else {
-        return Status::WrongWords;
-    };
+pub fn explain(rt: &HostRuntime, out: &mut Output) -> Result<Status, WrongWords> {
+    let number = files::read_number(rt, 2)?;
+    let words = why::reason(number).ok_or(WrongWords)?;
     write!(out.page, "{number}: {words}\n");
-    out.end(rt)
+    Ok(out.end(rt))
 }

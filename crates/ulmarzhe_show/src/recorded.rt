@@ -7,9 +7,11 @@ use std::fs::File;
 use std::io::Error;
 use ulmarzhe_text::output::Output;
 use ulmarzhe_text::page::PAGE;
-use ulmarzhe_text::system;
 use ulmarzhe_text::window::{Reading, WINDOW};
 use wire::refusal::Refusal;
+
+// What the recording is called where it cannot be read.
+pub const RECORDING: &[u8] = b"recording";
 
 // A frame that was found: where in the recording it begins, its kind, and its body, which of a data frame is a message.
 #[derive(Clone, Copy)]
@@ -72,9 +74,7 @@ impl<'a> Walk<'a> {
     // The frame that is looked at, or none at the recording's end.
     pub fn find(&mut self) -> Result<Option<Frame>, Fault> {
         let answer = self.read_whole();
-        if let Some(why) = self.reading.failed {
-            return Err(Fault::NotRead(why));
-        }
+        self.reading.check().map_err(Fault::NotRead)?;
         answer.map_err(Fault::Damaged)
     }
 
@@ -83,7 +83,7 @@ impl<'a> Walk<'a> {
         for _ in 0..u64::MAX {
             let start = self.reading.start();
             let answer = frame::frame_at(self.reading.bytes(), start);
-            if self.reading.ended || is_settled(answer) {
+            if self.reading.has_ended() || is_settled(answer) {
                 return answer;
             }
             self.reading.read_more();
@@ -129,7 +129,7 @@ impl<'a> Walk<'a> {
                 None
             }
             Err(Fault::NotRead(why)) => {
-                fail(rt, why, out);
+                out.tell(rt, RECORDING, why);
                 None
             }
         }
@@ -139,10 +139,4 @@ impl<'a> Walk<'a> {
 // More bytes cannot change the answer of a whole frame, or of one that is refused but not cut off.
 fn is_settled(answer: Result<Option<Frame>, Refusal>) -> bool {
     !matches!(answer, Ok(None) | Err(Refusal::FrameCutOff))
-}
-
-// Says why the recording cannot be read.
-pub fn fail(rt: &HostRuntime, why: Error, out: &mut Output) {
-    system::tell(rt, b"recording", why);
-    out.fail();
 }

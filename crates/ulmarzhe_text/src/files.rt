@@ -1,8 +1,10 @@
 // What the command line names: files, and numbers.
+use crate::status::WrongWords;
 use crate::{system, words};
 use std::env::Env;
 use std::fs::File;
-use std::io::{Read, Result};
+use std::io;
+use std::io::Read;
 use std::os::fd::{AsRawFd, IntoRawFd};
 
 const STREAMS: usize = 3;
@@ -26,34 +28,20 @@ pub fn hold_streams(rt: &HostRuntime) {
 // Opens the file that a word names for reading. If that fails, says why and answers none.
 pub fn open_named(rt: &HostRuntime, i: usize) -> Option<File> {
     let mut buffer = [0u8; system::NAME];
-    match system::word(rt, i, &mut buffer) {
-        Ok(path) => open(rt, path),
-        Err(why) => {
-            system::tell(rt, b"file name", why);
-            None
-        }
-    }
-}
-
-fn open(rt: &HostRuntime, path: &[u8]) -> Option<File> {
-    match open_readable(rt, path) {
-        Ok(file) => Some(file),
-        Err(why) => {
-            system::tell(rt, path, why);
-            None
-        }
-    }
+    let path = system::or_tell(rt, b"file name", system::word(rt, i, &mut buffer))?;
+    system::or_tell(rt, path, open_readable(rt, path))
 }
 
 // A directory can be opened; a read of no bytes refuses it.
-fn open_readable(rt: &HostRuntime, path: &[u8]) -> Result<File> {
+fn open_readable(rt: &HostRuntime, path: &[u8]) -> io::Result<File> {
     let mut file = system::open_read(rt, path)?;
     file.read(&mut [])?;
     Ok(file)
 }
 
-// The number that a word says, if it is one.
-pub fn read_number(rt: &impl Env, i: usize) -> Option<u64> {
+// The number that a word says.
+pub fn read_number(rt: &impl Env, i: usize) -> Result<u64, WrongWords> {
     let mut buffer = [0u8; 32];
-    words::read_decimal(system::word(rt, i, &mut buffer).ok()?)
+    let word = system::word(rt, i, &mut buffer).map_err(|_| WrongWords)?;
+    words::read_decimal(word).ok_or(WrongWords)
 }

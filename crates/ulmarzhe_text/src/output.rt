@@ -29,6 +29,12 @@ impl Output {
         self.status = Status::NotDone;
     }
 
+    // Says what could not be read or written and why: the command is not done.
+    pub fn tell(&mut self, rt: &HostRuntime, what: &[u8], why: Error) {
+        system::tell(rt, what, why);
+        self.fail();
+    }
+
     pub fn has_failed(&self) -> bool {
         Status::NotDone <= self.status
     }
@@ -59,8 +65,7 @@ impl Output {
             self.status = Status::NotRead;
             return;
         }
-        system::tell(rt, b"standard output", why);
-        self.fail();
+        self.tell(rt, b"standard output", why);
     }
 
     // Writes out all that is left, and answers how the command ended.

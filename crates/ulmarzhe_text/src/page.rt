@@ -59,10 +59,6 @@ impl Page {
         self.at
     }
 
-    pub fn is_empty(&self) -> bool {
-        self.at == 0
-    }
-
     pub fn clear(&mut self) {
         self.at = 0;
     }

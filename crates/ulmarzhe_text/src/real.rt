@@ -5,7 +5,7 @@ use std::fmt;
 use std::num::f32_to_bits_with_nan;
 use wire::{INFINITE, SIGN};
 
-// The least bits of an angle that has more than eighteen digits before its decimals.
+// The bits of 2^59: an angle of that size or more is shown by its bits.
 const LONG: u32 = 1560281088;
 
 // The bit that a float's digits begin with and its bits leave out.
@@ -36,8 +36,8 @@ impl fmt::Display for Real {
     }
 }
 
-// An angle's bits, shown as a float with two decimals behind a minus or a space. With more than eighteen digits before the decimals, or as
-// no number, it is shown by its bits.
+// An angle's bits, shown as a float with two decimals behind a minus or a space. Where its size is 2^59 or more, or it is no number, it is
+// shown by its bits.
 #[derive(Clone, Copy)]
 pub struct Angle(pub u32);
 

@@ -7,12 +7,15 @@ pub enum Status {
     No = 1,
     // The command line is wrong, or a file or standard output cannot be read or written.
     NotDone = 2,
-    // The command does not take these words. `ulmarzhe_run` has the commands' forms and says so; the program ends as not done.
-    WrongWords = 3,
     // Nobody reads standard output any more, which is no fault and not told. A shell gives this status to a program that the system ends
     // for it.
     NotRead = 141,
 }
+
+// Why a command did nothing: it does not take these words. `ulmarzhe_run` has the commands' forms and says so, and the program ends as
+// not done.
+#[derive(Clone, Copy)]
+pub struct WrongWords;
 
 impl Status {
     pub fn code(self) -> u8 {

@@ -86,6 +86,17 @@ pub fn tell(rt: &HostRuntime, what: &[u8], why: Error) {
     say(rt, b"\n");
 }
 
+// What was answered. If it failed, says why and answers none.
+pub fn or_tell<T>(rt: &HostRuntime, what: &[u8], answer: Result<T>) -> Option<T> {
+    match answer {
+        Ok(value) => Some(value),
+        Err(why) => {
+            tell(rt, what, why);
+            None
+        }
+    }
+}
+
 // The words of an error without the number that follows them in parentheses. A zero byte ends them too.
 fn reason_of(text: &[u8]) -> &[u8] {
     let mut parts = text.split(|b| matches!(*b, 0 | b'('));

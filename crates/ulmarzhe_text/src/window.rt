@@ -3,7 +3,7 @@ ghost use Rattle.std.specs.Prelude.{◌≤◌};
 ghost use Rattle.ulmarzhe_text.specs.declared.window.TheConstants.{WINDOW};
 
 use std::fs::File;
-use std::io::{Error, Read};
+use std::io::{Error, Read, Result};
 
 // The longest line of cases. The longest frame, 1,048,588 bytes, fits in four times.
 pub const WINDOW: usize = 4718592;
@@ -11,8 +11,15 @@ pub const WINDOW: usize = 4718592;
 // How many bytes are read at a time: few enough to stay in the processor's cache.
 const AT_ONCE: usize = 262144;
 
+// Whether anything is left to read.
+#[derive(Clone, Copy)]
+enum Rest {
+    More,
+    Ended,
+    Failed(Error),
+}
+
 // What is looked at begins at `from` in the window. The window is filled up to `fill`, and its first byte is the file's byte at `base`.
-// `ended`: nothing is left to read; `failed`: why it could not be read.
 #[derive(Drop)]
 pub struct Reading<'a> {
     file: &'a File,
@@ -20,8 +27,7 @@ pub struct Reading<'a> {
     base: u64,
     from: usize,
     fill: usize,
-    pub ended: bool,
-    pub failed: Option<Error>,
+    rest: Rest,
     ghost looks_inside: { from ≤ fill },
     ghost fits: { fill ≤ WINDOW },
 }
@@ -44,8 +50,7 @@ impl<'a> Reading<'a> {
             base,
             from: 0,
             fill: fill.min(WINDOW),
-            ended: false,
-            failed: None,
+            rest: Rest::More,
         }
     }
 
@@ -75,6 +80,19 @@ impl<'a> Reading<'a> {
         self.from = from.min(self.fill);
     }
 
+    // Nothing more can be read.
+    pub fn has_ended(&self) -> bool {
+        !matches!(self.rest, Rest::More)
+    }
+
+    // Why the file could not be read to its end.
+    pub fn check(&self) -> Result<()> {
+        match self.rest {
+            Rest::Failed(why) => Err(why),
+            _ => Ok(()),
+        }
+    }
+
     // Whether the window can hold no more of what is looked at.
     pub fn is_full(&self) -> bool {
         self.from == 0 && self.fill == WINDOW
@@ -88,15 +106,12 @@ impl<'a> Reading<'a> {
         let mut file = self.file;
         let window = &mut *self.window;
         match file.read(&mut window[fill..end]) {
+            Ok(0) => self.rest = Rest::Ended,
             Ok(got) => {
                 self.fill += got;
-                self.ended = got == 0;
-                self.failed = None;
+                self.rest = Rest::More;
             }
-            Err(why) => {
-                self.ended = true;
-                self.failed = Some(why);
-            }
+            Err(why) => self.rest = Rest::Failed(why),
         }
     }
 
@@ -120,12 +135,15 @@ impl<'a> Reading<'a> {
     }
 
     // Reads a file to its end, or as far as the window holds it.
-    pub fn read_all(&mut self) {
+    pub fn read_all(&mut self) -> Result<()> {
+        // A loop without end would need the handle `Wait`. So this one has a number of turns, more than any file takes; so have others here
+        // and in the crates that depend on this one.
         for _ in 0..u64::MAX {
             self.read_more();
-            if self.ended {
-                return;
+            if self.has_ended() {
+                break;
             }
         }
+        self.check()
     }
 }
