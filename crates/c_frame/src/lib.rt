@@ -55,6 +55,7 @@ pub fn frame(buf: &[u8], place: usize) -> UlmFrame
     }
 }
 
+// A number and no refusal: C has 0 at the end of a stream.
 fn no_frame(number: u8, place: usize) -> UlmFrame
     ensures { result ≡ no_frame number place }
 {

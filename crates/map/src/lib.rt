@@ -138,7 +138,7 @@ fn index_of(elevation: usize, azimuth: usize) -> Option<usize>
     Some((elevation - 1) * AZIMUTHS + azimuth)
 }
 
-// The code at an elevation segment (from 1), azimuth and kilometre of a body 15.
+// The code at an elevation segment (from 1), azimuth and kilometre of a body 15, which are no struct, since C passes each.
 pub fn code_at(
     body: &[u8],
     elevation: usize,

@@ -8,7 +8,8 @@ ghost use Rattle.radial_head.specs.Told.{fetched_head, head_told, key_of};
 // Bytes before a moment's gates.
 pub const MOMENT_HEAD: usize = 28;
 
-// A moment's first 28 bytes and its place. Scale and offset are given both as floats and as their 32 bits.
+// A moment's first 28 bytes and its place. Scale and offset are given both as floats and as their 32 bits,
+// since all NaNs are one float. The word size is a number, as it is stored.
 #[derive(Clone, Copy, Default)]
 pub struct MomentHead {
     pub name: u32,

@@ -31,7 +31,8 @@ struct Stretch {
     frames: usize,
 }
 
-// The longest row of passing frames from a place on.
+// The longest row of passing frames from a place on. The program has one of its own: this one asks for a place in the buffer, as no public
+// function does.
 fn follow(buf: &[u8], place: usize) -> Stretch
     requires { place ≤ length buf.now }
     ensures { StretchFrom buf.now place result }

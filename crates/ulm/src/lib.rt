@@ -44,6 +44,7 @@ pub fn ulm_frame(buf: &[u8], place: usize) -> UlmFrame
 }
 
 #[tactic(auto, using(header::proofs::HeaderLaws::short_read))]
+// The body of `read_header`, which the compiler puts in line here too.
 pub fn ulm_header(msg: &[u8]) -> UlmHeader
     ensures { result ≡ header_face (header_of msg.now) }
 {

@@ -65,7 +65,8 @@ fn segments_of(kind: u8, body: &[u8]) -> usize
     body.len().div_ceil(SEGMENT_DATA).max(1)
 }
 
-// All frames from the start of the output, which has room for them.
+// All frames from the start of the output, which has room for them. The places are counted: pieces of 2,400 bytes would give an empty body
+// no frame, and cut a radial.
 fn write_frames(given: Given, n: u16, body: &[u8], out: &mut [u8])
     requires { (n ≡ length (segments_of given.kind body.now)) × (length body.now < 2 ^ 31) × (length (frames_of given body.now) ≤ length out.old) }
     ensures { out.new ≡ filled (frames_of given body.now) out.old }
