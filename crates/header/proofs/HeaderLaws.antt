@@ -16,7 +16,7 @@ use Rattle.wire.proofs.EachLaws.{each_append}
 use Rattle.wire.proofs.NumberLaws.{fetched-whole}
 use Rattle.header_rule.proofs.RuleLaws.{by_form, marked_large, number_twice}
 use Rattle.header.specs.declared.Header.{Header}
-use Rattle.header_rule.specs.declared.Stored.{Stored}
+use Rattle.header.specs.declared.Stored.{Stored}
 use Rattle.header_rule.specs.Rules.{marked, length_in, reported_number, size_checks, not_permitted, segment_checks, time_checks}
 use Rattle.header.specs.Header.{header_size, channel_place, sequence_place, count_place, number_place, stored_in, is_long, size_of, count_of, as_reported}
 use Rattle.header.specs.Header.{header_in, header_of, form_checks_of, later_checks, header_checks}

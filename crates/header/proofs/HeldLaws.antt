@@ -10,7 +10,7 @@ use borrow.Author.Tests.{lt-ltb, eqb-true, not-false}
 use Rattle.wire.specs.Checks.{pick, Check, AllHold}
 use Rattle.wire.proofs.CheckLaws.{never, all_hold_append}
 use Rattle.header.specs.declared.Header.{Header}
-use Rattle.header_rule.specs.declared.Stored.{Stored}
+use Rattle.header.specs.declared.Stored.{Stored}
 use Rattle.header_rule.specs.Rules.{size_checks, long_mark, marked, length_in, length_checks, radial_type, segment_size, segment_too_large}
 use Rattle.header.specs.Header.{stored_in, is_long, header_in, form_checks_of, later_checks, header_checks}
 use Rattle.header_rule.proofs.RuleLaws.{form_long, form_other, even_from}

@@ -9,7 +9,7 @@ use Rattle.wire.specs.declared.Halfwords.{Halfwords}
 use Rattle.header_rule.specs.Rules.{too_large, long_mark, long_form, form_checks, not_permitted, segment_checks, time_checks}
 use Rattle.header_rule.specs.Rules.{reported_size, reported_count, reported_number}
 use Rattle.header.specs.declared.Header.{Header}
-use Rattle.header_rule.specs.declared.Stored.{Stored}
+use Rattle.header.specs.declared.Stored.{Stored}
 
 -- what stands in both forms between the size and the two segment fields
 abbrev pub between : Header → List Field

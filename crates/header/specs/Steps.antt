@@ -3,7 +3,7 @@ use Rattle.std.specs.Prelude.{ℕ, Bool, not, List, [], ◌∷◌, ◌++◌, ltb
 use Rattle.wire.specs.Numbers.{fetched}
 use Rattle.wire.specs.Checks.{pick, both, check, decide}
 use Rattle.header.specs.declared.Header.{Header}
-use Rattle.header_rule.specs.declared.Stored.{Stored}
+use Rattle.header.specs.declared.Stored.{Stored}
 use Rattle.header_rule.specs.Rules.{marked, reported_number}
 use Rattle.header.specs.Header.{header_size, channel_place, sequence_place, number_place, stored_in, as_reported, form_checks_of, later_checks}
 

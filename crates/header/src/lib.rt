@@ -9,7 +9,6 @@ ghost use Rattle.header.specs.Header.{number_place, stored_in, as_reported, head
 ghost use Rattle.header.specs.Steps.{stored_or0, accepted_short, reported_short, refusal_of};
 ghost use Rattle.header.specs.Told.{tell_header};
 
-use header_rule::Stored;
 use wire::Halfwords;
 use wire::refusal::Refusal;
 
@@ -24,6 +23,20 @@ pub struct Header {
     pub milliseconds: u32,
     pub segments: u16,
     pub number: u16,
+}
+
+// The values at the start of a message as stored: not yet checked. Where N is 1 the segment number has no meaning; in the long form
+// `segments` and `number` are the two halves of the length.
+#[derive(Clone, Copy, Default)]
+pub struct Stored {
+    size: Halfwords,
+    channel: u8,
+    kind: u8,
+    sequence: u16,
+    date: u16,
+    milliseconds: u32,
+    segments: u16,
+    number: u16,
 }
 
 pub const HEADER: usize = 16;
@@ -153,7 +166,7 @@ pub fn check_header(s: Stored, long: usize) -> Result<(), Refusal>
     if long < HEADER {
         return Err(Refusal::MessageShort);
     }
-    if header_rule::breaks_form(s, long) {
+    if header_rule::breaks_form(s.size, s.kind, s.segments, s.number, long) {
         return Err(Refusal::Size);
     }
     let h = report(s);
@@ -173,8 +186,8 @@ pub fn check_header(s: Stored, long: usize) -> Result<(), Refusal>
 fn report(s: Stored) -> Header
     ensures { result ≡ as_reported s }
 {
-    let size = header_rule::size_of(s);
-    let segments = header_rule::count_of(s);
+    let size = header_rule::size_of(s.size, s.kind, s.segments, s.number);
+    let segments = header_rule::count_of(s.size, s.kind, s.segments);
     let number = if segments == 1 { 1 } else { s.number };
     Header {
         size,

@@ -18,7 +18,7 @@ use Rattle.wire.proofs.AnswerLaws.{rule_given}
 use Rattle.wire.proofs.NumberLaws.{num-same, be-num}
 use Rattle.wire.proofs.ListLaws.{same_rest}
 use Rattle.header.specs.declared.Header.{Header}
-use Rattle.header_rule.specs.declared.Stored.{Stored}
+use Rattle.header.specs.declared.Stored.{Stored}
 use Rattle.header_rule.specs.Rules.{long_mark, marked, least_length, length_in, length_checks, not_permitted, radial_type, segment_size, segment_checks}
 use Rattle.header_rule.specs.Rules.{last_millisecond, time_checks, reported_number}
 use Rattle.header.specs.Header.{header_size, count_place, stored_in, is_long, size_of, count_of, header_in, header_of, form_checks_of, header_checks}

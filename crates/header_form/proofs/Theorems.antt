@@ -18,7 +18,7 @@ use Rattle.wire.proofs.CheckLaws.{all_hold_append, all_hold_join}
 use Rattle.wire.proofs.AnswerLaws.{rule_given}
 use Rattle.wire.proofs.TableLaws.{spelt}
 use Rattle.header.specs.declared.Header.{Header}
-use Rattle.header_rule.specs.declared.Stored.{Stored}
+use Rattle.header.specs.declared.Stored.{Stored}
 use Rattle.header_rule.specs.Rules.{reported_number, radial_type, most_segments, count_checks, number_checks, radial_cut, segment_too_large, kind_checks, time_checks}
 use Rattle.header_rule.specs.Rules.{most_size, too_large, size_checks, long_mark, marked, least_length, length_in, not_permitted}
 use Rattle.header.specs.Header.{short_table, long_table, header_table, header_size, count_place, number_place, stored_in, is_long, count_of, with_number}

@@ -7,7 +7,7 @@ use Rattle.wire.specs.Checks.{pick, Check, check, AllHold}
 use Rattle.wire.specs.Answers.{refused, given}
 use Rattle.wire.specs.Sizes.{longest_message}
 use Rattle.header.specs.declared.Header.{Header}
-use Rattle.header_rule.specs.declared.Stored.{Stored}
+use Rattle.header.specs.declared.Stored.{Stored}
 use Rattle.header_rule.specs.Rules.{too_large, size_checks, long_mark, marked, least_length, not_permitted, radial_type, segment_too_large, last_millisecond}
 use Rattle.header_rule.specs.Rules.{time_checks}
 use Rattle.header.specs.Header.{header_table, long_table, header_size, count_place, number_place, stored_in, is_long, with_number, header_in, header_of}

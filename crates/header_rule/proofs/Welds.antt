@@ -19,27 +19,30 @@ pub breaks_size-one : (κs size long r r₂ last last₂ : _) → breaks_size.Le
     → breaks_size.Learnt κs (size, (long, tt)) r₂ last₂ → r ≡ r₂
 breaks_size-one κs size long r r₂ last last₂ l l₂ = l ∙ sym l₂
 
-pub breaks_form-says : (κs s long r last : _) → breaks_form.Learnt κs (s, (long, tt)) r last
-    → r ≡ some_broken (form_checks s.size s.kind s.segments s.number long)
-breaks_form-says κs s long r last l = l
+pub breaks_form-says : (κs size kind high low long r last : _)
+    → breaks_form.Learnt κs (size, (kind, (high, (low, (long, tt))))) r last → r ≡ some_broken (form_checks size kind high low long)
+breaks_form-says κs size kind high low long r last l = l
 
-pub breaks_form-one : (κs s long r r₂ last last₂ : _) → breaks_form.Learnt κs (s, (long, tt)) r last
-    → breaks_form.Learnt κs (s, (long, tt)) r₂ last₂ → r ≡ r₂
-breaks_form-one κs s long r r₂ last last₂ l l₂ = l ∙ sym l₂
+pub breaks_form-one : (κs size kind high low long r r₂ last last₂ : _)
+    → breaks_form.Learnt κs (size, (kind, (high, (low, (long, tt))))) r last
+    → breaks_form.Learnt κs (size, (kind, (high, (low, (long, tt))))) r₂ last₂ → r ≡ r₂
+breaks_form-one κs size kind high low long r r₂ last last₂ l l₂ = l ∙ sym l₂
 
-pub size_of-says : (κs s r last : _) → type_size.Learnt κs (s, tt) r last → r ≡ reported_size s.size s.kind s.segments s.number
-size_of-says κs s r last l = l
+pub size_of-says : (κs size kind high low r last : _) → type_size.Learnt κs (size, (kind, (high, (low, tt)))) r last
+    → r ≡ reported_size size kind high low
+size_of-says κs size kind high low r last l = l
 
-pub size_of-one : (κs s r r₂ last last₂ : _) → type_size.Learnt κs (s, tt) r last
-    → type_size.Learnt κs (s, tt) r₂ last₂ → r ≡ r₂
-size_of-one κs s r r₂ last last₂ l l₂ = l ∙ sym l₂
+pub size_of-one : (κs size kind high low r r₂ last last₂ : _) → type_size.Learnt κs (size, (kind, (high, (low, tt)))) r last
+    → type_size.Learnt κs (size, (kind, (high, (low, tt)))) r₂ last₂ → r ≡ r₂
+size_of-one κs size kind high low r r₂ last last₂ l l₂ = l ∙ sym l₂
 
-pub count_of-says : (κs s r last : _) → count_of.Learnt κs (s, tt) r last → r ≡ reported_count s.size s.kind s.segments
-count_of-says κs s r last l = l
+pub count_of-says : (κs size kind segments r last : _) → count_of.Learnt κs (size, (kind, (segments, tt))) r last
+    → r ≡ reported_count size kind segments
+count_of-says κs size kind segments r last l = l
 
-pub count_of-one : (κs s r r₂ last last₂ : _) → count_of.Learnt κs (s, tt) r last
-    → count_of.Learnt κs (s, tt) r₂ last₂ → r ≡ r₂
-count_of-one κs s r r₂ last last₂ l l₂ = l ∙ sym l₂
+pub count_of-one : (κs size kind segments r r₂ last last₂ : _) → count_of.Learnt κs (size, (kind, (segments, tt))) r last
+    → count_of.Learnt κs (size, (kind, (segments, tt))) r₂ last₂ → r ≡ r₂
+count_of-one κs size kind segments r r₂ last last₂ l l₂ = l ∙ sym l₂
 
 pub breaks_type-says : (κs kind r last : _) → breaks_type.Learnt κs (kind, tt) r last → r ≡ not_permitted kind
 breaks_type-says κs kind r last l = l

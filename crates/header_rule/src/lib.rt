@@ -1,4 +1,4 @@
-// The values of a message header as stored, and their rules, 5 to 8: each takes the values that it is about, and says whether they break it.
+// The rules of a message header's values, 5 to 8: each takes the values that it is about, and says whether they break it.
 #![tactic(auto)]
 
 ghost use Rattle.std.specs.Prelude.{◌≡◌};
@@ -37,20 +37,6 @@ const SEGMENT_SIZE: u32 = 1208;
 
 const LAST_MILLISECOND: u32 = 86399999;
 
-// The values at the start of a message as stored: not yet checked. Where N is 1 the segment number has no meaning; in the long form
-// `segments` and `number` are the two halves of the length.
-#[derive(Clone, Copy, Default)]
-pub struct Stored {
-    pub size: Halfwords,
-    pub channel: u8,
-    pub kind: u8,
-    pub sequence: u16,
-    pub date: u16,
-    pub milliseconds: u32,
-    pub segments: u16,
-    pub number: u16,
-}
-
 // Whether the size of a message of `long` bytes is out of range or not half of `long`. A size that is half of `long` is in range where
 // `long` is. The compiler drops the first test where the caller has made it.
 pub fn breaks_size(size: Halfwords, long: usize) -> bool
@@ -70,23 +56,23 @@ pub fn breaks_size(size: Halfwords, long: usize) -> bool
 }
 
 // Whether the size breaks its rule: in the short form by the size, in the long form by the length in the two segment fields.
-pub fn breaks_form(s: Stored, long: usize) -> bool
-    ensures { result ≡ some_broken (form_checks s.size s.kind s.segments s.number long) }
+pub fn breaks_form(size: Halfwords, kind: u8, high: u16, low: u16, long: usize) -> bool
+    ensures { result ≡ some_broken (form_checks size kind high low long) }
 {
-    if s.size.0 != LONG_MARK {
-        return breaks_size(s.size, long);
+    if size.0 != LONG_MARK {
+        return breaks_size(size, long);
     }
-    if s.kind != RADIAL {
+    if kind != RADIAL {
         return false;
     }
-    breaks_length(length_in(s), long)
+    breaks_length(length_in(high, low), long)
 }
 
 // The length that the two segment fields hold in the long form, high half first.
-fn length_in(s: Stored) -> Bytes
-    ensures { result ≡ length_in s.segments s.number }
+fn length_in(high: u16, low: u16) -> Bytes
+    ensures { result ≡ length_in high low }
 {
-    Bytes(s.segments as u32 * 65536 + s.number as u32)
+    Bytes(high as u32 * 65536 + low as u32)
 }
 
 fn breaks_length(told: Bytes, long: usize) -> bool
@@ -105,29 +91,29 @@ fn breaks_length(told: Bytes, long: usize) -> bool
 }
 
 // The size as it is reported: in the long form half of the length.
-pub fn size_of(s: Stored) -> Halfwords
-    ensures { result ≡ reported_size s.size s.kind s.segments s.number }
+pub fn size_of(size: Halfwords, kind: u8, high: u16, low: u16) -> Halfwords
+    ensures { result ≡ reported_size size kind high low }
 {
-    if is_long(s) {
-        return wire::to_halfwords(length_in(s));
+    if is_long(size, kind) {
+        return wire::to_halfwords(length_in(high, low));
     }
-    s.size
+    size
 }
 
 // N as it counts: the long form is one segment.
-pub fn count_of(s: Stored) -> u16
-    ensures { result ≡ reported_count s.size s.kind s.segments }
+pub fn count_of(size: Halfwords, kind: u8, segments: u16) -> u16
+    ensures { result ≡ reported_count size kind segments }
 {
-    if is_long(s) {
+    if is_long(size, kind) {
         return 1;
     }
-    s.segments
+    segments
 }
 
-fn is_long(s: Stored) -> bool
-    ensures { result ≡ long_form s.size s.kind }
+fn is_long(size: Halfwords, kind: u8) -> bool
+    ensures { result ≡ long_form size kind }
 {
-    s.size.0 == LONG_MARK && s.kind == RADIAL
+    size.0 == LONG_MARK && kind == RADIAL
 }
 
 // Whether a type is not permitted. Radials are tested first because most messages are radials.
