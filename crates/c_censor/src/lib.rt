@@ -8,6 +8,7 @@ ghost use Rattle.c_censor.specs.Face.{censor_face};
 
 use c_lent::UlmWritten;
 use censor::PLACES;
+use wire::refusal::Refusal;
 
 #[repr(C)]
 #[derive(Clone, Copy)]
@@ -41,5 +42,5 @@ pub fn censor(body: &[u8]) -> UlmCensor
 pub fn write_censor(list: &[u16], out: &mut [u8]) -> UlmWritten
     ensures { Leaves written_face (censor_written list.now out.old) result out.new }
 {
-    c_lent::written_face(censor::write_censor(list, out))
+    c_lent::written_face(censor::write_censor(list, out).map_err(Refusal::number))
 }

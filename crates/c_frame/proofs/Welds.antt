@@ -4,7 +4,6 @@ use mathlib.Core.Path.{◌≡◌, sym, ◌∙◌}
 use Rattle.frame.specs.Session.{frame_at}
 use Rattle.header.specs.Header.{header_of}
 use Rattle.wire.specs.Answers.{given, refused}
-use Rattle.wire.specs.Refusals.{number}
 use Rattle.c_frame.specs.Face.{frame_face, header_face}
 use Rattle.c_frame.proofs.frame.Reads as frame
 use Rattle.c_frame.proofs.header.Reads as header
@@ -31,9 +30,9 @@ header_face-says κs h r last l = l
 pub header_face-one : (κs h r r₂ last last₂ : _) → header_face_reads.Learnt κs (h, tt) r last → header_face_reads.Learnt κs (h, tt) r₂ last₂ → r ≡ r₂
 header_face-one κs h r r₂ last last₂ l l₂ = l ∙ sym l₂
 
-pub no_header-says : (κs refusal r last : _) → no_Header.Learnt κs (refusal, tt) r last → r ≡ header_face (refused (number refusal))
-no_header-says κs refusal r last l = l
+pub no_header-says : (κs number r last : _) → no_Header.Learnt κs (number, tt) r last → r ≡ header_face (refused number)
+no_header-says κs number r last l = l
 
-pub no_header-one : (κs refusal r r₂ last last₂ : _) → no_Header.Learnt κs (refusal, tt) r last
-    → no_Header.Learnt κs (refusal, tt) r₂ last₂ → r ≡ r₂
-no_header-one κs refusal r r₂ last last₂ l l₂ = l ∙ sym l₂
+pub no_header-one : (κs number r r₂ last last₂ : _) → no_Header.Learnt κs (number, tt) r last
+    → no_Header.Learnt κs (number, tt) r₂ last₂ → r ≡ r₂
+no_header-one κs number r r₂ last last₂ l l₂ = l ∙ sym l₂

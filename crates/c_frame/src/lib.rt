@@ -3,13 +3,11 @@
 
 ghost use Rattle.std.specs.Prelude.{◌≡◌};
 ghost use Rattle.wire.specs.Answers.{refused, given};
-ghost use Rattle.wire.specs.Refusals.{number};
 ghost use Rattle.frame.specs.Session.{frame_at};
 ghost use Rattle.header.specs.Header.{header_of};
 ghost use Rattle.c_frame.specs.Face.{no_frame, frame_face, header_face};
 
 use header::Header;
-use wire::refusal::Refusal;
 
 #[repr(C)]
 #[derive(Clone, Copy, Default)]
@@ -72,7 +70,7 @@ pub fn header(message: &[u8]) -> UlmHeader
 {
     match header::read_either(message) {
         Ok(h) => header_face(h),
-        Err(refusal) => no_header(refusal),
+        Err(refusal) => no_header(refusal.number()),
     }
 }
 
@@ -92,11 +90,12 @@ pub fn header_face(h: Header) -> UlmHeader
     }
 }
 
-pub fn no_header(refusal: Refusal) -> UlmHeader
-    ensures { result ≡ header_face (refused (number refusal)) }
+// Of any number, also one that is no refusal's.
+pub fn no_header(number: u8) -> UlmHeader
+    ensures { result ≡ header_face (refused number) }
 {
     UlmHeader {
-        refusal: refusal.number() as u32,
+        refusal: number as u32,
         ..UlmHeader::default()
     }
 }

@@ -1,11 +1,10 @@
 -- What the contract of each public function says of a call, as Rattle reads it from src/ (`Learnt`): its promise, and that no two results
 -- of one call meet it. Assumes nothing.
 use mathlib.Core.Path.{◌≡◌, sym, ◌∙◌}
-use Rattle.wire.specs.Writing.{tell_write}
-use Rattle.c_lent.specs.Face.{written_face}
+use Rattle.c_lent.specs.Face.{numbered, written_face}
 use Rattle.c_lent.proofs.written_face.Reads as written_face_reads
 
-pub written_face-says : (κs answer r last : _) → written_face_reads.Learnt κs (answer, tt) r last → r ≡ written_face (tell_write answer)
+pub written_face-says : (κs answer r last : _) → written_face_reads.Learnt κs (answer, tt) r last → r ≡ written_face (numbered answer)
 written_face-says κs answer r last l = l
 
 pub written_face-one : (κs answer r r₂ last last₂ : _) → written_face_reads.Learnt κs (answer, tt) r last

@@ -2,11 +2,9 @@
 #![tactic(auto)]
 
 ghost use Rattle.std.specs.Prelude.{◌≡◌};
-ghost use Rattle.wire.specs.Writing.{tell_write};
-ghost use Rattle.c_lent.specs.Face.{written_face};
+ghost use Rattle.c_lent.specs.Face.{numbered, written_face};
 
 use wire::Bytes;
-use wire::refusal::Refusal;
 
 #[repr(C)]
 #[derive(Clone, Copy)]
@@ -15,16 +13,17 @@ pub struct UlmWritten {
     pub length: u64,
 }
 
-pub fn written_face(answer: Result<Bytes, Refusal>) -> UlmWritten
-    ensures { result ≡ written_face (tell_write answer) }
+// Of any number, also one that is no refusal's.
+pub fn written_face(answer: Result<Bytes, u8>) -> UlmWritten
+    ensures { result ≡ written_face (numbered answer) }
 {
     match answer {
         Ok(size) => UlmWritten {
             refusal: 0,
             length: size.0 as u64,
         },
-        Err(refusal) => UlmWritten {
-            refusal: refusal.number() as u32,
+        Err(number) => UlmWritten {
+            refusal: number as u32,
             length: 0,
         },
     }

@@ -7,6 +7,7 @@ ghost use Rattle.c_lent.specs.Face.{Leaves, written_face};
 ghost use Rattle.c_request.specs.Face.{request_face};
 
 use c_lent::UlmWritten;
+use wire::refusal::Refusal;
 
 #[repr(C)]
 #[derive(Clone, Copy)]
@@ -34,5 +35,5 @@ pub fn request(body: &[u8]) -> UlmRequest
 pub fn write_request(list: &[u16], out: &mut [u8]) -> UlmWritten
     ensures { Leaves written_face (request_written list.now out.old) result out.new }
 {
-    c_lent::written_face(request::write_request(list, out))
+    c_lent::written_face(request::write_request(list, out).map_err(Refusal::number))
 }

@@ -28,7 +28,7 @@ pub fn set(buf: &[u8], out: &mut [u8]) -> UlmSet
 {
     match set::read_set(buf, out) {
         Ok(read) => show_set(c_frame::header_face(read.header), read.length.0 as u64),
-        Err(refusal) => show_set(c_frame::no_header(refusal), 0),
+        Err(refusal) => show_set(c_frame::no_header(refusal.number()), 0),
     }
 }
 

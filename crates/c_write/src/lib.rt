@@ -5,6 +5,7 @@ ghost use Rattle.writer.specs.Writing.{write_of};
 ghost use Rattle.c_lent.specs.Face.{Leaves, written_face};
 
 use c_lent::UlmWritten;
+use wire::refusal::Refusal;
 use writer_head::Given;
 
 pub fn write(
@@ -25,5 +26,5 @@ pub fn write(
         date,
         milliseconds: ms,
     };
-    c_lent::written_face(writer::write_message(given, body, out))
+    c_lent::written_face(writer::write_message(given, body, out).map_err(Refusal::number))
 }
