@@ -1,20 +1,22 @@
 -- The laws of a gate's answer, from those of its moment and its code. Assumes nothing.
 use Prim.Native.Nat.{ℕ}
-use mathlib.Core.Path.{◌≡◌, refl, ap, ◌∙◌}
+use mathlib.Core.Path.{◌≡◌, refl, sym, ap, subst, ◌∙◌}
 use mathlib.Core.Bool.{Bool, true, false}
 use mathlib.Core.List.{List}
 use lib.Dec.{leb}
 use lib.ListN.{get_or}
 use borrow.Author.Tests.{lt-leb}
-use Rattle.wire.specs.Checks.{pick}
+use Rattle.wire.specs.Checks.{pick, some_broken}
 use Rattle.wire.specs.Answers.{Answer, refused, given, onward}
 use Rattle.radial_spec.specs.Description.{Moment, gates}
-use Rattle.radial_spec.specs.Lookups.{moment_of, coded_in, coded_of}
+use Rattle.radial_spec.specs.Lookups.{Coded as CodedOf, moment_of, coded_in, coded_of}
+use Rattle.wire.proofs.OnwardLaws.{shows_given}
 use Rattle.radial_spec.proofs.Naming.{unnamed}
 use Rattle.radial.specs.declared.Coded.{Coded}
-use Rattle.radial.specs.Told.{code_shown}
-use Rattle.gate_value.specs.Value.{Worth, value_of, gate_in, gate_of}
+use Rattle.radial.specs.Told.{head_of, code_shown}
+use Rattle.gate_value.specs.Value.{float, Worth, value_checks, worth_by, value_of, gate_in, gate_of}
 use Rattle.gate_value.specs.Theorems.{OfItsCode, Unnamed}
+use Rattle.gate_value.proofs.ValueLaws.{value-refused, value-given}
 
 pub of_its_code : OfItsCode
 unfolding gate_of
@@ -38,6 +40,15 @@ by_code (given m) i = go (leb (gates m) i)
     go true = refl
     go false = refl
 
+-- the two floats of every head that is handed over with a code are those of its bits
+floats : (a : Answer CodedOf) (c : Coded) → given c ≡ code_shown a
+    → (c.head.scale ≡ float c.head.scale_bits) × (c.head.offset ≡ float c.head.offset_bits)
+floats a c e =
+    let s = shows_given a (λ (g : CodedOf). record { code = g.code; head = head_of g.moment }) c e in
+    subst
+    (λ (x : Coded). (x.head.scale ≡ float x.head.scale_bits) × (x.head.offset ≡ float x.head.offset_bits)) (sym s.is)
+    (refl, refl)
+
 -- and by what the code's lookup answers
 module _ (b : List ℕ) (name i : ℕ) where
   answered : (a : Answer Coded) → a ≡ code_shown (coded_of b name i) → onward a valued ≡ gate_of b name i
@@ -50,3 +61,16 @@ module _ (b : List ℕ) (name i : ℕ) where
   pub gate-valued : (c : Coded) → given c ≡ code_shown (coded_of b name i)
       → value_of c.code c.head.scale_bits c.head.offset_bits ≡ gate_of b name i
   gate-valued c e = answered (given c) e
+
+  module _ (c : Coded) (e : given c ≡ code_shown (coded_of b name i)) where
+    abbrev broken : Bool
+    broken = some_broken (value_checks c.head.scale_bits c.head.offset_bits)
+
+    pub gate-broken : broken ≡ true → refused 22 ≡ gate_of b name i
+    gate-broken h = value-refused c.code c.head.scale_bits c.head.offset_bits h ∙ gate-valued c e
+
+    pub gate-worth : broken ≡ false → given (worth_by c.code c.head.scale c.head.offset) ≡ gate_of b name i
+    gate-worth h =
+        let f = floats (coded_of b name i) c e in
+        value-given c.code c.head.scale_bits c.head.offset_bits c.head.scale c.head.offset h f.0 f.1
+        ∙ gate-valued c e

@@ -63,5 +63,9 @@ pub fn gate_value(body: &[u8], name: Name, gate: usize) -> Result<Gate, Refusal>
     ensures { tell_gate result ≡ gate_of body.now (num 4 name 0) gate }
 {
     let found = radial::code(body, name, gate)?;
-    value(found.code, found.head.scale_bits, found.head.offset_bits)
+    let head = found.head;
+    if breaks_value(head.scale_bits, head.offset_bits) {
+        return Err(Refusal::ScaleOrOffset);
+    }
+    Ok(worth(found.code, head.scale, head.offset))
 }
