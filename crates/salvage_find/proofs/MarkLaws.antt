@@ -1,7 +1,7 @@
 -- Places at which no frame begins, by the bytes of a data frame's kind. Assumes nothing.
 use Prim.Native.Nat.{ℕ, ◌+◌, ◌-◌, ◌≤◌, ◌<◌}
 use mathlib.Core.Path.{◌≡◌, refl, sym, ap, subst, ◌∙◌}
-use mathlib.Core.Bool.{Bool, true, false, ◌||◌, ◌&&◌}
+use mathlib.Core.Bool.{Bool, true, false, not, ◌||◌, ◌&&◌}
 use mathlib.Core.Option.{none, some}
 use mathlib.Core.List.{List}
 use native.Mathlib.Omega.{arith}
@@ -10,7 +10,7 @@ use lib.ListN.{length, get_or, take, drop, length-drop}
 use lib.Seq.{length-take-le}
 use borrow.Author.Tests.{eq-eqb, ne_eqb, ltb-true, ltb-false}
 use Rattle.std.specs.Prelude.{Option, None, Some}
-use Rattle.std.specs.Option.{is_some}
+use Rattle.std.specs.Option.{option_eq}
 use Rattle.wire.specs.Numbers.{num, fetched}
 use Rattle.wire.specs.Checks.{pick, first}
 use Rattle.wire.proofs.CheckLaws.{never, all_hold, none_broken, by_eq}
@@ -25,6 +25,10 @@ use Rattle.salvage_find.specs.Steps.{block, beyond, Unmarked, NoneFrom}
 -- a check that is broken
 pub broken_none : (rest : List ℕ) (n : ℕ) → first (own_checks rest) ≡ some n → stands rest ≡ false
 broken_none rest n e = stands-not rest (λ s. never (cc (sym (none_broken (own_checks rest) (stands_holds rest s)) ∙ e)))
+
+-- that an answer is not None, as `!=` tells it
+abbrev differs : Option ℕ → Bool
+differs o = not (option_eq eqb o None)
 
 -- what `whole_at` tells where none stands, and where one does
 module _ (rest : List ℕ) where
@@ -55,19 +59,19 @@ module _ (rest : List ℕ) where
       go false q = never (cc (sym (ap (λ (u : Bool). size_told (pick u (whole_long rest) 0)) q) ∙ e))
 
   -- the same by what `is_some` says of it
-  pub told_is : {o : Option ℕ} → o ≡ told → is_some o ≡ true → stands rest ≡ true
+  pub told_is : {o : Option ℕ} → o ≡ told → differs o ≡ true → stands rest ≡ true
   told_is {o} e t = go o refl
     where
       go : (o' : Option ℕ) → o ≡ o' → stands rest ≡ true
-      go None q = never (cc (sym t ∙ ap is_some q))
+      go None q = never (cc (sym t ∙ ap differs q))
       go (Some n) q = (told-some (sym e ∙ q)).0
 
-  pub told_not : {o : Option ℕ} → o ≡ told → is_some o ≡ false → stands rest ≡ false
+  pub told_not : {o : Option ℕ} → o ≡ told → differs o ≡ false → stands rest ≡ false
   told_not {o} e t = go o refl
     where
       go : (o' : Option ℕ) → o ≡ o' → stands rest ≡ false
       go None q = told-none (sym e ∙ q)
-      go (Some n) q = never (cc (sym t ∙ ap is_some q))
+      go (Some n) q = never (cc (sym t ∙ ap differs q))
 
 -- ---- a part's places
 -- the last two bytes of a data frame's kind

@@ -23,7 +23,9 @@ pub fn whole_at(buf: &[u8], place: usize) -> Option<usize>
     }
     let next = f.next;
     let message = &buf[f.start..next];
-    header::check_header(header::stored_in(message), message.len()).ok()?;
+    if header::check_header(header::stored_in(message), message.len()) != Ok(()) {
+        return None;
+    }
     Some(next - place)
 }
 
@@ -78,7 +80,7 @@ fn find(buf: &[u8], from: usize) -> usize
 {
     let mut at = from;
     while at < buf.len() {
-        if whole_at(buf, at).is_some() {
+        if whole_at(buf, at) != None {
             return at;
         }
         at = next_mark(buf, at + 1);

@@ -1,11 +1,13 @@
 use Prim.Native.Nat.{ℕ, ◌<◌}
 use mathlib.Core.Path.{◌≡◌, refl, sym, ap, ◌∙◌}
-use mathlib.Core.Bool.{false}
+use mathlib.Core.Bool.{Bool, true, false, not}
 use mathlib.Core.List.{List}
 use lib.ListN.{drop}
 use native.Mathlib.Omega.{arith}
 use Rattle.std.specs.Prelude.{Option, None, Some, Result, Ok, Err}
-use Rattle.std.specs.Result.{result_ok}
+use Rattle.std.specs.Result.{result_ok, result_eq}
+use Rattle.std.specs.contracts.prelude.UnitPartialEq.TheImpl.{eq-value as unit_eq}
+use Rattle.wire.specs.contracts.refusal.RefusalPartialEq.TheImpl.{eq-value as refusal_eq}
 use Rattle.wire.specs.Refusals.{number, number_in}
 use Rattle.wire.specs.declared.refusal.Refusal.{Refusal}
 use Rattle.wire.proofs.CheckLaws.{never}
@@ -39,14 +41,17 @@ module _ (s : List ℕ) (at : ℕ) where
       broken_none (drop at s) 1 (own_frame (drop at s) 1 (frame-says s at {r = Ok x} {r' = Ok None} says (cc (is, some, none))))
   end_read (Err q) o i says is some none = never (cc (sym some ∙ is))
 
--- the number of the header's refusal, by what `ok` makes of it
-number_ok : (r : Result (Unit {0}) Refusal) (o : Option (Unit {0})) (u : Unit {0}) → o ≡ result_ok r → o ≡ Some u → number_in r ≡ 0
-number_ok (Ok v) o u is some = refl
-number_ok (Err q) o u is some = never (cc (sym some ∙ is))
+-- the number of the header's refusal, by whether it is not Ok, as `!=` tells it
+abbrev differs : Result (Unit {0}) Refusal → Bool
+differs r = not (result_eq unit_eq.it refusal_eq.it r (Ok (tt {0})))
 
-number_err : (r : Result (Unit {0}) Refusal) (o : Option (Unit {0})) → o ≡ result_ok r → o ≡ None → 0 < number_in r
-number_err (Ok v) o is none = never (cc (sym is ∙ none))
-number_err (Err q) o is none = number-above q
+number_ok : (r : Result (Unit {0}) Refusal) → differs r ≡ false → number_in r ≡ 0
+number_ok (Ok v) e = refl
+number_ok (Err q) e = never (cc (sym e))
+
+number_err : (r : Result (Unit {0}) Refusal) → differs r ≡ true → 0 < number_in r
+number_err (Ok v) e = never (cc (sym e))
+number_err (Err q) e = number-above q
 
 pub returns-in_err-ok : goal.returns-in_err-ok
 returns-in_err-ok c =
@@ -70,11 +75,11 @@ slice_bounds-message-start c = omega (arith, read_lies _ _ _ _ _ _ c.frame_at.en
 pub slice_bounds-message-end : goal.slice_bounds-message-end
 slice_bounds-message-end c = omega (arith, read_lies _ _ _ _ _ _ c.frame_at.ensures c.ok.ensures.value c.in_ok-ok.was c.in_ok-f.was)
 
-pub returns-in_err-ok-2 : goal.returns-in_err-ok-2
-returns-in_err-ok-2 c =
+pub returns-then-ne : goal.returns-then-ne
+returns-then-ne c =
     let l = read_lies _ _ _ _ _ _ c.frame_at.ensures c.ok.ensures.value c.in_ok-ok.was c.in_ok-f.was in
-    let broken = header_broken _ _ _ c.stored_in.ensures c.check_header.ensures (number_err _ _ c.ok-2.ensures.value c.in_err-ok-2.was) in
-    c.from_residual-in_err-ok-2.ensures ∙ none-told _ (broken_none _ _
+    let broken = header_broken _ _ _ c.stored_in.ensures c.check_header.ensures (number_err _ (sym c.ne.ensures ∙ c.if-ne.true)) in
+    none-told _ (broken_none _ _
     (own_header _ l.passes (sym l.kind ∙ c.if-f-ne-DATA.false) ∙ header_refused _ _ (ap header_of (sym l.body) ∙ broken)))
 
 pub overflow_sub-result : goal.overflow_sub-result
@@ -83,7 +88,7 @@ overflow_sub-result c = omega (arith, read_lies _ _ _ _ _ _ c.frame_at.ensures c
 pub returns : goal.returns
 returns c =
     let l = read_lies _ _ _ _ _ _ c.frame_at.ensures c.ok.ensures.value c.in_ok-ok.was c.in_ok-f.was in
-    let none = number_ok _ _ _ c.ok-2.ensures.value c.in_ok-ok-2.was in
+    let none = number_ok _ (sym c.ne.ensures ∙ c.if-ne.false) in
     let read = header_read _ _ _ c.stored_in.ensures c.check_header.ensures _ refl none in
     some-told _ (own_header _ l.passes (sym l.kind ∙ c.if-f-ne-DATA.false) ∙ (header-given _ _ (ap header_of (sym l.body) ∙ read)).0)
     (omega (arith, l.next))
