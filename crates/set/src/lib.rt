@@ -69,7 +69,8 @@ impl Gathered {
     }
 
     // Handles one frame: it is refused, or its number is marked as seen and the place of its data is noted. Returns where the next one
-    // begins.
+    // begins. Not in line: in the loop the compiler would keep every field of both headers outside of the struct, and move all at each turn.
+    #[inline(never)]
     fn take_turn(&mut self, frames: &[u8], at: usize) -> Result<usize, Refusal>
         ensures { TurnTaken frames.now at self.old self.new result }
     {

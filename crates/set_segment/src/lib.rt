@@ -27,6 +27,11 @@ pub fn segment_at(frames: &[u8], at: usize) -> Result<Segment, Refusal>
     }
     let next = f.next;
     let header = header::read_header(&frames[f.start..next])?;
+    // Field by field: copied whole, the last two fields are put together in memory and loaded as one number, which the processor waits for.
+    let header = Header {
+        number: header.number,
+        ..header
+    };
     Ok(Segment {
         header,
         start: f.start + HEADER,
