@@ -1,7 +1,7 @@
 // The lines of a file: the next one is looked for in the window, and more is read until it is there.
 use std::fs::File;
 use std::io::Result;
-use ulmarzhe_text::window::{Reading, WINDOW};
+use ulmarzhe_text::window::{WINDOW, Windowed};
 use ulmarzhe_text::words;
 
 #[derive(Drop)]
@@ -14,7 +14,7 @@ pub enum Line<'a> {
 // `is_within`: the reading looks at the rest of a line that was too long.
 #[derive(Drop)]
 pub struct Lines<'a> {
-    reading: Reading<'a>,
+    reading: Windowed<'a>,
     is_within: bool,
 }
 
@@ -22,7 +22,7 @@ impl<'a> Lines<'a> {
     // The lines of a file that is open.
     pub fn new(file: &'a File, window: &'a mut [u8; WINDOW]) -> Self {
         Lines {
-            reading: Reading::new(file, window, 0),
+            reading: Windowed::new(file, window, 0),
             is_within: false,
         }
     }

@@ -22,12 +22,12 @@ pub enum Older {
     IsReplaced,
 }
 
-// Why CLEAN may not be written.
-#[derive(Clone, Copy)]
+// Why CLEAN may not be written. A CLEAN that was opened stays open until that is said.
+#[derive(Drop)]
 enum Obstacle {
     System(Error),
-    IsDamaged,
-    IsSpecial,
+    IsDamaged(File),
+    IsSpecial(File),
 }
 
 impl From<Error> for Obstacle {
@@ -60,15 +60,18 @@ impl<'a> Clean<'a> {
         };
         match why {
             Obstacle::System(why) => system::tell(rt, self.name, why),
-            Obstacle::IsDamaged => self.say(rt, b": is the damaged recording\n"),
-            Obstacle::IsSpecial => self.say(rt, b": is not a regular file\n"),
+            Obstacle::IsDamaged(_older) => self.say(rt, b": is the damaged recording\n", page),
+            Obstacle::IsSpecial(_older) => self.say(rt, b": is not a regular file\n", page),
         }
         false
     }
 
-    fn say(self, rt: &HostRuntime, why: &[u8]) {
-        system::say(rt, self.name);
-        system::say(rt, why);
+    // One write, so that no line of another stands within it. The page is empty before and after.
+    fn say(self, rt: &HostRuntime, why: &[u8], page: &mut Page) {
+        page.put(self.name);
+        page.put(why);
+        let _ = page.send(&rt.stderr());
+        page.clear();
     }
 
     fn check(self, rt: &HostRuntime, damaged: &File, page: &mut Page) -> Result<(), Obstacle> {
@@ -99,10 +102,10 @@ impl<'a> Clean<'a> {
             Err(why) => return Err(Obstacle::System(why)),
         };
         if is_same(rt, &older, damaged, page) {
-            return Err(Obstacle::IsDamaged);
+            return Err(Obstacle::IsDamaged(older));
         }
         if !is_regular(&older) {
-            return Err(Obstacle::IsSpecial);
+            return Err(Obstacle::IsSpecial(older));
         }
         Ok(())
     }
@@ -118,24 +121,24 @@ impl<'a> Clean<'a> {
 
     // Renames CLEAN.part to CLEAN. If that fails, says why and removes it. Answers whether CLEAN is whole on its device.
     pub fn take_name(self, rt: &HostRuntime) -> bool {
-        let taken = self.rename(rt);
-        if taken.is_err() {
+        let is_new = self.older == Older::Stays;
+        if is_new && !self.is_done(rt, self.make(rt)) {
             self.remove_part(rt);
+            return false;
         }
-        let stored = taken.and_then(|()| store_folder(rt, self.name));
-        system::or_tell(rt, self.name, stored).is_some()
+        if !self.is_done(rt, system::rename(rt, self.part, self.name)) {
+            self.remove_part(rt);
+            if is_new {
+                let _ = system::remove(rt, self.name);
+            }
+            return false;
+        }
+        self.is_done(rt, store_folder(rt, self.name))
     }
 
-    fn rename(self, rt: &HostRuntime) -> io::Result<()> {
-        if self.older == Older::IsReplaced {
-            return system::rename(rt, self.part, self.name);
-        }
-        self.make(rt)?;
-        let renamed = system::rename(rt, self.part, self.name);
-        if renamed.is_err() {
-            let _ = system::remove(rt, self.name);
-        }
-        renamed
+    // Whether something was done. If not, says why.
+    fn is_done(self, rt: &HostRuntime, answer: io::Result<()>) -> bool {
+        system::or_tell(rt, self.name, answer).is_some()
     }
 }
 

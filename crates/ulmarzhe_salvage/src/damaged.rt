@@ -5,7 +5,7 @@ use std::io::{Seek, SeekFrom, Write};
 use ulmarzhe_text::output::Output;
 use ulmarzhe_text::page::PAGE;
 use ulmarzhe_text::system;
-use ulmarzhe_text::window::{Reading, WINDOW};
+use ulmarzhe_text::window::{WINDOW, Windowed};
 
 const MEBIBYTE: u64 = 1048576;
 
@@ -24,7 +24,7 @@ pub fn keep_frames(
     out: &mut Output,
 ) {
     let mut s = Salvage {
-        reading: Reading::new(&damaged, window, 0),
+        reading: Windowed::new(&damaged, window, 0),
         file: &file,
         end: 0,
         frames: 0,
@@ -38,7 +38,7 @@ pub fn keep_frames(
 // A salvage so far. `file`: where frames are written; `end`: where the last kept frame ends; `frames` and `bytes`: how many are kept.
 #[derive(Drop)]
 struct Salvage<'a> {
-    reading: Reading<'a>,
+    reading: Windowed<'a>,
     file: &'a File,
     end: u64,
     frames: u64,

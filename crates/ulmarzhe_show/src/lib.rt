@@ -21,7 +21,7 @@ use std::fs::File;
 use std::io::{Seek, SeekFrom};
 use ulmarzhe_text::output::Output;
 use ulmarzhe_text::status::{Status, WrongWords};
-use ulmarzhe_text::window::{Reading, WINDOW};
+use ulmarzhe_text::window::{WINDOW, Windowed};
 use ulmarzhe_text::{files, system};
 
 pub fn list_frames(rt: &HostRuntime, window: &mut [u8; WINDOW], out: &mut Output) -> Status {
@@ -123,10 +123,10 @@ pub fn show_map_code(
     let Some(file) = files::open_named(rt, 2) else {
         return Ok(Status::NotDone);
     };
-    let mut reading = Reading::new(&file, window, 0);
-    let Some(body) = read_map(rt, &mut reading, b"map") else {
+    let Some(fill) = read_map(rt, file, b"map", window, 0) else {
         return Ok(Status::NotDone);
     };
+    let body = window.get(..fill).unwrap_or_default();
     let code = map::code_at(body, place.elevation, place.azimuth, place.kilometre);
     maps::show_code(code, out);
     Ok(out.end(rt))
@@ -148,11 +148,18 @@ fn read_place(rt: &impl Env) -> Result<Place, WrongWords> {
     })
 }
 
-// Reads a file into the window, or says why it cannot be read. A file that the window cuts off is longer than any map, and what is left is
-// refused as the whole would be.
-fn read_map<'a>(rt: &HostRuntime, reading: &'a mut Reading<'_>, name: &[u8]) -> Option<&'a [u8]> {
+// Reads a file behind the window's first `fill` bytes, closes it and answers how far the window is filled, or says why it cannot be read. A
+// file that the window cuts off is longer than any map, and what is left is refused as the whole would be.
+fn read_map(
+    rt: &HostRuntime,
+    file: File,
+    name: &[u8],
+    window: &mut [u8; WINDOW],
+    fill: usize,
+) -> Option<usize> {
+    let mut reading = Windowed::after(&file, window, fill);
     system::or_tell(rt, name, reading.read_all())?;
-    Some(reading.bytes())
+    Some(reading.bytes().len())
 }
 
 pub fn compare_maps(rt: &HostRuntime, window: &mut [u8; WINDOW], out: &mut Output) -> Status {
@@ -163,27 +170,26 @@ pub fn compare_maps(rt: &HostRuntime, window: &mut [u8; WINDOW], out: &mut Outpu
         return Status::NotDone;
     };
     let mut list = [0u16; MOST];
-    compare_both(rt, &old, &new, window, &mut list, out)
+    compare_both(rt, old, new, window, &mut list, out)
 }
 
 // The new map stands in the window behind the old one.
 fn compare_both(
     rt: &HostRuntime,
-    old: &File,
-    new: &File,
+    old: File,
+    new: File,
     window: &mut [u8; WINDOW],
     list: &mut [u16; MOST],
     out: &mut Output,
 ) -> Status {
-    let mut reading = Reading::new(old, window, 0);
-    let Some(first) = read_map(rt, &mut reading, b"old map") else {
+    let Some(first) = read_map(rt, old, b"old map", window, 0) else {
         return Status::NotDone;
     };
-    let end = first.len().min(maps::LONG);
-    let mut reading = Reading::after(new, window, end);
-    let Some(both) = read_map(rt, &mut reading, b"new map") else {
+    let end = first.min(maps::LONG);
+    let Some(fill) = read_map(rt, new, b"new map", window, end) else {
         return Status::NotDone;
     };
+    let both = window.get(..fill).unwrap_or_default();
     if let Some((old, new)) = both.split_at_checked(end) {
         maps::show_differences(rt, old, new, list, out);
     }

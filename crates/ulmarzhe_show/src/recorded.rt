@@ -7,7 +7,7 @@ use std::fs::File;
 use std::io::Error;
 use ulmarzhe_text::output::Output;
 use ulmarzhe_text::page::PAGE;
-use ulmarzhe_text::window::{Reading, WINDOW};
+use ulmarzhe_text::window::{WINDOW, Windowed};
 use wire::refusal::Refusal;
 
 // What the recording is called where it cannot be read.
@@ -55,14 +55,14 @@ pub enum Fault {
 // A walk through a recording.
 #[derive(Drop)]
 pub struct Walk<'a> {
-    reading: Reading<'a>,
+    reading: Windowed<'a>,
 }
 
 impl<'a> Walk<'a> {
     // A walk from a place at which the recording stands.
     pub fn new(file: &'a File, window: &'a mut [u8; WINDOW], place: u64) -> Self {
         Walk {
-            reading: Reading::new(file, window, place),
+            reading: Windowed::new(file, window, place),
         }
     }
 

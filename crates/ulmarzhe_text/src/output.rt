@@ -5,7 +5,7 @@ use crate::system;
 use std::io::{Error, ErrorKind, Print};
 
 // `status`: how the command has ended so far.
-#[derive(Drop)]
+#[derive(Clone, Copy)]
 pub struct Output {
     pub page: Page,
     pub status: Status,

@@ -10,7 +10,7 @@ pub const PAGE: usize = 65536;
 
 const DIGITS: [u8; 16] = *b"0123456789abcdef";
 
-#[derive(Drop)]
+#[derive(Clone, Copy)]
 pub struct Page {
     bytes: [u8; PAGE],
     at: usize,

@@ -19,11 +19,11 @@ enum Rest {
     Failed(Error),
 }
 
-// What is looked at begins at `from` in the window. The window is filled up to `fill`, and its first byte is the file's byte at `base`.
-#[derive(Drop)]
+// A place in a file that is read by windows. What is looked at begins at `from` in the window. The window is filled up to `fill`, and its
+// first byte is the file's byte at `base`.
+#[derive(Clone, Copy)]
 pub struct Reading<'a> {
     file: &'a File,
-    window: &'a mut [u8; WINDOW],
     base: u64,
     from: usize,
     fill: usize,
@@ -33,20 +33,14 @@ pub struct Reading<'a> {
 }
 
 impl<'a> Reading<'a> {
-    // A file that stands at its byte `base`.
-    pub fn new(file: &'a File, window: &'a mut [u8; WINDOW], base: u64) -> Self {
-        Reading::begin(file, window, base, 0)
+    // A file that stands at its byte `base`, of which nothing is read yet.
+    pub fn new(file: &'a File, base: u64) -> Self {
+        Reading::begin(file, base, 0)
     }
 
-    // A file that stands at its start. The window's first `fill` bytes stay, and what is read lies behind them.
-    pub fn after(file: &'a File, window: &'a mut [u8; WINDOW], fill: usize) -> Self {
-        Reading::begin(file, window, 0, fill)
-    }
-
-    fn begin(file: &'a File, window: &'a mut [u8; WINDOW], base: u64, fill: usize) -> Self {
+    fn begin(file: &'a File, base: u64, fill: usize) -> Self {
         Reading {
             file,
-            window,
             base,
             from: 0,
             fill: fill.min(WINDOW),
@@ -54,40 +48,70 @@ impl<'a> Reading<'a> {
         }
     }
 
+    // The place in the file of what is looked at.
+    pub fn place(&self) -> u64 {
+        self.base.wrapping_add(self.from as u64)
+    }
+}
+
+// A reading, and the window that the file is read into.
+#[derive(Drop)]
+pub struct Windowed<'a> {
+    reading: Reading<'a>,
+    window: &'a mut [u8; WINDOW],
+}
+
+impl<'a> Windowed<'a> {
+    // A file that stands at its byte `base`.
+    pub fn new(file: &'a File, window: &'a mut [u8; WINDOW], base: u64) -> Self {
+        Windowed {
+            reading: Reading::new(file, base),
+            window,
+        }
+    }
+
+    // A file that stands at its start. The window's first `fill` bytes stay, and what is read lies behind them.
+    pub fn after(file: &'a File, window: &'a mut [u8; WINDOW], fill: usize) -> Self {
+        Windowed {
+            reading: Reading::begin(file, 0, fill),
+            window,
+        }
+    }
+
     // The bytes in the window.
     pub fn bytes(&self) -> &[u8] {
-        &self.window[..self.fill]
+        &self.window[..self.reading.fill]
     }
 
     pub fn bytes_mut(&mut self) -> &mut [u8] {
-        let fill = self.fill;
+        let fill = self.reading.fill;
         let window = &mut *self.window;
         &mut window[..fill]
     }
 
     // Where in the window what is looked at begins.
     pub fn start(&self) -> usize {
-        self.from
+        self.reading.from
     }
 
     // The place in the file of what is looked at.
     pub fn place(&self) -> u64 {
-        self.base.wrapping_add(self.from as u64)
+        self.reading.place()
     }
 
     // Looks at another place of the window, or at the end of what it holds.
     pub fn look_at(&mut self, from: usize) {
-        self.from = from.min(self.fill);
+        self.reading.from = from.min(self.reading.fill);
     }
 
     // Nothing more can be read.
     pub fn has_ended(&self) -> bool {
-        !matches!(self.rest, Rest::More)
+        !matches!(self.reading.rest, Rest::More)
     }
 
     // Why the file could not be read to its end.
     pub fn check(&self) -> Result<()> {
-        match self.rest {
+        match self.reading.rest {
             Rest::Failed(why) => Err(why),
             _ => Ok(()),
         }
@@ -95,23 +119,23 @@ impl<'a> Reading<'a> {
 
     // Whether the window can hold no more of what is looked at.
     pub fn is_full(&self) -> bool {
-        self.from == 0 && self.fill == WINDOW
+        self.reading.from == 0 && self.reading.fill == WINDOW
     }
 
     // Reads more after the bytes that are looked at.
     pub fn read_more(&mut self) {
         self.make_room();
-        let fill = self.fill;
+        let fill = self.reading.fill;
         let end = WINDOW.min(fill + AT_ONCE);
-        let mut file = self.file;
+        let mut file = self.reading.file;
         let window = &mut *self.window;
         match file.read(&mut window[fill..end]) {
-            Ok(0) => self.rest = Rest::Ended,
+            Ok(0) => self.reading.rest = Rest::Ended,
             Ok(got) => {
-                self.fill += got;
-                self.rest = Rest::More;
+                self.reading.fill += got;
+                self.reading.rest = Rest::More;
             }
-            Err(why) => self.rest = Rest::Failed(why),
+            Err(why) => self.reading.rest = Rest::Failed(why),
         }
     }
 
@@ -120,18 +144,20 @@ impl<'a> Reading<'a> {
         if self.may_stay() {
             return;
         }
-        let held = self.from..self.fill;
+        let place = self.place();
+        let Reading { from, fill, .. } = self.reading;
         let window = &mut *self.window;
-        window.copy_within(held, 0);
-        self.base = self.place();
-        self.fill -= self.from;
-        self.from = 0;
+        window.copy_within(from..fill, 0);
+        self.reading.base = place;
+        self.reading.from = 0;
+        self.reading.fill = fill - from;
     }
 
     // Few bytes are moved each time, so that what is read stays in the cache. Many are moved only where the window is full: a long run or
     // a long frame would else be moved at each read.
     fn may_stay(&self) -> bool {
-        self.from == 0 || AT_ONCE < self.fill - self.from && AT_ONCE <= WINDOW - self.fill
+        let Reading { from, fill, .. } = self.reading;
+        from == 0 || AT_ONCE < fill - from && AT_ONCE <= WINDOW - fill
     }
 
     // Reads a file to its end, or as far as the window holds it.
