@@ -1,29 +1,32 @@
 // Lists that the library is given or lent. What is lent is laid with a pattern, so that it is seen where the library wrote.
 use compare::MOST;
 
+// After so many items the pattern begins anew.
+const PERIOD: u8 = 251;
+
 // An item of a list that is lent.
 pub trait Lent: Copy + PartialEq {
-    // The pattern's item at a place.
-    fn pattern(i: usize) -> Self;
+    // The pattern's item at a place of its period.
+    fn pattern(i: u8) -> Self;
 }
 
 impl Lent for u8 {
-    fn pattern(i: usize) -> u8 {
-        (i % 251) as u8
+    fn pattern(i: u8) -> u8 {
+        i
     }
 }
 
 // Above every number of a difference, so that no written number looks like the pattern.
 impl Lent for u16 {
-    fn pattern(i: usize) -> u16 {
-        (40000 + i % 251) as u16
+    fn pattern(i: u8) -> u16 {
+        40000 + u16::from(i)
     }
 }
 
 // Above every place and every length, so that no written number looks like the pattern.
 impl Lent for u64 {
-    fn pattern(i: usize) -> u64 {
-        u64::MAX - (i % 251) as u64
+    fn pattern(i: u8) -> u64 {
+        u64::MAX - u64::from(i)
     }
 }
 
@@ -32,23 +35,36 @@ pub fn lend<T: Lent>(list: &mut [T], most: u64) -> &mut [T] {
     let size = usize::try_from(most).unwrap_or(usize::MAX);
     let end = size.min(list.len());
     let lent = &mut list[..end];
-    for (i, x) in lent.iter_mut().enumerate() {
-        *x = T::pattern(i);
+    for part in lent.chunks_mut(usize::from(PERIOD)) {
+        for (x, i) in part.iter_mut().zip(0..PERIOD) {
+            *x = T::pattern(i);
+        }
     }
     lent
 }
 
 // What an answer of that length wrote into a lent list, unless the pattern is changed after it.
 pub fn written<T: Lent>(lent: &[T], length: usize) -> Option<&[T]> {
-    let is_kept = lent
-        .iter()
-        .enumerate()
-        .skip(length)
-        .all(|(i, x)| *x == T::pattern(i));
-    if !is_kept {
-        return None;
+    let period = usize::from(PERIOD);
+    let mut first = (length % 251) as u8;
+    for part in lent.chunks(period).skip(length / period) {
+        if !is_laid(part, first) {
+            return None;
+        }
+        first = 0;
     }
     lent.get(..length)
+}
+
+// Whether a period's items are the pattern's from one of them on.
+fn is_laid<T: Lent>(part: &[T], first: u8) -> bool {
+    let rest = part.get(usize::from(first)..).unwrap_or_default();
+    for (x, i) in rest.iter().zip(first..PERIOD) {
+        if *x != T::pattern(i) {
+            return false;
+        }
+    }
+    true
 }
 
 // Reads halfwords from bytes. A list above `MOST` is cut off there, and the writers refuse it as they would the whole.

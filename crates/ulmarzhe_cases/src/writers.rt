@@ -28,12 +28,16 @@ pub fn say_message(given: Given, body: &[u8], lent: &mut [u8], sink: &mut Sink<'
     say_written(writer::write_message(given, body, lent), lent, sink);
 }
 
+// Not in line: a question with no list would pay for the list's place on the stack.
+#[inline(never)]
 pub fn say_request(list: &[u8], lent: &mut [u8], sink: &mut Sink<'_>) {
     let mut halfwords = [0u16; MOST];
     let list = lists::read_halfwords(list, &mut halfwords);
     say_written(request::write_request(list, lent), lent, sink);
 }
 
+// Not in line: a question with no list would pay for the list's place on the stack.
+#[inline(never)]
 pub fn say_censor(list: &[u8], lent: &mut [u8], sink: &mut Sink<'_>) {
     let mut halfwords = [0u16; MOST];
     let list = lists::read_halfwords(list, &mut halfwords);
@@ -58,7 +62,8 @@ fn say_bytes(told: Told, lent: &[u8], size: Bytes, sink: &mut Sink<'_>) {
     }
 }
 
-// The comparison of two maps.
+// The comparison of two maps. Not in line, as above.
+#[inline(never)]
 pub fn say_compared(old: &[u8], new: &[u8], most: u64, sink: &mut Sink<'_>) {
     let mut list = [0u16; MOST];
     let lent = lists::lend(&mut list, most);
@@ -75,7 +80,8 @@ pub fn say_compared(old: &[u8], new: &[u8], most: u64, sink: &mut Sink<'_>) {
     }
 }
 
-// A salvage: frames in the lent bytes, and its runs in a list that is lent besides.
+// A salvage: frames in the lent bytes, and its runs in a list that is lent besides. Not in line, as above.
+#[inline(never)]
 pub fn say_salvaged(damaged: &[u8], lent: &mut [u8], most_runs: u64, sink: &mut Sink<'_>) {
     let mut list = [0u64; RUNS * NUMBERS];
     let runs = lists::lend(&mut list, most_runs.saturating_mul(NUMBERS as u64));
