@@ -46,7 +46,7 @@ pub fn lend<T: Lent>(list: &mut [T], most: u64) -> &mut [T] {
 // What an answer of that length wrote into a lent list, unless the pattern is changed after it.
 pub fn written<T: Lent>(lent: &[T], length: usize) -> Option<&[T]> {
     let period = usize::from(PERIOD);
-    let mut first = (length % 251) as u8;
+    let mut first = (length % period) as u8;
     for part in lent.chunks(period).skip(length / period) {
         if !is_laid(part, first) {
             return None;
