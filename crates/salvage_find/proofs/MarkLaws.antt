@@ -58,7 +58,7 @@ module _ (rest : List ℕ) where
       go true q = (q, cc (sym whole_told ∙ sym (ap (λ (u : Bool). size_told (pick u (whole_long rest) 0)) q) ∙ e))
       go false q = never (cc (sym (ap (λ (u : Bool). size_told (pick u (whole_long rest) 0)) q) ∙ e))
 
-  -- the same by what `is_some` says of it
+  -- the same by whether it is not None
   pub told_is : {o : Option ℕ} → o ≡ told → differs o ≡ true → stands rest ≡ true
   told_is {o} e t = go o refl
     where
