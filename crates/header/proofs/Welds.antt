@@ -7,12 +7,13 @@ use Rattle.wire.proofs.RefusalLaws.{tell_apart, number_in-apart}
 use Rattle.wire.specs.Refusals.{number_in}
 use Rattle.wire.specs.declared.refusal.Refusal.{Refusal}
 use Rattle.std.specs.Prelude.{Result}
-use Rattle.header.specs.Header.{header_in, header_of}
+use Rattle.header.specs.Header.{as_stored, header_in, header_of}
 use Rattle.header.specs.Steps.{accepted_short, refusal_of, reported_short, stored_or0}
 use Rattle.header.specs.Told.{tell_header}
 use Rattle.header.specs.declared.Header.{Header}
 use Rattle.header.proofs.read_header.Reads as read_header
 use Rattle.header.proofs.stored_in.Reads as stored_in
+use Rattle.header.proofs.as_stored.Reads as as_Stored
 use Rattle.header.proofs.no_header.Reads as no_Header
 use Rattle.header.proofs.read_either.Reads as read_either
 use Rattle.header.proofs.accepts_short.Reads as accepts_short
@@ -36,6 +37,12 @@ stored_in-says κs message r last l = l
 pub stored_in-one : (κs message r r₂ last last₂ : _) → stored_in.Learnt κs (message, tt) r last
     → stored_in.Learnt κs (message, tt) r₂ last₂ → r ≡ r₂
 stored_in-one κs message r r₂ last last₂ l l₂ = l ∙ sym l₂
+
+pub as_stored-says : (κs h r last : _) → as_Stored.Learnt κs (h, tt) r last → r ≡ as_stored h
+as_stored-says κs h r last l = l
+
+pub as_stored-one : (κs h r r₂ last last₂ : _) → as_Stored.Learnt κs (h, tt) r last → as_Stored.Learnt κs (h, tt) r₂ last₂ → r ≡ r₂
+as_stored-one κs h r r₂ last last₂ l l₂ = l ∙ sym l₂
 
 pub no_header-says : (κs r last : _) → no_Header.Learnt κs tt r last → r ≡ header_in []
 no_header-says κs r last l = l

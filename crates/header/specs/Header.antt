@@ -58,6 +58,19 @@ stored_in b = record {
   number = num 2 b number_place;
 }
 
+-- the values h, taken as stored ones
+abbrev pub as_stored : Header → Stored
+as_stored h = record {
+  size = h.size;
+  channel = h.channel;
+  kind = h.kind;
+  sequence = h.sequence;
+  date = h.date;
+  milliseconds = h.milliseconds;
+  segments = h.segments;
+  number = h.number;
+}
+
 -- the size and the N that are reported of stored values, and whether they are of the long form
 abbrev pub is_long : Stored → Bool
 is_long s = long_form s.size s.kind

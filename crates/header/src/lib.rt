@@ -5,7 +5,7 @@ ghost use Rattle.std.specs.Prelude.{◌≡◌, []};
 ghost use Rattle.wire.specs.Numbers.{fetched};
 ghost use Rattle.wire.specs.Refusals.{number_in};
 ghost use Rattle.header_rule.specs.Rules.{reported_number};
-ghost use Rattle.header.specs.Header.{number_place, stored_in, as_reported, header_in, header_of};
+ghost use Rattle.header.specs.Header.{number_place, stored_in, as_stored, as_reported, header_in, header_of};
 ghost use Rattle.header.specs.Steps.{stored_or0, accepted_short, reported_short, refusal_of};
 ghost use Rattle.header.specs.Told.{tell_header};
 
@@ -95,6 +95,22 @@ pub fn stored_in(message: &[u8]) -> Stored
         milliseconds,
         segments,
         number,
+    }
+}
+
+// Any values taken as stored ones, also a size that no message can hold. Nothing is checked yet.
+pub fn as_stored(h: Header) -> Stored
+    ensures { result ≡ as_stored h }
+{
+    Stored {
+        size: h.size,
+        channel: h.channel,
+        kind: h.kind,
+        sequence: h.sequence,
+        date: h.date,
+        milliseconds: h.milliseconds,
+        segments: h.segments,
+        number: h.number,
     }
 }
 
