@@ -23,7 +23,7 @@ mod tests {
         header::check_header(header::as_stored(h), 16).map_or_else(Refusal::number, |()| 0)
     }
 
-    // Each value that has a rule is taken out of it, one at a time; the first size is one that no message can hold.
+    // Each value that has a rule is taken out of it, one at a time; the size is then one that no message can hold.
     #[test]
     fn asks_the_checks_about_values(rt: HostRuntime) {
         let (size, segments, milliseconds) = (Halfwords(65544), 129, 86400000);
